@@ -1,0 +1,41 @@
+-- Words on lists of any element: which pass a test, sums, the largest, membership.
+-- Assumes nothing.
+use Prim.Native.Nat.{ℕ, zero, suc, _+_, max}
+use mathlib.Core.Bool.{Bool, true, false, cond, _&&_, _||_}
+use mathlib.Core.List.{List, [], _∷_, _++_}
+use lib.Dec.{eqb}
+
+module _ {ℓ} {A : Type ℓ} where
+  -- the elements that pass the test, in order
+  unfoldable pub filter : (A → Bool) → List A → List A
+  filter f [] = []
+  filter f (x ∷ xs) = cond (f x) (x ∷ filter f xs) (filter f xs)
+
+  -- some element passes
+  unfoldable pub any : (A → Bool) → List A → Bool
+  any f [] = false
+  any f (x ∷ xs) = f x || any f xs
+
+  -- every element passes
+  unfoldable pub all : (A → Bool) → List A → Bool
+  all f [] = true
+  all f (x ∷ xs) = f x && all f xs
+
+  -- the lists, one after the other
+  unfoldable pub flat : List (List A) → List A
+  flat [] = []
+  flat (l ∷ ls) = l ++ flat ls
+
+  -- the sum of a value over the elements
+  unfoldable pub sumOf : (A → ℕ) → List A → ℕ
+  sumOf f [] = 0
+  sumOf f (x ∷ xs) = f x + sumOf f xs
+
+  -- the largest value over the elements, 0 where there are none
+  unfoldable pub largest : (A → ℕ) → List A → ℕ
+  largest f [] = 0
+  largest f (x ∷ xs) = max (f x) (largest f xs)
+
+-- the number stands in the list
+unfoldable pub member : ℕ → List ℕ → Bool
+member v = any (eqb v)

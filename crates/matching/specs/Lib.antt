@@ -1,0 +1,3 @@
+-- The assignment of parts to roots, in reading order.
+-- what an assignment is, and what a deficient set is
+pub mod Assignment
