@@ -1,5 +1,9 @@
 -- The list vocabulary of all crates, in reading order.
 -- numbers below a bound, and how many of them pass a test
 pub mod Count
--- filter, any, all, sums and the largest of a list
+-- filter, any, all, sums, the largest, the first that passes
 pub mod Lists
+-- standing in a list, and rising lists of numbers
+pub mod Member
+-- sorting
+pub mod Sort

@@ -1,8 +1,9 @@
--- Words on lists of any element: which pass a test, sums, the largest, membership.
+-- Words on lists of any element: which pass a test, sums, the largest.
 -- Assumes nothing.
 use Prim.Native.Nat.{ℕ, zero, suc, _+_, max}
-use mathlib.Core.Bool.{Bool, true, false, cond, _&&_, _||_}
+use mathlib.Core.Bool.{Bool, true, false, cond, not, _&&_, _||_}
 use mathlib.Core.List.{List, [], _∷_, _++_}
+use mathlib.Core.Option.{Option, some, none}
 use lib.Dec.{eqb}
 
 module _ {ℓ} {A : Type ℓ} where
@@ -20,6 +21,11 @@ module _ {ℓ} {A : Type ℓ} where
   unfoldable pub all : (A → Bool) → List A → Bool
   all f [] = true
   all f (x ∷ xs) = f x && all f xs
+
+  -- the first element that passes
+  unfoldable pub firstThat : (A → Bool) → List A → Option A
+  firstThat f [] = none
+  firstThat f (x ∷ xs) = cond (f x) (some x) (firstThat f xs)
 
   -- the lists, one after the other
   unfoldable pub flat : List (List A) → List A
@@ -39,3 +45,7 @@ module _ {ℓ} {A : Type ℓ} where
 -- the number stands in the list
 unfoldable pub member : ℕ → List ℕ → Bool
 member v = any (eqb v)
+
+-- the list without that number
+unfoldable pub without : ℕ → List ℕ → List ℕ
+without v = filter (λ u. not (eqb v u))

@@ -1,0 +1,27 @@
+-- Document 01 as definitions, in its order.
+-- "Sheet and cover bytes":
+-- walks along edges
+pub mod Walk
+-- trees, covers and the heaviest tree: what the demands speak of
+pub mod Cover
+-- "A trial at limit B":
+-- steps 1 and 2: the order of the edges
+pub mod Order
+-- step 2: labels that say which vertices are joined
+pub mod Labels
+-- step 2: the forest, and the lowest vertex joined to no root
+pub mod Forest
+-- step 3: the forest's trees, grown from their roots
+pub mod Grow
+-- step 4: parts and leftovers
+pub mod Split
+-- step 5: distances
+pub mod Distance
+-- the replies
+pub mod Reply
+-- steps 2 to 6: the rooted trial
+pub mod RootedTrial
+-- steps 2 to 4 and 7: the unrooted trial
+pub mod UnrootedTrial
+-- "The best limit":
+pub mod Search
