@@ -1,0 +1,3 @@
+-- Laws of the list vocabulary.
+-- standing in a list
+pub mod Member

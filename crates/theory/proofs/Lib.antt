@@ -1,0 +1,3 @@
+-- Laws of document 01's definitions that the theorems of the crates above share.
+-- walks and linked vertices
+pub mod Linked
