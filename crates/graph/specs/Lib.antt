@@ -1,3 +1,9 @@
 -- The graph and its bytes, in reading order.
 -- a graph: its vertices and edges
 pub mod Graph
+-- the bytes, field by field, and the graph that they spell
+pub mod Bytes
+-- the check of the bytes, with its numbers
+pub mod Check
+-- what a valid graph is, and when bytes are one
+pub mod Valid

@@ -4,6 +4,8 @@
 pub mod Walk
 -- trees, covers and the heaviest tree: what the demands speak of
 pub mod Cover
+-- the bytes of a cover
+pub mod CoverBytes
 -- "A trial at limit B":
 -- steps 1 and 2: the order of the edges
 pub mod Order
@@ -25,3 +27,12 @@ pub mod RootedTrial
 pub mod UnrootedTrial
 -- "The best limit":
 pub mod Search
+-- "Who causes which number":
+-- numbers, tried one after the other
+pub mod Fault
+-- the check of a filed cover
+pub mod CheckCover
+-- the questions, from bytes to replies
+pub mod Questions
+-- "Small districts": the starred rows
+pub mod Districts

@@ -18,3 +18,8 @@ pub data Reply : Type 0 where
   too-low-needs : (C : ℕ) → Reply
   -- "no cover"
   no-cover : Reply
+
+-- What the check of a filed cover is answered: "yes with the heaviest weight, otherwise a number".
+pub data Verdict : Type 0 where
+  yes : (heaviest : ℕ) → Verdict
+  number : (k : ℕ) → Verdict
