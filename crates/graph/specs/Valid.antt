@@ -26,3 +26,9 @@ pub record Valid (g : Graph) : Type 0 where
 pub record IsGraph (b : List ℕ) : Type 0 where
   pub sized : length b ≡ lengthFor (edgeCount (graphOf b))
   pub valid : Valid (graphOf b)
+
+-- The bytes are a graph's, of n vertices and m edges.
+pub record Counted (b : List ℕ) (n m : ℕ) : Type 0 where
+  pub graph : IsGraph b
+  pub vertices-are : n ≡ graphOf b .vertices
+  pub edges-are : m ≡ edgeCount (graphOf b)

@@ -1,14 +1,175 @@
 // The graph's bytes (document 01: a "sheet"): readers of its fields, and the check with 11 to 16.
+// Everything is read from the caller's own bytes, and every function is total: past the last byte there are zeros.
+// The words of the contracts stand in specs/: `graphOf` is the graph that the bytes spell, `checkOf` the check.
+ghost use mathlib.Core.Path.{_≡_};
+ghost use Prim.Native.Nat.{_^_};
+ghost use lib.ListN.{getD};
+ghost use Rattle.graph.specs.Graph.{oneEnd, otherEnd, weightOf, edgeCount};
+ghost use Rattle.graph.specs.Bytes.{u16At, u32At, graphOf, Reads};
+ghost use Rattle.graph.specs.Check.{numberOf, says, checkOf, checkEdges, yes};
+
+// What can be wrong with a graph's bytes, by cause.
 pub enum Fault {
+    // The length is not that of so many edges.
     Length,
+    // No vertex ("stop"), or too many.
     Vertices,
+    // Too many edges ("lines").
     Edges,
+    // An edge's end is no vertex.
     End,
+    // An edge joins a vertex to itself.
     Loop,
+    // An edge's weight is 0 or too large.
     Weight,
 }
 
+// What the check answers: how many vertices and edges there are, or the first fault.
 pub enum Checked {
     Counts(usize, usize),
     Refused(Fault),
+}
+
+// Document 01's number of a fault.
+pub fn number(f: Fault) -> u16
+    ensures { λ r. ⌜ r ≡ numberOf f ⌝ }
+{
+    match f {
+        Fault::Length => 11,
+        Fault::Vertices => 12,
+        Fault::Edges => 13,
+        Fault::End => 14,
+        Fault::Loop => 15,
+        Fault::Weight => 16,
+    }
+}
+
+// The byte at a place.
+fn byte_at(b: &[u8], at: usize) -> usize
+    ensures { λ r. ⌜ Reads (getD (now (b .entry)) at 0) 256 r ⌝ }
+{
+    if at < b.len() { b[at] as usize } else { 0 }
+}
+
+// The field of two bytes at a place.
+pub fn u16_at(b: &[u8], at: usize) -> usize
+    ensures { λ r. ⌜ Reads (u16At (now (b .entry)) at) (2 ^ 16) r ⌝ }
+{
+    if b.len() <= at {
+        return 0;
+    }
+    byte_at(b, at) + 256 * byte_at(b, at + 1)
+}
+
+// The field of four bytes at a place.
+pub fn u32_at(b: &[u8], at: usize) -> u64
+    ensures { λ r. ⌜ Reads (u32At (now (b .entry)) at) (2 ^ 32) r ⌝ }
+{
+    if b.len() <= at {
+        return 0;
+    }
+    let value = u16_at(b, at) + 65536 * u16_at(b, at + 2);
+    value as u64
+}
+
+// How many vertices ("stops") the graph has.
+pub fn vertex_count(b: &[u8]) -> usize
+    ensures { λ r. ⌜ Reads (graphOf (now (b .entry)) .vertices) (2 ^ 16) r ⌝ }
+{
+    u16_at(b, 0)
+}
+
+// How many edges ("lines") the graph has.
+pub fn edge_count(b: &[u8]) -> usize
+    ensures { λ r. ⌜ Reads (edgeCount (graphOf (now (b .entry)))) (2 ^ 16) r ⌝ }
+{
+    u16_at(b, 2)
+}
+
+// One end of edge e; 0 past the last edge.
+pub fn one_end(b: &[u8], e: usize) -> usize
+    ensures { λ r. ⌜ Reads (oneEnd (graphOf (now (b .entry))) e) (2 ^ 16) r ⌝ }
+{
+    if e < edge_count(b) {
+        u16_at(b, 4 + 4 * e)
+    } else {
+        0
+    }
+}
+
+// The other end of edge e; 0 past the last edge.
+pub fn other_end(b: &[u8], e: usize) -> usize
+    ensures { λ r. ⌜ Reads (otherEnd (graphOf (now (b .entry))) e) (2 ^ 16) r ⌝ }
+{
+    if e < edge_count(b) {
+        u16_at(b, 4 + 4 * e + 2)
+    } else {
+        0
+    }
+}
+
+// The weight of edge e; 0 past the last edge.
+pub fn weight(b: &[u8], e: usize) -> u64
+    ensures { λ r. ⌜ Reads (weightOf (graphOf (now (b .entry))) e) (2 ^ 32) r ⌝ }
+{
+    let m = edge_count(b);
+    if e < m {
+        u32_at(b, 4 + 4 * m + 4 * e)
+    } else {
+        0
+    }
+}
+
+// The check edge by edge, among n vertices.
+fn check_edges(b: &[u8], n: usize) -> Checked
+    ensures { λ r. ⌜ says r ≡ checkEdges n (graphOf (now (b .entry)) .edges) (yes n (edgeCount (graphOf (now (b .entry))))) ⌝ }
+{
+    let m = edge_count(b);
+    let mut e = 0;
+    while e < m {
+        let one = one_end(b, e);
+        let other = other_end(b, e);
+        let w = weight(b, e);
+        if n <= one {
+            return Checked::Refused(Fault::End);
+        }
+        if n <= other {
+            return Checked::Refused(Fault::End);
+        }
+        if one == other {
+            return Checked::Refused(Fault::Loop);
+        }
+        if w == 0 {
+            return Checked::Refused(Fault::Weight);
+        }
+        if 1000000 < w {
+            return Checked::Refused(Fault::Weight);
+        }
+        e += 1;
+    }
+    Checked::Counts(n, m)
+}
+
+// The check of a graph's bytes: whether they are a graph's, and what is wrong with them otherwise.
+pub fn check_graph(b: &[u8]) -> Checked
+    ensures { λ r. ⌜ says r ≡ checkOf (now (b .entry)) ⌝ }
+{
+    if b.len() < 4 {
+        return Checked::Refused(Fault::Length);
+    }
+    let n = vertex_count(b);
+    let m = edge_count(b);
+    if b.len() != 4 + 8 * m {
+        return Checked::Refused(Fault::Length);
+    }
+    if n == 0 {
+        return Checked::Refused(Fault::Vertices);
+    }
+    if 256 < n {
+        return Checked::Refused(Fault::Vertices);
+    }
+    if 2048 < m {
+        return Checked::Refused(Fault::Edges);
+    }
+    check_edges(b, n)
 }

@@ -31,56 +31,76 @@ use Rattle.theory.specs.CheckCover as CheckCover
 use Rattle.theory.specs.Questions as Questions
 
 -- "Sheet N: n = 4; line 0 joins 0-2 weight 3, line 1 joins 2-3 weight 3, line 2 joins 1-3 weight 5."
-N : List ℕ
+unfoldable pub N : List ℕ
 N = 4 ∷ 0 ∷ 3 ∷ 0 ∷ 0 ∷ 0 ∷ 2 ∷ 0 ∷ 2 ∷ 0 ∷ 3 ∷ 0 ∷ 1 ∷ 0 ∷ 3 ∷ 0 ∷ 3 ∷ 0 ∷ 0 ∷ 0 ∷ 3 ∷ 0 ∷ 0 ∷ 0 ∷ 5 ∷ 0 ∷ 0 ∷ 0 ∷ []
 
 -- n vertices and no edge.
-bare : ℕ → List ℕ
+unfoldable pub bare : ℕ → List ℕ
 bare n = n ∷ 0 ∷ 0 ∷ 0 ∷ []
 
 -- The crews of a question: k roots, the vertices below k; or k without roots.
-roots : ℕ → Crews
+unfoldable pub roots : ℕ → Crews
 roots k = rooted (Count.below k)
 
 -- A tree by its start and its edges.
-tree : ℕ → List ℕ → Tree
+unfoldable pub tree : ℕ → List ℕ → Tree
 tree v es = record { start = v; edges = es }
 
 -- The choices: none to make; the parts' roots, with paths of no edge; a set of parts.
-nothing : Choices
+unfoldable pub nothing : Choices
 nothing = record { assignment = []; paths = []; marks = [] }
 
-assigned : List ℕ → Choices
+unfoldable pub assigned : List ℕ → Choices
 assigned rs = record { assignment = rs; paths = []; marks = [] }
 
-set : List ℕ → Choices
+unfoldable pub set : List ℕ → Choices
 set ms = record { assignment = []; paths = []; marks = ms }
 
 -- A question with the free choices made, and an answer.
-data Question : Type 0 where
+pub data Question : Type 0 where
   trial : (sheet : List ℕ) (crews : Crews) (limit : ℕ) → Choices → Question
   best : (sheet : List ℕ) (crews : Crews) → Choices → Question
   check : (sheet : List ℕ) (crews : Crews) (cover : List ℕ) → Question
 
-data Answer : Type 0 where
+pub data Answer : Type 0 where
   reply : Reply → Answer
   verdict : Verdict → Answer
 
--- What the definitions answer, with a buffer that is just long enough.
-answer : Question → Answer
+-- What the definitions answer, with a buffer that is just long enough. To unfold it is to unfold them all.
+unfoldable pub answer : Question → Answer
+unfolding headD
+    Count.count Count.anyBelow Count.from Count.below
+    Lists.filter Lists.any Lists.all Lists.firstThat Lists.flat Lists.sumOf Lists.largest Lists.member Lists.without
+    Sort.insertBy Sort.sortBy Sort.rise
+    Bytes.u16At Bytes.u32At Bytes.edgeIn Bytes.graphOf Check.checkEdge Check.checkEdges Check.checkOf
+    Assignable.assignable
+    Walk.totalWeight Cover.treeWeight Cover.heaviest
+    CoverBytes.treesIn CoverBytes.entriesIn CoverBytes.startIn CoverBytes.entryTree CoverBytes.entryEdge CoverBytes.coverLength CoverBytes.treeIn CoverBytes.decode
+    Order.comesBefore Order.ordered Order.light
+    Labels.joined Labels.endsJoined Labels.apart Labels.together Labels.merge Labels.mergeEdge Labels.mergeAll
+    Forest.keep Forest.forest Forest.labelsAt Forest.unjoined Forest.lowest
+    Grow.branchEdges Grow.farEnd Grow.leadsOn Grow.growChildren Grow.growNode Grow.growFrom Grow.grow
+    Split.reaches Split.partAt Split.smallestEdge Split.settle Split.splitAt Split.split Split.allParts
+    Distance.nearer Distance.further Distance.relaxed Distance.distancesIn Distance.distances Distance.isWithin Distance.treeVertices Distance.reachesPart
+    RootedTrial.unjoinedAt RootedTrial.rootedPieces RootedTrial.rootedParts RootedTrial.partOf RootedTrial.mayGo RootedTrial.isAssignable RootedTrial.unionTree RootedTrial.assignedEdges RootedTrial.leftAt RootedTrial.rootedCover RootedTrial.chosenParts RootedTrial.stopOr RootedTrial.rootedTrial
+    UnrootedTrial.components UnrootedTrial.needs UnrootedTrial.needed UnrootedTrial.leftovers UnrootedTrial.fromLowest UnrootedTrial.componentTrees UnrootedTrial.startsBefore UnrootedTrial.unrootedTrees UnrootedTrial.unrootedTrial
+    Search.nobody Search.accepts Search.trial Search.noCover Search.narrowed Search.searched Search.bestLimit Search.best
+    Fault.faultIf Fault.faultUnless Fault.firstFault Fault.refusedOr
+    CheckCover.startsRight CheckCover.startsInside CheckCover.entryRises CheckCover.entriesRight CheckCover.loopFree CheckCover.allJoined CheckCover.treesRight CheckCover.verticesCovered CheckCover.coverFault
+    Questions.numberIn Questions.sheetFault Questions.crewCount Questions.tooManyRoots Questions.crewFault Questions.limitFault Questions.roomFault Questions.askTrial Questions.askBest Questions.askCheck
 answer (trial sheet crews limit c) = reply (askTrial sheet crews limit 32708 c)
 answer (best sheet crews c) = reply (askBest sheet crews 32708 c)
 answer (check sheet crews cover) = verdict (askCheck sheet crews cover)
 
-record Row : Type 0 where
-  asked : Question
-  expected : Answer
+pub record Row : Type 0 where
+  pub asked : Question
+  pub expected : Answer
 
-row : Question → Answer → Row
+unfoldable pub row : Question → Answer → Row
 row q a = record { asked = q; expected = a }
 
 -- The rows, in document 01's order.
-rows : List Row
+unfoldable pub rows : List Row
 rows =
     row (trial N (roots 2) 0 nothing) (reply (too-low-stop 2))
     ∷ row (trial N (roots 2) 2 nothing) (reply (too-low-stop 2))
@@ -104,25 +124,6 @@ rows =
     ∷ []
 
 -- Every row's question has the answer that document 01 gives.
-starred-rows : map (λ (r : Row). answer (r .asked)) rows ≡ map (λ (r : Row). r .expected) rows
-unfolding headD N bare roots tree nothing assigned set answer row rows
-    Count.count Count.anyBelow Count.from Count.below
-    Lists.filter Lists.any Lists.all Lists.firstThat Lists.flat Lists.sumOf Lists.largest Lists.member Lists.without
-    Sort.insertBy Sort.sortBy Sort.rise
-    Bytes.u16At Bytes.u32At Bytes.edgeIn Bytes.graphOf Check.checkEdge Check.checkEdges Check.checkOf
-    Assignable.assignable
-    Walk.totalWeight Cover.treeWeight Cover.heaviest
-    CoverBytes.treesIn CoverBytes.entriesIn CoverBytes.startIn CoverBytes.entryTree CoverBytes.entryEdge CoverBytes.coverLength CoverBytes.treeIn CoverBytes.decode
-    Order.comesBefore Order.ordered Order.light
-    Labels.joined Labels.endsJoined Labels.apart Labels.together Labels.merge Labels.mergeEdge Labels.mergeAll
-    Forest.keep Forest.forest Forest.labelsAt Forest.unjoined Forest.lowest
-    Grow.branchEdges Grow.farEnd Grow.leadsOn Grow.growChildren Grow.growNode Grow.growFrom Grow.grow
-    Split.reaches Split.partAt Split.smallestEdge Split.settle Split.splitAt Split.split Split.allParts
-    Distance.nearer Distance.further Distance.relaxed Distance.distancesIn Distance.distances Distance.isWithin Distance.treeVertices Distance.reachesPart
-    RootedTrial.unjoinedAt RootedTrial.rootedPieces RootedTrial.rootedParts RootedTrial.partOf RootedTrial.mayGo RootedTrial.isAssignable RootedTrial.unionTree RootedTrial.assignedEdges RootedTrial.leftAt RootedTrial.rootedCover RootedTrial.chosenParts RootedTrial.stopOr RootedTrial.rootedTrial
-    UnrootedTrial.components UnrootedTrial.needs UnrootedTrial.needed UnrootedTrial.leftovers UnrootedTrial.fromLowest UnrootedTrial.componentTrees UnrootedTrial.startsBefore UnrootedTrial.unrootedTrees UnrootedTrial.unrootedTrial
-    Search.nobody Search.accepts Search.trial Search.noCover Search.narrowed Search.searched Search.bestLimit Search.best
-    Fault.faultIf Fault.faultUnless Fault.firstFault Fault.refusedOr
-    CheckCover.startsRight CheckCover.startsInside CheckCover.entryRises CheckCover.entriesRight CheckCover.loopFree CheckCover.allJoined CheckCover.treesRight CheckCover.verticesCovered CheckCover.coverFault
-    Questions.numberIn Questions.sheetFault Questions.crewCount Questions.tooManyRoots Questions.crewFault Questions.limitFault Questions.roomFault Questions.askTrial Questions.askBest Questions.askCheck
+pub starred-rows : map (λ (r : Row). answer (r .asked)) rows ≡ map (λ (r : Row). r .expected) rows
+unfolding N bare roots tree nothing assigned set answer row rows
 starred-rows = refl

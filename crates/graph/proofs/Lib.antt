@@ -1,0 +1,11 @@
+-- Laws that belong to no one function, in reading order.
+-- fields past the end of the bytes
+pub mod Fields
+-- the decoded graph: how many edges it has, and each of them field by field
+pub mod Decoded
+-- the check edge by edge, as it is made
+pub mod Steps
+-- the check says yes exactly to graphs
+pub mod Exactly
+-- of a valid graph, the ranges that callers use
+pub mod Ranges
