@@ -1,3 +1,17 @@
 -- Laws of the list vocabulary.
 -- standing in a list
 pub mod Member
+-- lists in which each element stands in a relation to all that follow: sorted, rising, without repeats
+pub mod InOrder
+-- sums over appended, filtered and contained lists
+pub mod Sums
+-- filters that keep nothing
+pub mod Filters
+-- the list without a number
+pub mod Without
+-- an element in the middle of a list
+pub mod Middle
+-- sorting keeps the elements and the sum, and puts them in order
+pub mod Sorting
+-- the numbers below a bound
+pub mod Below

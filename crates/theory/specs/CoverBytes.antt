@@ -34,23 +34,23 @@ encode trees =
     ++ (u16List (entryTrees 0 trees) ++ u16List (entryEdges trees))))
 
 -- Reading: how many trees and entries there are, the start of tree j, and the tree and the edge of entry i.
-unfoldable pub treesIn : List ℕ → ℕ
+abbrev pub treesIn : List ℕ → ℕ
 treesIn b = u16At b 0
 
-unfoldable pub entriesIn : List ℕ → ℕ
+abbrev pub entriesIn : List ℕ → ℕ
 entriesIn b = u16At b 2
 
-unfoldable pub startIn : List ℕ → ℕ → ℕ
+abbrev pub startIn : List ℕ → ℕ → ℕ
 startIn b j = u16At b (4 + 2 * j)
 
-unfoldable pub entryTree : List ℕ → ℕ → ℕ
+abbrev pub entryTree : List ℕ → ℕ → ℕ
 entryTree b i = u16At b (4 + 2 * treesIn b + 2 * i)
 
-unfoldable pub entryEdge : List ℕ → ℕ → ℕ
+abbrev pub entryEdge : List ℕ → ℕ → ℕ
 entryEdge b i = u16At b (4 + 2 * treesIn b + 2 * entriesIn b + 2 * i)
 
 -- "Length is 4 + 2t + 4q."
-unfoldable pub coverLength : List ℕ → ℕ
+abbrev pub coverLength : List ℕ → ℕ
 coverLength b = 4 + 2 * treesIn b + 4 * entriesIn b
 
 -- Tree j of the bytes: its start, and the edges of the entries that name it.

@@ -1,0 +1,5 @@
+-- What the contracts of the cover's bytes cite, in reading order.
+-- bytes put into a buffer, the rest as it was
+pub mod Written
+-- trees held in three arrays
+pub mod Held

@@ -1,0 +1,4 @@
+// The bytes of a cover: reading and writing them, and the check of a filed cover (31 to 35).
+// The words of the contracts stand in specs/ and in the definitions of `theory`.
+pub mod read;
+pub mod write;

@@ -1,0 +1,72 @@
+-- Lists in which each element stands in a relation to all that follow it. Sorted lists, rising lists and lists without
+-- repeats are such lists, and one set of laws serves them all.
+-- Assumes nothing.
+use Prim.Native.Nat.{ℕ, _<_}
+use mathlib.Core.Path.{_≡_, refl}
+use mathlib.Core.Bool.{Bool, true, false, cond}
+use mathlib.Core.List.{List, [], _∷_, _++_, List·Memᴰ·head, List·Memᴰ·tail, List·Memᴰ·append-cases}
+use mathlib.Core.Logic.{_⊎_, inl, inr}
+use native.Mathlib.Omega.{arith}
+use Rattle.lists.specs.Lists.{filter}
+use Rattle.lists.specs.Member.{_∈_, Rising, none as rising-none, next as rising-next}
+use Rattle.lists.proofs.Member.{of-filter}
+
+-- each element stands in the relation to all that follow it
+pub data InOrder {ℓ κ} {A : Type ℓ} (R : A → A → Type κ) : List A → Type (ℓ ⊔ κ) where
+  none : InOrder R []
+  next : {x : A} {xs : List A} → ((y : A) → y ∈ xs → R x y) → InOrder R xs → InOrder R (x ∷ xs)
+
+-- no element stands in the list twice
+abbrev pub Once {ℓ} : {A : Type ℓ} → List A → Type ℓ
+Once {A = A} xs = InOrder (λ (x y : A). x ≡ y → ⊥) xs
+
+module _ {ℓ κ} {A : Type ℓ} {R : A → A → Type κ} where
+  -- the first element stands in the relation to the others, and these are in order
+  pub first-before : {x : A} {xs : List A} → InOrder R (x ∷ xs) → (y : A) → y ∈ xs → R x y
+  first-before (next h r) = h
+
+  pub rest-in-order : {x : A} {xs : List A} → InOrder R (x ∷ xs) → InOrder R xs
+  rest-in-order (next h r) = r
+
+  -- what a filter keeps stays in order
+  pub filter-in-order : (f : A → Bool) {xs : List A} → InOrder R xs → InOrder R (filter f xs)
+  unfolding filter
+  filter-in-order f none = none
+  filter-in-order f (next {x = x} {xs = xs} h r) = go (f x) (filter-in-order f r)
+    where
+      go : (b : Bool) → InOrder R (filter f xs) → InOrder R (cond b (x ∷ filter f xs) (filter f xs))
+      go true s = next (λ y m. h y (of-filter f xs m .0)) s
+      go false s = s
+
+  -- two lists in order, one after the other
+  pub append-in-order : {xs ys : List A} → InOrder R xs → InOrder R ys → ((x y : A) → x ∈ xs → y ∈ ys → R x y) → InOrder R (xs ++ ys)
+  append-in-order none s across = s
+  append-in-order {ys = ys} (next {x = x} {xs = xs} h r) s across =
+      next (λ y m. go y (List·Memᴰ·append-cases xs m)) (append-in-order r s (λ a b m n. across a b (List·Memᴰ·tail m) n))
+    where
+      go : (y : A) → (y ∈ xs) ⊎ (y ∈ ys) → R x y
+      go y (inl m) = h y m
+      go y (inr m) = across x y (List·Memᴰ·head refl) m
+
+-- a list in order by one relation is in order by a weaker one
+pub in-order-weaken {ℓ κ μ} : {A : Type ℓ} {R : A → A → Type κ} {S : A → A → Type μ} → ((x y : A) → R x y → S x y) → {xs : List A} → InOrder R xs → InOrder S xs
+in-order-weaken w none = none
+in-order-weaken w (next {x = x} h r) = next (λ y m. w x y (h y m)) (in-order-weaken w r)
+
+-- a list in order by two relations is in order by both together
+pub in-order-both {ℓ κ μ} : {A : Type ℓ} {R : A → A → Type κ} {S : A → A → Type μ} {xs : List A} → InOrder R xs → InOrder S xs → InOrder (λ (x y : A). R x y × S x y) xs
+in-order-both none s = none
+in-order-both (next h r) s = next (λ y m. (h y m, first-before s y m)) (in-order-both r (rest-in-order s))
+
+-- to rise is to be in order by "less than"
+pub in-order-rising : {xs : List ℕ} → InOrder (λ (x y : ℕ). x < y) xs → Rising xs
+in-order-rising none = rising-none
+in-order-rising (next h r) = rising-next h (in-order-rising r)
+
+pub rising-in-order : {xs : List ℕ} → Rising xs → InOrder (λ (x y : ℕ). x < y) xs
+rising-in-order rising-none = none
+rising-in-order (rising-next h r) = next h (rising-in-order r)
+
+-- a rising list has no repeats
+pub rising-once : {xs : List ℕ} → Rising xs → Once xs
+rising-once r = in-order-weaken (λ x y h e. omega arith) (rising-in-order r)
