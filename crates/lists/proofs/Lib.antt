@@ -15,3 +15,7 @@ pub mod Middle
 pub mod Sorting
 -- the numbers below a bound
 pub mod Below
+-- the tests `all`, `&&` and `||`
+pub mod Every
+-- a test over all numbers below a bound
+pub mod AllBelow

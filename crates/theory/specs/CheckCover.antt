@@ -19,9 +19,9 @@ unfoldable pub startsRight : Crews → List ℕ → Bool
 startsRight (rooted roots) b = eqb (treesIn b) (length roots) && all (λ j. eqb (startIn b j) (getD roots j 0)) (below (treesIn b))
 startsRight (unrooted k) b = leb 1 (treesIn b) && leb (treesIn b) k
 
--- 32: every start is a vertex.
-unfoldable pub startsInside : Graph → List ℕ → Bool
-startsInside g b = all (λ j. ltb (startIn b j) (g .vertices)) (below (treesIn b))
+-- 32: every start is one of n vertices.
+unfoldable pub startsBelow : ℕ → List ℕ → Bool
+startsBelow n b = all (λ j. ltb (startIn b j) n) (below (treesIn b))
 
 -- 33: entry i comes strictly after the entry before it, by tree, then by edge.
 unfoldable pub entryRises : List ℕ → ℕ → Bool
@@ -29,9 +29,13 @@ entryRises b i =
     eqb i 0 || (ltb (entryTree b (i - 1)) (entryTree b i)
     || (eqb (entryTree b (i - 1)) (entryTree b i) && ltb (entryEdge b (i - 1)) (entryEdge b i)))
 
--- 33: every entry names a tree and an edge, and the entries rise.
-unfoldable pub entriesRight : Graph → List ℕ → Bool
-entriesRight g b = all (λ i. ltb (entryTree b i) (treesIn b) && (ltb (entryEdge b i) (edgeCount g) && entryRises b i)) (below (entriesIn b))
+-- 33: entry i names a tree and one of m edges, and rises.
+unfoldable pub entryRight : ℕ → List ℕ → ℕ → Bool
+entryRight m b i = ltb (entryTree b i) (treesIn b) && (ltb (entryEdge b i) m && entryRises b i)
+
+-- 33: every entry does.
+unfoldable pub entriesRight : ℕ → List ℕ → Bool
+entriesRight m b = all (entryRight m b) (below (entriesIn b))
 
 -- 34: no edge's ends are joined by the edges before it.
 unfoldable pub loopFree : Graph → Labels → List ℕ → Bool
@@ -56,8 +60,8 @@ coverFault g crews b =
     let trees = decode b in
     firstFault
     (faultUnless (leb 4 (length b) && eqb (length b) (coverLength b)) 31
-    ∷ faultUnless (startsRight crews b && startsInside g b) 32
-    ∷ faultUnless (entriesRight g b) 33
+    ∷ faultUnless (startsRight crews b && startsBelow (g .vertices) b) 32
+    ∷ faultUnless (entriesRight (edgeCount g) b) 33
     ∷ faultUnless (treesRight g trees) 34
     ∷ faultUnless (verticesCovered g trees) 35
     ∷ [])

@@ -86,7 +86,7 @@ unfolding headD
     UnrootedTrial.components UnrootedTrial.needs UnrootedTrial.needed UnrootedTrial.leftovers UnrootedTrial.fromLowest UnrootedTrial.componentTrees UnrootedTrial.startsBefore UnrootedTrial.unrootedTrees UnrootedTrial.unrootedTrial
     Search.nobody Search.accepts Search.trial Search.noCover Search.narrowed Search.searched Search.bestLimit Search.best
     Fault.faultIf Fault.faultUnless Fault.firstFault Fault.refusedOr
-    CheckCover.startsRight CheckCover.startsInside CheckCover.entryRises CheckCover.entriesRight CheckCover.loopFree CheckCover.allJoined CheckCover.treesRight CheckCover.verticesCovered CheckCover.coverFault
+    CheckCover.startsRight CheckCover.startsBelow CheckCover.entryRises CheckCover.entryRight CheckCover.entriesRight CheckCover.loopFree CheckCover.allJoined CheckCover.treesRight CheckCover.verticesCovered CheckCover.coverFault
     Questions.numberIn Questions.sheetFault Questions.crewCount Questions.tooManyRoots Questions.crewFault Questions.limitFault Questions.roomFault Questions.askTrial Questions.askBest Questions.askCheck
 answer (trial sheet crews limit c) = reply (askTrial sheet crews limit 32708 c)
 answer (best sheet crews c) = reply (askBest sheet crews 32708 c)
