@@ -5,3 +5,7 @@ pub mod Writing
 pub mod Numbering
 -- the bytes of trees held in arrays
 pub mod HeldBytes
+-- the tests of one entry
+pub mod EntryTests
+-- the tests of the starts
+pub mod StartTests

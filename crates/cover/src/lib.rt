@@ -1,4 +1,7 @@
 // The bytes of a cover: reading and writing them, and the check of a filed cover (31 to 35).
 // The words of the contracts stand in specs/ and in the definitions of `theory`.
+pub mod entries;
 pub mod read;
+pub mod starts;
+mod wide;
 pub mod write;

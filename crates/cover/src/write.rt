@@ -1,5 +1,5 @@
 // Writing a cover's bytes into the first bytes of a lent buffer. Everything behind them stays.
-ghost use mathlib.Core.Path.{_≡_};
+use crate::wide::wide;
 ghost use Prim.Native.Nat.{_+_, _*_, _≤_, _<_};
 ghost use lib.ListN.{length, replicate};
 ghost use Rattle.theory.specs.CoverBytes.{u16Bytes, u16List, encode};
@@ -43,13 +43,6 @@ fn put_same(buf: &mut [u8], at: usize, x: u16, count: usize) -> usize
         i += 1;
     }
     next
-}
-
-// A field of an array as a number to count with.
-fn wide(x: u16) -> usize
-    ensures { λ r. ⌜ r ≡ x ⌝ }
-{
-    x as usize
 }
 
 // The tree number of each entry, from a place on, where tree j's entries end at ends[j]. The answer is the place behind them.
