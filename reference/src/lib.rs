@@ -1,0 +1,25 @@
+//! A plain second implementation of min-max tree covers of a graph, to test the first one against.
+//!
+//! It is written from the rules alone, in the words of the field: a vertex is a "stop", an edge
+//! a "line", a root a "yard"; a rooted question is a "yard" question, an unrooted one "roving".
+
+pub mod assignment;
+pub mod best;
+pub mod bytes;
+pub mod check;
+pub mod cover;
+pub mod distance;
+pub mod forest;
+pub mod graph;
+pub mod judge;
+pub mod judge_parts;
+pub mod judge_text;
+pub mod judge_tree;
+pub mod optimum;
+pub mod question;
+pub mod random;
+pub mod rooted;
+pub mod rounds;
+pub mod split;
+pub mod trial;
+pub mod unrooted;

@@ -1,0 +1,63 @@
+//! The least heaviest weight over every cover, by looking at all of them; for small graphs only.
+
+use crate::check::is_tree;
+use crate::cover::Tree;
+use crate::graph::Graph;
+use crate::question::Kind;
+
+/// A tree as seen from outside: the set of vertices it covers, as bits, and its weight.
+pub type Shape = (usize, u64);
+
+/// Every tree of the graph: each vertex alone, and each set of edges that is a tree.
+pub fn all_trees(graph: &Graph) -> Vec<Shape> {
+    let mut shapes: Vec<Shape> = (0..graph.n).map(|v| (1 << v, 0)).collect();
+    for set in 1usize..1 << graph.edges.len() {
+        let in_set = |e: &usize| set >> e & 1 == 1;
+        let edges: Vec<usize> = (0..graph.edges.len()).filter(in_set).collect();
+        let start = graph.edges[edges[0]].a;
+        let tree = Tree { start, edges };
+        if is_tree(graph, &tree) {
+            let covered = tree.vertices(graph).iter().map(|&v| 1usize << v).sum();
+            shapes.push((covered, graph.weight(&tree.edges)));
+        }
+    }
+    shapes
+}
+
+/// The least heaviest weight of any cover of the kind with this k, or nothing where there is none.
+pub fn optimum(kind: Kind, graph: &Graph, k: usize) -> Option<u64> {
+    let shapes = all_trees(graph);
+    let mut reach: Vec<Option<u64>> = vec![None; 1 << graph.n];
+    reach[0] = Some(0);
+    for j in 0..k {
+        let fits = |shape: &&Shape| kind == Kind::Unrooted || shape.0 >> j & 1 == 1;
+        let choices: Vec<Shape> = shapes.iter().filter(fits).copied().collect();
+        let with = add_tree(&reach, &choices);
+        reach = match kind {
+            Kind::Rooted => with,
+            Kind::Unrooted => (0..reach.len()).map(|s| lesser(reach[s], with[s])).collect(),
+        };
+    }
+    reach[(1 << graph.n) - 1]
+}
+
+/// For each vertex set, the least heaviest weight after one more tree among the choices.
+fn add_tree(reach: &[Option<u64>], choices: &[Shape]) -> Vec<Option<u64>> {
+    let mut with = vec![None; reach.len()];
+    for (set, heaviest) in reach.iter().enumerate() {
+        let Some(heaviest) = *heaviest else { continue };
+        for &(covered, weight) in choices {
+            let place = &mut with[set | covered];
+            *place = lesser(*place, Some(heaviest.max(weight)));
+        }
+    }
+    with
+}
+
+/// The lesser of two weights where there are two.
+fn lesser(one: Option<u64>, other: Option<u64>) -> Option<u64> {
+    match (one, other) {
+        (Some(a), Some(b)) => Some(a.min(b)),
+        _ => one.or(other),
+    }
+}
