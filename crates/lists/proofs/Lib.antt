@@ -15,3 +15,11 @@ pub mod Middle
 pub mod Sorting
 -- the numbers below a bound
 pub mod Below
+-- how often a number stands in a list
+pub mod Times
+-- lists in which every number stands equally often
+pub mod SameTimes
+-- lists made for each element and joined
+pub mod FlatMap
+-- fewer numbers pass a narrower test
+pub mod Fewer
