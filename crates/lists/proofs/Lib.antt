@@ -7,6 +7,8 @@ pub mod InOrder
 pub mod Sums
 -- filters that keep nothing
 pub mod Filters
+-- the first element that passes a test
+pub mod First
 -- the list without a number
 pub mod Without
 -- an element in the middle of a list
@@ -21,5 +23,7 @@ pub mod Times
 pub mod SameTimes
 -- lists made for each element and joined
 pub mod FlatMap
+-- some number below a bound passes a test
+pub mod AnyBelow
 -- fewer numbers pass a narrower test
 pub mod Fewer

@@ -26,6 +26,8 @@ pub mod Reached
 pub mod Once
 -- no loop, from labels
 pub mod Untied
+-- the lowest vertices of the components reach every vertex
+pub mod Lowest
 -- Both together:
 -- all facts of splitting one tree
 pub mod SplitTree
