@@ -33,3 +33,5 @@ pub mod Lowest
 pub mod SplitTree
 -- no edge in two pieces of a forest
 pub mod SplitForest
+-- nothing is left out, of a rooted trial's forest and of an unrooted one's
+pub mod Whole
