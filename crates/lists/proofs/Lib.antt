@@ -7,6 +7,8 @@ pub mod InOrder
 pub mod Sums
 -- filters that keep nothing
 pub mod Filters
+-- the first element that passes a test
+pub mod First
 -- the list without a number
 pub mod Without
 -- an element in the middle of a list
@@ -19,3 +21,13 @@ pub mod Below
 pub mod Every
 -- a test over all numbers below a bound
 pub mod AllBelow
+-- how often a number stands in a list
+pub mod Times
+-- lists in which every number stands equally often
+pub mod SameTimes
+-- lists made for each element and joined
+pub mod FlatMap
+-- some number below a bound passes a test
+pub mod AnyBelow
+-- fewer numbers pass a narrower test
+pub mod Fewer

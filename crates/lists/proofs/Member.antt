@@ -2,12 +2,12 @@
 -- Assumes nothing.
 use Prim.Native.Nat.{ℕ}
 use mathlib.Core.Path.{_≡_, refl, sym, ap, _∙_}
-use mathlib.Core.Bool.{Bool, true, false, cond, not, _||_}
+use mathlib.Core.Bool.{Bool, true, false, cond, not, _||_, true≢false}
 use mathlib.Core.List.{List, [], _∷_, _++_, map, List·Memᴰ, List·Memᴰ·head, List·Memᴰ·tail, List·Memᴰ·not-nil, Memᴰ·append-left, Memᴰ·append-right, List·Memᴰ·append-cases}
 use mathlib.Core.Logic.{_⊎_, inl, inr}
 use native.Mathlib.Omega.{arith}
 use lib.Dec.{eqb}
-use borrow.Author.Tests.{eqb-true, eqb-false, eq-eqb, ne-eqb}
+use borrow.Author.Tests.{eqb-true, eqb-false, eq-eqb, ne-eqb, not-true}
 use Rattle.lists.specs.Lists.{filter, any, flat, member, without}
 use Rattle.lists.specs.Member.{_∈_}
 
@@ -92,10 +92,21 @@ pub in-member : {v : ℕ} {xs : List ℕ} → v ∈ xs → member v xs ≡ true
 unfolding member
 in-member {v} m = found-any (eqb v) m (eq-eqb v v refl)
 
+-- so do its denial and the statement's
+pub member-out : (v : ℕ) (xs : List ℕ) → not (member v xs) ≡ true → v ∈ xs → ⊥
+member-out v xs t m = true≢false (sym (in-member m) ∙ not-true (member v xs) t)
+
+pub out-member : (v : ℕ) (xs : List ℕ) → (v ∈ xs → ⊥) → not (member v xs) ≡ true
+out-member v xs out = go (either (member v xs))
+  where
+    go : (member v xs ≡ true) ⊎ (member v xs ≡ false) → not (member v xs) ≡ true
+    go (inl t) = absurd (out (member-in v xs t))
+    go (inr t) = rw t
+
 -- what stands in a list without v stands in the list and is not v, and the other way round
 pub of-without : (v : ℕ) {x : ℕ} (xs : List ℕ) → x ∈ without v xs → (x ∈ xs) × (v ≡ x → ⊥)
 unfolding without
-of-without v {x} xs m = let r = of-filter (λ u. not (eqb v u)) xs m in (r .0, eqb-false v x (borrow.Author.Tests.not-true (eqb v x) (r .1)))
+of-without v {x} xs m = let r = of-filter (λ u. not (eqb v u)) xs m in (r .0, eqb-false v x (not-true (eqb v x) (r .1)))
 
 pub in-without : (v : ℕ) {x : ℕ} {xs : List ℕ} → x ∈ xs → (v ≡ x → ⊥) → x ∈ without v xs
 unfolding without

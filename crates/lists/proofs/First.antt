@@ -1,0 +1,21 @@
+-- The first element that passes a test.
+-- Assumes nothing.
+use Prim.Native.Nat.{ℕ}
+use mathlib.Core.Path.{_≡_, refl, ap, _∙_}
+use mathlib.Core.Bool.{Bool, true, false, cond}
+use mathlib.Core.List.{List, [], _∷_, List·Memᴰ·head, List·Memᴰ·tail, List·Memᴰ·not-nil}
+use mathlib.Core.Option.{some, none}
+use native.Mathlib.Omega.{arith}
+use Rattle.lists.specs.Lists.{firstThat}
+use Rattle.lists.specs.Member.{_∈_}
+
+-- where there is none, every element fails
+pub first-none {ℓ} : {A : Type ℓ} (f : A → Bool) (xs : List A) → firstThat f xs ≡ none → (x : A) → x ∈ xs → f x ≡ false
+unfolding firstThat
+first-none f [] q x m = absurd (List·Memᴰ·not-nil m)
+first-none f (y ∷ ys) q x m = go (f y) refl q (λ r n. first-none f ys r x n) m
+  where
+    go : (b : Bool) → f y ≡ b → cond b (some y) (firstThat f ys) ≡ none → (firstThat f ys ≡ none → x ∈ ys → f x ≡ false) → x ∈ (y ∷ ys) → f x ≡ false
+    go true e q ih n = let z : _≡_ {A = ℕ} 0 1 = cc in absurd (omega arith)
+    go false e q ih (List·Memᴰ·head p) = ap f p ∙ e
+    go false e q ih (List·Memᴰ·tail n) = ih q n
