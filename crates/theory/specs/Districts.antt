@@ -72,7 +72,7 @@ unfolding headD
     Count.count Count.anyBelow Count.from Count.below
     Lists.filter Lists.any Lists.all Lists.firstThat Lists.flat Lists.sumOf Lists.largest Lists.member Lists.without
     Sort.insertBy Sort.sortBy Sort.rise
-    Bytes.u16At Bytes.u32At Bytes.edgeIn Bytes.graphOf Check.checkEdge Check.checkEdges Check.checkOf
+    Bytes.u16At Bytes.u32At Bytes.edgeIn Bytes.edgesHeld Bytes.graphOf Check.checkEdge Check.checkEdges Check.checkOf
     Assignable.assignable
     Walk.totalWeight Cover.treeWeight Cover.heaviest
     CoverBytes.treesIn CoverBytes.entriesIn CoverBytes.startIn CoverBytes.entryTree CoverBytes.entryEdge CoverBytes.coverLength CoverBytes.treeIn CoverBytes.decode
