@@ -2,7 +2,7 @@
 -- valid graph's bytes it says yes.
 -- Assumes nothing.
 use Prim.Native.Nat.{ℕ, zero, suc, _+_, _≤_, _<_}
-use mathlib.Core.Path.{_≡_, refl, sym, ap, _∙_}
+use mathlib.Core.Path.{_≡_, refl, sym, _∙_}
 use mathlib.Core.Logic.{_↔_}
 use mathlib.Core.Bool.{Bool, true, false, not, _||_}
 use mathlib.Core.List.{List}
@@ -12,9 +12,10 @@ use lib.ListN.{length}
 use lib.Dec.{ltb, leb, eqb}
 use borrow.Author.Tests.{ltb-false, leb-false, eqb-true, eqb-false, not-false}
 use Rattle.graph.specs.Graph.{Edge, Graph, edgeCount, edgeAt}
-use Rattle.graph.specs.Bytes.{lengthFor, graphOf}
-use Rattle.graph.specs.Check.{Answer, yes, number, refuse, checkEdge, checkEdges, checkOf}
-use Rattle.graph.specs.Valid.{ValidEdge, Valid, IsGraph, Counted}
+use Rattle.graph.specs.Bytes.{verticesIn, edgesIn, lengthFor, graphOf}
+use Rattle.graph.specs.Check.{Answer, yes, number, refuse, checkEdge, checkAll, checkOf}
+use Rattle.graph.specs.Valid.{ValidEdge, IsGraph, Counted}
+use Rattle.graph.proofs.Decoded.{vertices-head, edges-sized}
 use Rattle.graph.proofs.Steps.{checkFrom, check-next, check-done, edge-passed, head-passed}
 
 -- A test that stood before a yes was false, and what came after it said yes.
@@ -44,25 +45,25 @@ edge-valid n x rest q =
     )
 
 -- The edges of a graph: after a yes each is valid, and the counts of the yes are the graph's; and where each is valid, the check says yes.
-module _ (g : Graph) (n : ℕ) where
-  module _ {i j : ℕ} (q : checkFrom g n 0 ≡ yes i j) where
-    yes-from : (e : ℕ) → e ≤ edgeCount g → checkFrom g n e ≡ yes i j
+module _ (g : Graph) where
+  module _ {n m : ℕ} (q : checkAll g ≡ yes n m) where
+    yes-from : (e : ℕ) → e ≤ edgeCount g → checkFrom g e ≡ yes n m
     yes-from zero h = q
     yes-from (suc e) h =
-        rw add-one at (edge-valid n (edgeAt g e) _ (sym (check-next g n e h) ∙ yes-from e (omega arith)) .1)
+        rw add-one at (edge-valid (g .vertices) (edgeAt g e) _ (sym (check-next g e h) ∙ yes-from e (omega arith)) .1)
 
-    edges-valid : (e : ℕ) → e < edgeCount g → ValidEdge n (edgeAt g e)
-    edges-valid e h = edge-valid n (edgeAt g e) _ (sym (check-next g n e h) ∙ yes-from e (omega arith)) .0
+    edges-valid : (e : ℕ) → e < edgeCount g → ValidEdge (g .vertices) (edgeAt g e)
+    edges-valid e h = edge-valid (g .vertices) (edgeAt g e) _ (sym (check-next g e h) ∙ yes-from e (omega arith)) .0
 
-    counts-are : yes i j ≡ yes n (edgeCount g)
-    counts-are = sym (yes-from (edgeCount g) (omega arith)) ∙ check-done g n (edgeCount g) (omega arith)
+    counts-are : yes n m ≡ yes (g .vertices) (edgeCount g)
+    counts-are = sym (yes-from (edgeCount g) (omega arith)) ∙ check-done g (edgeCount g) (omega arith)
 
-  valid-yes : ((e : ℕ) → e < edgeCount g → ValidEdge n (edgeAt g e)) → (k e : ℕ) → k + e ≡ edgeCount g
-      → checkFrom g n e ≡ yes n (edgeCount g)
-  valid-yes v zero e q = check-done g n e (omega arith)
+  valid-yes : ((e : ℕ) → e < edgeCount g → ValidEdge (g .vertices) (edgeAt g e)) → (k e : ℕ) → k + e ≡ edgeCount g
+      → checkFrom g e ≡ yes (g .vertices) (edgeCount g)
+  valid-yes v zero e q = check-done g e (omega arith)
   valid-yes v (suc k) e q =
-      check-next g n e (omega arith)
-      ∙ edge-passed n (edgeAt g e) _ (v e (omega arith))
+      check-next g e (omega arith)
+      ∙ edge-passed (g .vertices) (edgeAt g e) _ (v e (omega arith))
       ∙ valid-yes v k (e + 1) (omega arith)
 
 module _ (b : List ℕ) where
@@ -71,28 +72,31 @@ module _ (b : List ℕ) where
   graph-yes h =
       let g = graphOf b in
       let v = h .valid in
-      head-passed b (h .sized) (omega arith) (v .vertices-most) (v .edges-most)
-      ∙ valid-yes g (g .vertices) (v .each-edge) (edgeCount g) 0 (omega arith)
+      let n = vertices-head b in
+      let m = edges-sized b (h .sized) in
+      head-passed b (h .sized) (omega arith) (omega arith) (omega arith)
+      ∙ valid-yes g (v .each-edge) (edgeCount g) 0 (omega arith)
 
   -- What the check says yes to is a graph's bytes, of the counts that it says.
   pub yes-graph : {n m : ℕ} → checkOf b ≡ yes n m → Counted b n m
   unfolding checkOf
   yes-graph {n} {m} q =
       let g = graphOf b in
-      let size = passed-both (ltb (length b) 4) (not (eqb (length b) (lengthFor (edgeCount g)))) 11 _ q in
-      let vertices = passed-both (eqb (g .vertices) 0) (ltb 256 (g .vertices)) 12 _ (size .2) in
-      let edges = passed (ltb 2048 (edgeCount g)) 13 _ (vertices .2) in
-      let counts = counts-are g (g .vertices) (edges .1) in
+      let size = passed-both (ltb (length b) 4) (not (eqb (length b) (lengthFor (edgesIn b)))) 11 _ q in
+      let vertices = passed-both (eqb (verticesIn b) 0) (ltb 256 (verticesIn b)) 12 _ (size .2) in
+      let edges = passed (ltb 2048 (edgesIn b)) 13 _ (vertices .2) in
+      let counts = counts-are g (edges .1) in
+      let s = eqb-true (length b) (lengthFor (edgesIn b)) (not-false _ (size .1)) in
       record {
         graph =
             record {
-              sized = eqb-true (length b) (lengthFor (edgeCount g)) (not-false _ (size .1));
+              sized = s;
               valid =
                   record {
-                    vertices-some = omega (arith, eqb-false (g .vertices) 0 (vertices .0));
-                    vertices-most = ltb-false 256 (g .vertices) (vertices .1);
-                    edges-most = ltb-false 2048 (edgeCount g) (edges .0);
-                    each-edge = edges-valid g (g .vertices) (edges .1);
+                    vertices-some = omega (arith, vertices-head b, eqb-false (verticesIn b) 0 (vertices .0));
+                    vertices-most = omega (arith, vertices-head b, ltb-false 256 (verticesIn b) (vertices .1));
+                    edges-most = omega (arith, edges-sized b s, ltb-false 2048 (edgesIn b) (edges .0));
+                    each-edge = edges-valid g (edges .1);
                   };
             };
         vertices-are = cc;

@@ -3,7 +3,7 @@
 pub mod Fields
 -- the decoded graph: how many edges it has, and each of them field by field
 pub mod Decoded
--- the check edge by edge, as it is made
+-- the check, test by test
 pub mod Steps
 -- the check says yes exactly to graphs
 pub mod Exactly

@@ -1,18 +1,18 @@
--- The check edge by edge, as it is made: what is left of it from an edge on, and what one edge does to it.
+-- The check, test by test: what each fault makes of it, and what is left of it where a test is passed.
 -- Assumes nothing.
-use Prim.Native.Nat.{ℕ, zero, suc, _+_, _≤_, _<_}
-use mathlib.Core.Path.{_≡_, refl, sym, ap, _∙_}
-use mathlib.Core.Bool.{Bool, true, false, _||_, or-true}
-use mathlib.Core.List.{List, []}
+use Prim.Native.Nat.{ℕ, _+_, _≤_, _<_}
+use mathlib.Core.Path.{_≡_}
+use mathlib.Core.Bool.{true, false, or-true}
+use mathlib.Core.List.{List}
 use native.Mathlib.Numerals.{add-one}
 use native.Mathlib.Omega.{arith}
 use lib.ListN.{length, drop, drop-of-length-le}
 use lib.Seq.{drop-cons}
 use lib.Dec.{ltb, eqb}
 use borrow.Author.Tests.{lt-ltb, le-ltb, le-leb, lt-leb, eq-eqb, ne-eqb}
-use Rattle.graph.specs.Graph.{Edge, Graph, edgeCount, edgeAt, oneEnd, otherEnd, weightOf}
-use Rattle.graph.specs.Bytes.{lengthFor, graphOf}
-use Rattle.graph.specs.Check.{Answer, yes, number, checkEdge, checkEdges, checkOf}
+use Rattle.graph.specs.Graph.{Edge, Graph, edgeCount, noEdge, edgeAt}
+use Rattle.graph.specs.Bytes.{verticesIn, edgesIn, lengthFor, graphOf}
+use Rattle.graph.specs.Check.{Answer, yes, number, checkEdge, checkEdges, checkAll, checkOf}
 use Rattle.graph.specs.Valid.{ValidEdge}
 
 -- One edge among n vertices, and what is tried after it.
@@ -59,28 +59,25 @@ module _ (n : ℕ) (x : Edge) (rest : Answer) where
       )
 
 -- What is left of the check of a graph's edges, from edge e on.
-abbrev pub checkFrom : Graph → ℕ → ℕ → Answer
-checkFrom g n e = checkEdges n (drop e (g .edges)) (yes n (edgeCount g))
+abbrev pub checkFrom : Graph → ℕ → Answer
+checkFrom g e = checkEdges (g .vertices) (drop e (g .edges)) (yes (g .vertices) (edgeCount g))
 
-module _ (g : Graph) (n e : ℕ) where
-  pub check-next : e < edgeCount g → checkFrom g n e ≡ checkEdge n (edgeAt g e) (checkFrom g n (e + 1))
+module _ (g : Graph) (e : ℕ) where
+  pub check-next : e < edgeCount g → checkFrom g e ≡ checkEdge (g .vertices) (edgeAt g e) (checkFrom g (e + 1))
   unfolding checkEdges
-  check-next h = rw (add-one, drop-cons (g .edges) e (record { one = 0; other = 0; weight = 0 }))
+  check-next h = rw (add-one, drop-cons (g .edges) e noEdge)
 
-  pub check-done : edgeCount g ≤ e → checkFrom g n e ≡ yes n (edgeCount g)
+  pub check-done : edgeCount g ≤ e → checkFrom g e ≡ yes (g .vertices) (edgeCount g)
   unfolding checkEdges
   check-done h = rw (drop-of-length-le (g .edges) h)
 
--- The tests before the edges, with n vertices and m edges as the bytes say.
+-- The tests before the edges, with n vertices and m edges as the head says.
 module _ (b : List ℕ) where
-  abbrev g : Graph
-  g = graphOf b
-
   abbrev n : ℕ
-  n = g .vertices
+  n = verticesIn b
 
   abbrev m : ℕ
-  m = edgeCount g
+  m = edgesIn b
 
   pub short-refused : length b < 4 → checkOf b ≡ number 11
   unfolding checkOf
@@ -110,6 +107,6 @@ module _ (b : List ℕ) where
       unfolding checkOf
       edges-over-refused h = simp (long, fits, ne-eqb n 0 d, le-ltb 256 n l, lt-ltb 2048 m h)
 
-      pub head-passed : m ≤ 2048 → checkOf b ≡ checkFrom g n 0
+      pub head-passed : m ≤ 2048 → checkOf b ≡ checkAll (graphOf b)
       unfolding checkOf
       head-passed h = simp (long, fits, ne-eqb n 0 d, le-ltb 256 n l, le-ltb 2048 m h)

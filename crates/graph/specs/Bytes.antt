@@ -3,8 +3,10 @@
 -- Assumes nothing.
 use Prim.Native.Nat.{ℕ, _+_, _*_, _<_}
 use mathlib.Core.Path.{_≡_}
+use mathlib.Core.Bool.{cond}
 use mathlib.Core.List.{List, map}
-use lib.ListN.{getD}
+use lib.ListN.{length, getD}
+use lib.Dec.{eqb}
 use Rattle.lists.specs.Count.{below}
 use Rattle.graph.specs.Graph.{Edge, Graph}
 
@@ -44,9 +46,13 @@ edgeIn b e =
       weight = u32At b (weightAt (edgesIn b) e);
     }
 
+-- How many edges the bytes hold: as many as the head says where the length is theirs, and bytes of another length hold none.
+unfoldable pub edgesHeld : List ℕ → ℕ
+edgesHeld b = cond (eqb (length b) (lengthFor (edgesIn b))) (edgesIn b) 0
+
 -- The graph that the bytes spell.
 unfoldable pub graphOf : List ℕ → Graph
-graphOf b = record { vertices = verticesIn b; edges = map (edgeIn b) (below (edgesIn b)) }
+graphOf b = record { vertices = verticesIn b; edges = map (edgeIn b) (below (edgesHeld b)) }
 
 -- What a reader hands back: the value that is meant, below the bound of its field.
 pub record Reads (meant bound r : ℕ) : Type 0 where

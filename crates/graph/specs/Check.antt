@@ -5,8 +5,8 @@ use mathlib.Core.Bool.{Bool, true, false, not, _||_}
 use mathlib.Core.List.{List, [], _∷_}
 use lib.ListN.{length}
 use lib.Dec.{eqb, leb, ltb}
-use Rattle.graph.specs.Graph.{Edge, edgeCount}
-use Rattle.graph.specs.Bytes.{lengthFor, graphOf}
+use Rattle.graph.specs.Graph.{Edge, Graph, edgeCount}
+use Rattle.graph.specs.Bytes.{verticesIn, edgesIn, lengthFor, graphOf}
 use Rattle.graph.specs.declared.Fault.{Fault}
 use Rattle.graph.specs.declared.Fault.the-variants.{Length, Vertices, Edges, End, Loop, Weight}
 use Rattle.graph.specs.declared.Checked.{Checked}
@@ -49,13 +49,16 @@ unfoldable pub checkEdges : ℕ → List Edge → Answer → Answer
 checkEdges n [] rest = rest
 checkEdges n (e ∷ es) rest = checkEdge n e (checkEdges n es rest)
 
+-- All edges of a graph; where none has a fault, yes with the counts.
+abbrev pub checkAll : Graph → Answer
+checkAll g = checkEdges (g .vertices) (g .edges) (yes (g .vertices) (edgeCount g))
+
 -- The bytes: 11 length below 4 or not 4 + 8m, 12 n is 0 or above 256, 13 m above 2,048, then edge by edge.
 unfoldable pub checkOf : List ℕ → Answer
 checkOf b =
-    let g = graphOf b in
-    let n = g .vertices in
-    let m = edgeCount g in
+    let n = verticesIn b in
+    let m = edgesIn b in
     refuse (ltb (length b) 4 || not (eqb (length b) (lengthFor m))) 11
     (refuse (eqb n 0 || ltb 256 n) 12
     (refuse (ltb 2048 m) 13
-    (checkEdges n (g .edges) (yes n m))))
+    (checkAll (graphOf b))))

@@ -20,9 +20,13 @@ pub record Graph : Type 0 where
 abbrev pub edgeCount : Graph → ℕ
 edgeCount g = length (g .edges)
 
--- The edge of a number. Past the last edge: from vertex 0 to itself, of weight 0.
+-- What stands past the last edge: from vertex 0 to itself, of weight 0.
+abbrev pub noEdge : Edge
+noEdge = record { one = 0; other = 0; weight = 0 }
+
+-- The edge of a number.
 abbrev pub edgeAt : Graph → ℕ → Edge
-edgeAt g e = getD (g .edges) e (record { one = 0; other = 0; weight = 0 })
+edgeAt g e = getD (g .edges) e noEdge
 
 -- One end of the edge of a number, its other end, and its weight.
 abbrev pub oneEnd : Graph → ℕ → ℕ

@@ -5,7 +5,7 @@ use mathlib.Core.Path.{_≡_}
 use mathlib.Core.List.{List}
 use lib.ListN.{length}
 use Rattle.graph.specs.Graph.{Edge, Graph, edgeCount, edgeAt}
-use Rattle.graph.specs.Bytes.{lengthFor, graphOf}
+use Rattle.graph.specs.Bytes.{edgesIn, lengthFor, graphOf}
 
 -- An edge ("line") within document 01's ranges: it joins two different vertices of n, and weighs 1 to 1,000,000.
 pub record ValidEdge (n : ℕ) (x : Edge) : Type 0 where
@@ -22,9 +22,9 @@ pub record Valid (g : Graph) : Type 0 where
   pub edges-most : edgeCount g ≤ 2048
   pub each-edge : (e : ℕ) → e < edgeCount g → ValidEdge (g .vertices) (edgeAt g e)
 
--- The bytes are a graph's: of the length that the number of edges asks, and the graph that they spell is valid.
+-- The bytes are a graph's: of the length that the head asks, and the graph that they spell is valid.
 pub record IsGraph (b : List ℕ) : Type 0 where
-  pub sized : length b ≡ lengthFor (edgeCount (graphOf b))
+  pub sized : length b ≡ lengthFor (edgesIn b)
   pub valid : Valid (graphOf b)
 
 -- The bytes are a graph's, of n vertices and m edges.

@@ -1,12 +1,12 @@
 // The graph's bytes (document 01: a "sheet"): readers of its fields, and the check with 11 to 16.
-// Everything is read from the caller's own bytes, and every function is total: past the last byte there are zeros.
+// Everything is read from the caller's own bytes, and every public function takes all bytes.
 // The words of the contracts stand in specs/: `graphOf` is the graph that the bytes spell, `checkOf` the check.
 ghost use mathlib.Core.Path.{_≡_};
-ghost use Prim.Native.Nat.{_^_};
-ghost use lib.ListN.{getD};
+ghost use Prim.Native.Nat.{_+_, _^_, _≤_};
+ghost use lib.ListN.{length};
 ghost use Rattle.graph.specs.Graph.{oneEnd, otherEnd, weightOf, edgeCount};
 ghost use Rattle.graph.specs.Bytes.{u16At, u32At, graphOf, Reads};
-ghost use Rattle.graph.specs.Check.{numberOf, says, checkOf, checkEdges, yes};
+ghost use Rattle.graph.specs.Check.{numberOf, says, checkAll, checkOf};
 
 // What can be wrong with a graph's bytes, by cause.
 pub enum Fault {
@@ -44,24 +44,44 @@ pub fn number(f: Fault) -> u16
     }
 }
 
-// The byte at a place.
-fn byte_at(b: &[u8], at: usize) -> usize
-    ensures { λ r. ⌜ Reads (getD (now (b .entry)) at 0) 256 r ⌝ }
+// The number that a byte is.
+fn wide(x: u8) -> usize
+    ensures { λ r. ⌜ Reads x 256 r ⌝ }
 {
-    if at < b.len() { b[at] as usize } else { 0 }
+    x as usize
 }
 
-// The field of two bytes at a place.
+// The field of two bytes at a place within the bytes. The readers of edges use this one: it makes no test.
+fn u16_within(b: &[u8], at: usize) -> usize
+    requires { ⌜ at + 2 ≤ length (now b) ⌝ }
+    ensures { λ r. ⌜ Reads (u16At (now (b .entry)) at) (2 ^ 16) r ⌝ }
+{
+    wide(b[at]) + 256 * wide(b[at + 1])
+}
+
+// The field of four bytes at a place within the bytes.
+fn u32_within(b: &[u8], at: usize) -> u64
+    requires { ⌜ at + 4 ≤ length (now b) ⌝ }
+    ensures { λ r. ⌜ Reads (u32At (now (b .entry)) at) (2 ^ 32) r ⌝ }
+{
+    let value = u16_within(b, at) + 65536 * u16_within(b, at + 2);
+    value as u64
+}
+
+// The field of two bytes at a place. Past the last byte there are zeros.
 pub fn u16_at(b: &[u8], at: usize) -> usize
     ensures { λ r. ⌜ Reads (u16At (now (b .entry)) at) (2 ^ 16) r ⌝ }
 {
     if b.len() <= at {
         return 0;
     }
-    byte_at(b, at) + 256 * byte_at(b, at + 1)
+    if b.len() - at == 1 {
+        return wide(b[at]);
+    }
+    u16_within(b, at)
 }
 
-// The field of four bytes at a place.
+// The field of four bytes at a place. Past the last byte there are zeros.
 pub fn u32_at(b: &[u8], at: usize) -> u64
     ensures { λ r. ⌜ Reads (u32At (now (b .entry)) at) (2 ^ 32) r ⌝ }
 {
@@ -79,11 +99,15 @@ pub fn vertex_count(b: &[u8]) -> usize
     u16_at(b, 0)
 }
 
-// How many edges ("lines") the graph has.
+// How many edges ("lines") the graph has. Bytes whose length is not that of their edges have none.
 pub fn edge_count(b: &[u8]) -> usize
     ensures { λ r. ⌜ Reads (edgeCount (graphOf (now (b .entry)))) (2 ^ 16) r ⌝ }
 {
-    u16_at(b, 2)
+    if b.len() < 4 {
+        return 0;
+    }
+    let m = u16_within(b, 2);
+    if b.len() == 4 + 8 * m { m } else { 0 }
 }
 
 // One end of edge e; 0 past the last edge.
@@ -91,7 +115,7 @@ pub fn one_end(b: &[u8], e: usize) -> usize
     ensures { λ r. ⌜ Reads (oneEnd (graphOf (now (b .entry))) e) (2 ^ 16) r ⌝ }
 {
     if e < edge_count(b) {
-        u16_at(b, 4 + 4 * e)
+        u16_within(b, 4 + 4 * e)
     } else {
         0
     }
@@ -102,7 +126,7 @@ pub fn other_end(b: &[u8], e: usize) -> usize
     ensures { λ r. ⌜ Reads (otherEnd (graphOf (now (b .entry))) e) (2 ^ 16) r ⌝ }
 {
     if e < edge_count(b) {
-        u16_at(b, 4 + 4 * e + 2)
+        u16_within(b, 4 + 4 * e + 2)
     } else {
         0
     }
@@ -114,16 +138,17 @@ pub fn weight(b: &[u8], e: usize) -> u64
 {
     let m = edge_count(b);
     if e < m {
-        u32_at(b, 4 + 4 * m + 4 * e)
+        u32_within(b, 4 + 4 * m + 4 * e)
     } else {
         0
     }
 }
 
-// The check edge by edge, among n vertices.
-fn check_edges(b: &[u8], n: usize) -> Checked
-    ensures { λ r. ⌜ says r ≡ checkEdges n (graphOf (now (b .entry)) .edges) (yes n (edgeCount (graphOf (now (b .entry))))) ⌝ }
+// The check edge by edge.
+fn check_edges(b: &[u8]) -> Checked
+    ensures { λ r. ⌜ says r ≡ checkAll (graphOf (now (b .entry))) ⌝ }
 {
+    let n = vertex_count(b);
     let m = edge_count(b);
     let mut e = 0;
     while e < m {
@@ -157,8 +182,8 @@ pub fn check_graph(b: &[u8]) -> Checked
     if b.len() < 4 {
         return Checked::Refused(Fault::Length);
     }
-    let n = vertex_count(b);
-    let m = edge_count(b);
+    let n = u16_within(b, 0);
+    let m = u16_within(b, 2);
     if b.len() != 4 + 8 * m {
         return Checked::Refused(Fault::Length);
     }
@@ -171,5 +196,5 @@ pub fn check_graph(b: &[u8]) -> Checked
     if 2048 < m {
         return Checked::Refused(Fault::Edges);
     }
-    check_edges(b, n)
+    check_edges(b)
 }

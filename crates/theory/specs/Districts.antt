@@ -72,10 +72,10 @@ unfolding headD
     Count.count Count.anyBelow Count.from Count.below
     Lists.filter Lists.any Lists.all Lists.firstThat Lists.flat Lists.sumOf Lists.largest Lists.member Lists.without
     Sort.insertBy Sort.sortBy Sort.rise
-    Bytes.u16At Bytes.u32At Bytes.edgeIn Bytes.graphOf Check.checkEdge Check.checkEdges Check.checkOf
+    Bytes.u16At Bytes.u32At Bytes.edgeIn Bytes.edgesHeld Bytes.graphOf Check.checkEdge Check.checkEdges Check.checkOf
     Assignable.assignable
     Walk.totalWeight Cover.treeWeight Cover.heaviest
-    CoverBytes.treesIn CoverBytes.entriesIn CoverBytes.startIn CoverBytes.entryTree CoverBytes.entryEdge CoverBytes.coverLength CoverBytes.treeIn CoverBytes.decode
+    CoverBytes.treeIn CoverBytes.decode
     Order.comesBefore Order.ordered Order.light
     Labels.joined Labels.endsJoined Labels.apart Labels.together Labels.merge Labels.mergeEdge Labels.mergeAll
     Forest.keep Forest.forest Forest.labelsAt Forest.unjoined Forest.lowest

@@ -1,36 +1,36 @@
 -- `graph::check_edges` meets its contract. The loop's invariant: the check of all edges is what is left of it from edge e on.
 -- The measure is how many edges are left. Assumes nothing.
-use Prim.Native.Nat.{ℕ, _+_, _-_}
-use mathlib.Core.Path.{_≡_, refl, sym, ap, _∙_}
+use Prim.Native.Nat.{_+_, _-_}
+use mathlib.Core.Path.{_≡_, refl, sym, _∙_}
 use native.Mathlib.Omega.{arith}
 use borrow.Author.Needs.{needs}
-use Rattle.graph.specs.Graph.{Graph, edgeCount, edgeAt}
+use Rattle.graph.specs.Graph.{Edge, Graph, edgeAt}
 use Rattle.graph.specs.Bytes.{graphOf}
-use Rattle.graph.specs.Check.{yes, checkEdge, checkEdges}
+use Rattle.graph.specs.Check.{checkEdge, checkAll}
 use Rattle.graph.specs.Valid.{ValidEdge}
 use Rattle.graph.proofs.Steps.{checkFrom, check-next, check-done, one-end-refused, other-end-refused, loop-refused, weight-none-refused, weight-over-refused, edge-passed}
 use Rattle.graph.proofs.check_edges.Statement.{statement}
 use Rattle.graph.proofs.check_edges.Tie as tie
 
 abbrev Inv-loop : tie.InvT-loop
-Inv-loop b n m e₀ e = checkEdges n (graphOf b .edges) (yes n (edgeCount (graphOf b))) ≡ checkFrom (graphOf b) n e
+Inv-loop b n m e₀ e = checkAll (graphOf b) ≡ checkFrom (graphOf b) e
 
 abbrev μ-loop : tie.MeasureT-loop
 μ-loop b n m e₀ e = m - e
 
--- In a turn: the graph, how many vertices are asked for, the edge, and the whole check as this edge's and the rest.
+-- In a turn: the graph, the edge, and the whole check as this edge's and the rest.
 module _ (c : tie.In-loop Inv-loop μ-loop) where
   abbrev g : Graph
-  g = graphOf (c .before .before .before .before .args .b .now)
+  g = graphOf (c .before .before .before .before .before .args .b .now)
 
-  abbrev n : ℕ
-  n = c .before .before .before .before .args .n
+  abbrev x : Edge
+  x = edgeAt g (c .before .loop .e)
 
-  abbrev e : ℕ
-  e = c .before .loop .e
+  whole : checkAll g ≡ checkEdge (g .vertices) x (checkFrom g (c .before .loop .e + 1))
+  whole = c .before .loop .inv ∙ check-next g (c .before .loop .e) (omega arith)
 
-  whole : checkEdges n (g .edges) (yes n (edgeCount g)) ≡ checkEdge n (edgeAt g e) (checkFrom g n (e + 1))
-  whole = c .before .loop .inv ∙ check-next g n e (omega arith)
+vertex-count-requires : tie.Need-vertex-count-requires Inv-loop μ-loop
+vertex-count-requires c κs = search needs
 
 edge-count-requires : tie.Need-edge-count-requires Inv-loop μ-loop
 edge-count-requires c κs = search needs
@@ -50,27 +50,27 @@ weight-requires c κs = search needs
 returns : tie.Need-returns Inv-loop μ-loop
 returns c =
     let t = c .before .before .before .before in
-    sym (whole t ∙ one-end-refused (n t) (edgeAt (g t) (e t)) _ (omega arith))
+    sym (whole t ∙ one-end-refused (g t .vertices) (x t) _ (omega arith))
 
 returns-2 : tie.Need-returns-2 Inv-loop μ-loop
 returns-2 c =
     let t = c .before .before .before .before .before in
-    sym (whole t ∙ other-end-refused (n t) (edgeAt (g t) (e t)) _ (omega arith))
+    sym (whole t ∙ other-end-refused (g t .vertices) (x t) _ (omega arith))
 
 returns-3 : tie.Need-returns-3 Inv-loop μ-loop
 returns-3 c =
     let t = c .before .before .before .before .before .before in
-    sym (whole t ∙ loop-refused (n t) (edgeAt (g t) (e t)) _ (omega arith) (omega arith) (omega arith))
+    sym (whole t ∙ loop-refused (g t .vertices) (x t) _ (omega arith) (omega arith) (omega arith))
 
 returns-4 : tie.Need-returns-4 Inv-loop μ-loop
 returns-4 c =
     let t = c .before .before .before .before .before .before .before in
-    sym (whole t ∙ weight-none-refused (n t) (edgeAt (g t) (e t)) _ (omega arith) (omega arith) (omega arith) (omega arith))
+    sym (whole t ∙ weight-none-refused (g t .vertices) (x t) _ (omega arith) (omega arith) (omega arith) (omega arith))
 
 returns-5 : tie.Need-returns-5 Inv-loop μ-loop
 returns-5 c =
     let t = c .before .before .before .before .before .before .before .before in
-    sym (whole t ∙ weight-over-refused (n t) (edgeAt (g t) (e t)) _ (omega arith) (omega arith) (omega arith) (omega arith))
+    sym (whole t ∙ weight-over-refused (g t .vertices) (x t) _ (omega arith) (omega arith) (omega arith) (omega arith))
 
 add-e : tie.Need-add-e Inv-loop μ-loop
 add-e c = omega arith
@@ -81,17 +81,14 @@ loop-less c = omega arith
 loop-again : tie.Need-loop-again Inv-loop μ-loop
 loop-again c =
     let t = c .before .before .before .before .before .before .before .before in
-    let v : ValidEdge (n t) (edgeAt (g t) (e t)) = omega arith in
-    whole t ∙ edge-passed (n t) (edgeAt (g t) (e t)) _ v
+    let v : ValidEdge (g t .vertices) (x t) = omega arith in
+    whole t ∙ edge-passed (g t .vertices) (x t) _ v
 
 returns-6 : tie.Need-returns-6 Inv-loop μ-loop
 returns-6 c =
-    let s = c .before .before .before .before .args in
-    let g = graphOf (s .b .now) in
-    sym
-    (c .before .loop .inv
-    ∙ check-done g (s .n) (c .before .loop .e) (omega arith)
-    ∙ ap (yes (s .n)) (sym (c .before .before .edge-count .ensures .is)))
+    let g = graphOf (c .before .before .before .before .before .args .b .now) in
+    let done = check-done g (c .before .loop .e) (omega arith) in
+    cc
 
 pub check-edges-spec : {M : Type 1} → statement M
 check-edges-spec =
@@ -99,6 +96,7 @@ check-edges-spec =
     (tie.spec
     Inv-loop
     μ-loop
+    vertex-count-requires
     edge-count-requires
     loop-holds
     one-end-requires

@@ -1,45 +1,43 @@
--- `graph::u16_at` meets its contract: the field is made of two bytes, and where the first lies past the end it is 0.
+-- `graph::u16_at` meets its contract: the field lies within the bytes, or is the last byte alone, or is 0.
 -- Assumes nothing.
-use mathlib.Core.Path.{sym}
+use Prim.Native.Nat.{_+_}
 use native.Mathlib.Omega.{arith}
 use borrow.Author.Needs.{needs}
 use Rattle.graph.specs.Bytes.{u16At}
-use Rattle.graph.proofs.Fields.{u16-past}
+use Rattle.graph.proofs.Fields.{byte-past, u16-past}
 use Rattle.graph.proofs.u16_at.Statement.{statement}
 use Rattle.graph.proofs.u16_at.Tie as tie
 
 returns : tie.Need-returns
-returns c =
-    let g = c .before .before .args in
-    record { is = sym (u16-past (g .b .now) (g .at) (c .if1 .taken)); small = omega arith }
+returns c = let s = c .before .before .args in omega (arith, u16-past (s .b .now) (s .at) (c .if1 .taken))
 
-byte-at-requires : tie.Need-byte-at-requires
-byte-at-requires c κs = search needs
+sub-if2 : tie.Need-sub-if2
+sub-if2 c = search needs
 
-add-byte-at : tie.Need-add-byte-at
-add-byte-at c = search needs
+shared-slice-read-wide : tie.Need-shared-slice-read-wide
+shared-slice-read-wide c = search needs
 
-byte-at-requires-2 : tie.Need-byte-at-requires-2
-byte-at-requires-2 c κs = search needs
-
-mul-result : tie.Need-mul-result
-mul-result c = search needs
-
-add-result : tie.Need-add-result
-add-result c = search needs
+wide-requires : tie.Need-wide-requires
+wide-requires c κs = search needs
 
 returns-2 : tie.Need-returns-2
 unfolding u16At
-returns-2 c = omega arith
+returns-2 c = let s = c .before .before .before .before .before .args in omega (arith, byte-past (s .b .now) (s .at + 1) (omega arith))
+
+u16-within-requires : tie.Need-u16-within-requires
+u16-within-requires c κs = search needs
+
+returns-3 : tie.Need-returns-3
+returns-3 c = search needs
 
 pub u16-at-spec : {M : Type 1} → statement M
 u16-at-spec =
     tie.close
     (tie.spec
     returns
-    byte-at-requires
-    add-byte-at
-    byte-at-requires-2
-    mul-result
-    add-result
-    returns-2)
+    sub-if2
+    shared-slice-read-wide
+    wide-requires
+    returns-2
+    u16-within-requires
+    returns-3)

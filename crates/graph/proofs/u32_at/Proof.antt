@@ -1,6 +1,5 @@
 -- `graph::u32_at` meets its contract: the field is made of two fields of two bytes, and where the first lies past the end it is 0.
 -- Assumes nothing.
-use mathlib.Core.Path.{sym}
 use native.Mathlib.Omega.{arith}
 use borrow.Author.Needs.{needs}
 use Rattle.graph.specs.Bytes.{u32At}
@@ -9,9 +8,7 @@ use Rattle.graph.proofs.u32_at.Statement.{statement}
 use Rattle.graph.proofs.u32_at.Tie as tie
 
 returns : tie.Need-returns
-returns c =
-    let g = c .before .before .args in
-    record { is = sym (u32-past (g .b .now) (g .at) (c .if1 .taken)); small = omega arith }
+returns c = let s = c .before .before .args in omega (arith, u32-past (s .b .now) (s .at) (c .if1 .taken))
 
 u16-at-requires : tie.Need-u16-at-requires
 u16-at-requires c κs = search needs
