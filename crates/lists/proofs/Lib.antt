@@ -15,6 +15,10 @@ pub mod Middle
 pub mod Sorting
 -- the numbers below a bound
 pub mod Below
+-- lists written place by place along a run of numbers
+pub mod Runs
+-- a test that passes fewer numbers counts less
+pub mod Fewer
 -- the tests `all`, `&&` and `||`
 pub mod Every
 -- a test over all numbers below a bound

@@ -1,0 +1,43 @@
+-- The check of a filed cover says yes exactly to covers, in reading order.
+-- Bytes and trees:
+-- fields of two bytes, written and read
+pub mod Fields
+-- entries as pairs, and the edges of each tree
+pub mod Entries
+-- entries that rise are those of the trees they group into
+pub mod RisingEntries
+-- what reading makes of the bytes
+pub mod Reading
+-- what is written is read again
+pub mod Writing
+-- what is read is written again
+pub mod WrittenAgain
+-- The tests:
+-- the starts (32)
+pub mod StartTest
+-- the entries (33)
+pub mod EntryTest
+-- equal labels exactly where a walk leads
+pub mod LabelsMeanWalks
+-- exchange of one edge for another
+pub mod Exchange
+-- loops (34)
+pub mod LoopTest
+-- trees (34)
+pub mod TreeTest
+-- vertices (35)
+pub mod VertexTest
+-- numbers that are tried one after the other
+pub mod Faults
+-- the five tests together
+pub mod PassedTests
+-- How large a cover is:
+-- a loop-free list has fewer edges than vertices
+pub mod FewEdges
+-- a cover fits the buffer
+pub mod CoverSize
+-- The theorem:
+-- the check says yes exactly to covers
+pub mod CheckedCovers
+-- the question of the check, from bytes
+pub mod CheckQuestion
