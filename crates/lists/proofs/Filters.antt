@@ -1,8 +1,8 @@
--- A filter that no element passes keeps nothing.
+-- A filter that no element passes keeps nothing, and a filter of two lists keeps what it keeps of each.
 -- Assumes nothing.
-use mathlib.Core.Path.{_≡_, refl}
-use mathlib.Core.Bool.{Bool, false}
-use mathlib.Core.List.{List, [], _∷_, List·Memᴰ·head, List·Memᴰ·tail}
+use mathlib.Core.Path.{_≡_, refl, ap}
+use mathlib.Core.Bool.{Bool, true, false, cond}
+use mathlib.Core.List.{List, [], _∷_, _++_, List·Memᴰ·head, List·Memᴰ·tail}
 use Rattle.lists.specs.Lists.{filter}
 use Rattle.lists.specs.Member.{_∈_}
 
@@ -10,3 +10,14 @@ pub filter-none {ℓ} : {A : Type ℓ} (f : A → Bool) (xs : List A) → ((x : 
 unfolding filter
 filter-none f [] fails = refl
 filter-none f (x ∷ xs) fails = rw (fails x (List·Memᴰ·head refl)) (filter-none f xs (λ y m. fails y (List·Memᴰ·tail m)))
+
+-- two lists, one after the other
+pub filter-append {ℓ} : {A : Type ℓ} (f : A → Bool) (xs ys : List A) → filter f (xs ++ ys) ≡ filter f xs ++ filter f ys
+unfolding filter
+filter-append f [] ys = refl
+filter-append f (x ∷ xs) ys = go (f x) (filter-append f xs ys)
+  where
+    go : (b : Bool) → filter f (xs ++ ys) ≡ filter f xs ++ filter f ys
+        → cond b (x ∷ filter f (xs ++ ys)) (filter f (xs ++ ys)) ≡ cond b (x ∷ filter f xs) (filter f xs) ++ filter f ys
+    go true e = ap (λ l. x ∷ l) e
+    go false e = e

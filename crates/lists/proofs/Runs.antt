@@ -5,13 +5,13 @@ use mathlib.Core.Path.{_≡_, refl, ap, ap₂, _∙_}
 use mathlib.Core.Bool.{Bool, true, false, cond}
 use mathlib.Core.List.{List, [], _∷_, map, List·Memᴰ·head, List·Memᴰ·tail}
 use native.Mathlib.Omega.{arith}
-use lib.ListN.{length, getD}
+use lib.ListN.{length, getD, length-map}
 use Rattle.lists.specs.Count.{from, below}
 use Rattle.lists.specs.Lists.{filter}
 use Rattle.lists.specs.Member.{_∈_}
 
 -- A run of n numbers has n elements.
-pub length-from : (a n : ℕ) → length (from a n) ≡ n
+length-from : (a n : ℕ) → length (from a n) ≡ n
 unfolding from
 length-from a zero = refl
 length-from a (suc n) = ap suc (length-from (suc a) n)
@@ -32,7 +32,10 @@ module _ {ℓ} {A : Type ℓ} (f : ℕ → A) where
   unfolding below
   map-below d xs h = map-places d xs 0 (λ i l. ap f (omega arith) ∙ h i l)
 
-  -- What stands at a place of a mapped run.
+  -- A mapped run is as long as the run, and what stands at a place of it.
+  pub length-map-below : (n : ℕ) → length (map f (below n)) ≡ n
+  length-map-below n = length-map (below n) f ∙ length-below n
+
   getD-map-from : (d : A) (a n i : ℕ) → i < n → getD (map f (from a n)) i d ≡ f (a + i)
   unfolding from
   getD-map-from d a zero i h = absurd (omega arith)
