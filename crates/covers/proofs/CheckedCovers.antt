@@ -12,10 +12,10 @@ use Rattle.lists.proofs.Member.{of-map}
 use Rattle.graph.specs.Graph.{Graph, edgeCount}
 use Rattle.graph.specs.Valid.{Valid}
 use Rattle.theory.specs.Cover.{Tree, IsTree, Crews, Starts, IsCover, heaviest}
-use Rattle.theory.specs.CoverBytes.{treesIn, treeIn, coverLength, encode, decode}
+use Rattle.theory.specs.CoverBytes.{treesIn, treeIn, encode, decode}
 use Rattle.theory.specs.CheckCover.{coverFault}
 use Rattle.theory.specs.Questions.{crewFault}
-use Rattle.covers.proofs.Fields.{Bytes}
+use Rattle.theory.proofs.Fields.{Bytes}
 use Rattle.covers.proofs.Entries.{Entry, entriesOf, edgesOf, of-entries}
 use Rattle.covers.proofs.RisingEntries.{grouped, of-edges, edges-rise, rises-entries}
 use Rattle.covers.proofs.Reading.{entriesRead, treeIn-grouped}
@@ -28,9 +28,9 @@ use Rattle.covers.proofs.StartTest.{passed-starts, starts-pass, passed-
 use Rattle.covers.proofs.PassedTests.{Passed, quiet-passed, passed-quiet}
 
 -- The edges of a tree that is read are those that the entries give it.
-edges-read : (b : List ℕ) (t : Tree) → t ∈ decode b → (j : ℕ) × (t .edges ≡ edgesOf j (entriesRead b))
+read-edges : (b : List ℕ) (t : Tree) → t ∈ decode b → (j : ℕ) × (t .edges ≡ edgesOf j (entriesRead b))
 unfolding decode grouped
-edges-read b t m =
+read-edges b t m =
     let r = of-map (treeIn b) (below (treesIn b)) m in
     (r .0, ap (λ (s : Tree). s .edges) (r .2 ∙ treeIn-grouped b (r .0)))
 
@@ -41,12 +41,13 @@ module _ (g : Graph) (crews : Crews) (b : List ℕ) (p : Passed g crews b) where
   -- What is read from bytes that pass are trees.
   read-tree : (t : Tree) → t ∈ decode b → IsTree g t
   read-tree t m =
-      let r = edges-read b t m in
-      let q = passed-trees g (decode b) (p .trees) t m in
+      let r = read-edges b t m in
+      let rising = subst Rising (sym (r .1)) (edges-rise (r .0) (entries .rises)) in
+      let q = passed-trees g (decode b) (p .trees) t m rising in
       record {
         start-inside = passed-inside (g .vertices) b (p .inside) t m;
         edges-inside = λ e k. inside r e k;
-        rising = subst Rising (sym (r .1)) (edges-rise (r .0) (entries .rises));
+        rising = rising;
         joined = q .1;
         no-loop = q .0;
       }

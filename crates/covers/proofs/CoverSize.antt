@@ -13,15 +13,16 @@ use borrow.Author.Tests.{ltb-false}
 use Rattle.lists.specs.Lists.{flat}
 use Rattle.lists.specs.Member.{_∈_}
 use Rattle.lists.proofs.Every.{first-false, second-false}
+use Rattle.lists.proofs.InOrder.{rising-once}
 use Rattle.graph.specs.Graph.{Graph}
 use Rattle.graph.specs.Valid.{Valid}
 use Rattle.theory.specs.Cover.{Tree, IsTree, Crews, rooted, unrooted, Starts, IsCover}
 use Rattle.theory.specs.CoverBytes.{entryEdges, encode}
 use Rattle.theory.specs.Questions.{crewCount, tooManyRoots, crewFault}
-use Rattle.covers.proofs.Faults.{quiet-if}
+use Rattle.theory.proofs.Faults.{quiet-if}
+use Rattle.forests.proofs.Loops.{kept-whole-is-loopless}
+use Rattle.forests.proofs.FewEdges.{kept-few}
 use Rattle.covers.proofs.Writing.{Fits, length-encode}
-use Rattle.covers.proofs.LoopTest.{no-loop-passes}
-use Rattle.covers.proofs.FewEdges.{fewer-than-vertices}
 
 -- There are at most 32 crews, where their number is not refused.
 pub crews-few : (crews : Crews) (n : ℕ) → crewFault crews n ≡ none → (1 ≤ crewCount crews) × (crewCount crews ≤ 32)
@@ -41,9 +42,7 @@ trees-few (unrooted k) trees s = s .1
 module _ (g : Graph) (valid : Valid g) where
   -- A tree has fewer edges than there are vertices.
   pub tree-edges-few : (t : Tree) → IsTree g t → length (t .edges) < g .vertices
-  tree-edges-few t is =
-      fewer-than-vertices g (g .vertices) (valid .vertices-some) (t .edges)
-      (λ e m. let v = valid .each-edge e (is .edges-inside e m) in (v .one-end, v .other-end)) (no-loop-passes g (t .edges) (is .rising) (is .no-loop))
+  tree-edges-few t is = rw (kept-whole-is-loopless g (rising-once (is .rising)) .1 (is .no-loop)) at (kept-few valid (t .edges))
 
   -- Trees have at most 255 entries each.
   pub entries-few : (trees : List Tree) → ((t : Tree) → t ∈ trees → IsTree g t) → length (entryEdges trees) ≤ 255 * length trees

@@ -1,8 +1,7 @@
 -- The entries of trees, as pairs of a tree's number and an edge: grouping them by tree gives each tree's edges again.
 -- Assumes nothing.
 use Prim.Native.Nat.{ℕ, zero, suc, _+_, _≤_, _<_}
-use mathlib.Core.Path.{_≡_, refl, ap, _∙_}
-use mathlib.Core.Bool.{Bool, true, false, cond}
+use mathlib.Core.Path.{_≡_, refl, ap}
 use mathlib.Core.List.{List, [], _∷_, _++_, map, map-append, List·Memᴰ·head, List·Memᴰ·tail, List·Memᴰ·not-nil, List·Memᴰ·append-cases, Memᴰ·cast, append-nil}
 use mathlib.Core.Logic.{_⊎_, inl, inr}
 use native.Mathlib.Omega.{arith}
@@ -12,6 +11,7 @@ use borrow.Author.Tests.{eq-eqb, ne-eqb}
 use Rattle.lists.specs.Lists.{filter, flat}
 use Rattle.lists.specs.Member.{_∈_}
 use Rattle.lists.proofs.Member.{of-map}
+use Rattle.lists.proofs.Filters.{filter-none, filter-append}
 use Rattle.theory.specs.Cover.{Tree}
 use Rattle.theory.specs.CoverBytes.{entryTrees, entryEdges}
 
@@ -44,20 +44,8 @@ edgesOf-other j x es e = rw (ne-eqb (x .tree) j e)
 
 -- Entries after entries give edges after edges.
 pub edgesOf-append : (j : ℕ) (xs ys : List Entry) → edgesOf j (xs ++ ys) ≡ edgesOf j xs ++ edgesOf j ys
-unfolding edgesOf filter
-edgesOf-append j [] ys = refl
-edgesOf-append j (x ∷ xs) ys = go (eqb (x .tree) j) (edgesOf-append j xs ys)
-  where
-    rest : List Entry → List Entry
-    rest l = filter (λ (y : Entry). eqb (y .tree) j) l
-
-    edges : List Entry → List ℕ
-    edges l = map (λ (y : Entry). y .edge) l
-
-    go : (b : Bool) → edges (rest (xs ++ ys)) ≡ edges (rest xs) ++ edges (rest ys)
-        → edges (cond b (x ∷ rest (xs ++ ys)) (rest (xs ++ ys))) ≡ edges (cond b (x ∷ rest xs) (rest xs)) ++ edges (rest ys)
-    go true e = ap (λ l. x .edge ∷ l) e
-    go false e = e
+unfolding edgesOf
+edgesOf-append j xs ys = rw (filter-append, map-append)
 
 -- The entries of tree j give its edges, and the entries of others none.
 pub edgesOf-named : (j : ℕ) (es : List ℕ) → edgesOf j (named j es) ≡ es
@@ -66,9 +54,8 @@ edgesOf-named j [] = refl
 edgesOf-named j (e ∷ es) = rw (eq-eqb j j refl) (ap (λ l. e ∷ l) (edgesOf-named j es))
 
 pub edgesOf-none : (j : ℕ) (xs : List Entry) → ((x : Entry) → x ∈ xs → x .tree ≡ j → ⊥) → edgesOf j xs ≡ []
-unfolding edgesOf filter
-edgesOf-none j [] h = refl
-edgesOf-none j (x ∷ xs) h = edgesOf-other j x xs (h x (List·Memᴰ·head refl)) ∙ edgesOf-none j xs (λ y m. h y (List·Memᴰ·tail m))
+unfolding edgesOf
+edgesOf-none j xs h = ap (map (λ (x : Entry). x .edge)) (filter-none (λ (x : Entry). eqb (x .tree) j) xs (λ x m. ne-eqb (x .tree) j (h x m)))
 
 -- What stands among the entries of tree j names tree j, and one of its edges.
 pub of-named : {x : Entry} (j : ℕ) (es : List ℕ) → x ∈ named j es → (x .tree ≡ j) × (x .edge ∈ es)

@@ -13,14 +13,16 @@ use lib.ListN.{length}
 use borrow.Author.Tests.{ltb-true, eqb-true, lt-ltb, eq-eqb, ne-eqb}
 use Rattle.lists.specs.Count.{from, below}
 use Rattle.lists.specs.Member.{_∈_}
-use Rattle.lists.proofs.Every.{both-true, first-true, second-true, one-true, left-true, right-true, all-each, each-all}
+use Rattle.lists.proofs.Every.{both-true, first-true, second-true, one-true, left-true, right-true}
 use Rattle.lists.proofs.Member.{in-map, of-map}
-use Rattle.lists.proofs.Below.{in-from, of-from}
+use Rattle.lists.proofs.Below.{in-from, of-from, in-below, of-below}
+use Rattle.lists.proofs.AllBelow.{all-below, each-below}
+use Rattle.lists.proofs.InOrder.{none, next}
 use Rattle.theory.specs.CoverBytes.{treesIn, entriesIn, entryTree, entryEdge, coverLength, encode, decode}
 use Rattle.theory.specs.CheckCover.{entryRises, entryRight, entriesRight}
-use Rattle.covers.proofs.Fields.{Bytes}
+use Rattle.theory.proofs.Fields.{Bytes}
 use Rattle.covers.proofs.Entries.{Entry}
-use Rattle.covers.proofs.RisingEntries.{Before, Rises, none, next}
+use Rattle.covers.proofs.RisingEntries.{Before, Rises}
 use Rattle.covers.proofs.Reading.{entryIn, entriesRead}
 use Rattle.covers.proofs.WrittenAgain.{encode-decode}
 
@@ -127,30 +129,30 @@ module _ (m : ℕ) (b : List ℕ) where
   unfolding entriesRight entriesRead entryIn below Asked
   passed-named t =
       record {
-        rises = rises-run (entryIn b) 0 (entriesIn b) (λ k l h. rises k (passes (suc k) (in-from 0 (entriesIn b) (omega arith) h) .2));
+        rises = rises-run (entryIn b) 0 (entriesIn b) (λ k l h. rises k (passes (suc k) (omega arith) .2));
         trees = λ x k. let r = read x k in subst (λ y. y < treesIn b) (sym (ap (λ (y : Entry). y .tree) (r .2))) (passes (r .0) (r .1) .0);
         edges = λ x k. let r = read x k in subst (λ y. y < m) (sym (ap (λ (y : Entry). y .edge) (r .2))) (passes (r .0) (r .1) .1);
       }
     where
-      passes : (i : ℕ) → i ∈ from 0 (entriesIn b) → Asked i
-      passes i k = right-asked i (all-each (entryRight m b) (from 0 (entriesIn b)) t k)
+      passes : (i : ℕ) → i < entriesIn b → Asked i
+      passes i l = right-asked i (each-below (entryRight m b) (entriesIn b) t i l)
 
       rises : (k : ℕ) → entryRises b (suc k) ≡ true → Before (entryIn b k) (entryIn b (suc k))
       rises k r = comes-before (entryIn b k) (entryIn b (suc k)) (sym (rises-comes b k) ∙ r)
 
-      read : (x : Entry) → x ∈ map (entryIn b) (from 0 (entriesIn b)) → (i : ℕ) × (i ∈ from 0 (entriesIn b)) × (x ≡ entryIn b i)
-      read x k = of-map (entryIn b) (from 0 (entriesIn b)) k
+      read : (x : Entry) → x ∈ map (entryIn b) (below (entriesIn b)) → (i : ℕ) × (i < entriesIn b) × (x ≡ entryIn b i)
+      read x k = let r = of-map (entryIn b) (below (entriesIn b)) k in (r .0, of-below (entriesIn b) (r .1), r .2)
 
   -- Entries that rise and name trees and edges that there are pass the test.
   pub named-passes : Named m b → entriesRight m b ≡ true
   unfolding entriesRight entriesRead entryIn below Asked
   named-passes n =
-      each-all (entryRight m b) (from 0 (entriesIn b))
-      (λ i h. let k = in-map (entryIn b) h in asked-right i (n .trees (entryIn b i) k, n .edges (entryIn b i) k, rises i (of-from 0 (entriesIn b) h .1)))
+      all-below (entryRight m b) (entriesIn b)
+      (λ i l. let k = in-map (entryIn b) (in-below (entriesIn b) l) in asked-right i (n .trees (entryIn b i) k, n .edges (entryIn b i) k, rises i l))
     where
-      rises : (i : ℕ) → i < 0 + entriesIn b → entryRises b i ≡ true
+      rises : (i : ℕ) → i < entriesIn b → entryRises b i ≡ true
       rises zero l = rises-first b
-      rises (suc i) l = rises-comes b i ∙ before-comes (entryIn b i) (entryIn b (suc i)) (run-rises (entryIn b) 0 (entriesIn b) (n .rises) i (omega arith) l)
+      rises (suc i) l = rises-comes b i ∙ before-comes (entryIn b i) (entryIn b (suc i)) (run-rises (entryIn b) 0 (entriesIn b) (n .rises) i (omega arith) (omega arith))
 
   -- Bytes of the length that they say, whose entries pass the test: read and written again, they are the same bytes.
   pub passed-again : Bytes b → length b ≡ coverLength b → entriesRight m b ≡ true → encode (decode b) ≡ b

@@ -1,7 +1,5 @@
 -- The check of a filed cover says yes exactly to covers, in reading order.
 -- Bytes and trees:
--- fields of two bytes, written and read
-pub mod Fields
 -- entries as pairs, and the edges of each tree
 pub mod Entries
 -- entries that rise are those of the trees they group into
@@ -17,23 +15,15 @@ pub mod WrittenAgain
 pub mod StartTest
 -- the entries (33)
 pub mod EntryTest
--- equal labels exactly where a walk leads
-pub mod LabelsMeanWalks
--- exchange of one edge for another
-pub mod Exchange
 -- loops (34)
 pub mod LoopTest
 -- trees (34)
 pub mod TreeTest
 -- vertices (35)
 pub mod VertexTest
--- numbers that are tried one after the other
-pub mod Faults
 -- the five tests together
 pub mod PassedTests
 -- How large a cover is:
--- a loop-free list has fewer edges than vertices
-pub mod FewEdges
 -- a cover fits the buffer
 pub mod CoverSize
 -- The theorem:

@@ -16,7 +16,7 @@ use Rattle.theory.specs.Fault.{Fault, faultUnless}
 use Rattle.theory.specs.Cover.{Crews}
 use Rattle.theory.specs.CoverBytes.{coverLength, decode}
 use Rattle.theory.specs.CheckCover.{startsRight, startsBelow, entriesRight, treesRight, verticesCovered, coverFault}
-use Rattle.covers.proofs.Faults.{quiet-unless, unless-quiet, quiet-each, first-quiet, none-quiet}
+use Rattle.theory.proofs.Faults.{quiet-unless, unless-quiet, quiet-each, first-quiet, none-quiet}
 
 -- All tests say yes.
 pub record Passed (g : Graph) (crews : Crews) (b : List ℕ) : Type 0 where

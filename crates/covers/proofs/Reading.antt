@@ -4,10 +4,10 @@ use Prim.Native.Nat.{ℕ}
 use mathlib.Core.Path.{_≡_, sym, ap, _∙_}
 use mathlib.Core.List.{List, map, map-map}
 use lib.Dec.{eqb}
-use lib.ListN.{length, length-map}
+use lib.ListN.{length}
 use Rattle.lists.specs.Count.{below}
 use Rattle.lists.specs.Lists.{filter}
-use Rattle.lists.proofs.Runs.{length-below, map-same, filter-of-map}
+use Rattle.lists.proofs.Runs.{length-map-below, map-same, filter-of-map}
 use Rattle.theory.specs.Cover.{Tree}
 use Rattle.theory.specs.CoverBytes.{treesIn, entriesIn, startIn, entryTree, entryEdge, treeIn, decode}
 use Rattle.covers.proofs.Entries.{Entry, edgesOf}
@@ -42,11 +42,11 @@ decode-grouped b = map-same (below (treesIn b)) (λ j m. treeIn-grouped b j)
 -- Bytes hold as many trees as they say, and as many entries.
 pub length-decode : (b : List ℕ) → length (decode b) ≡ treesIn b
 unfolding decode
-length-decode b = length-map (below (treesIn b)) (treeIn b) ∙ length-below (treesIn b)
+length-decode b = length-map-below (treeIn b) (treesIn b)
 
 pub length-entriesRead : (b : List ℕ) → length (entriesRead b) ≡ entriesIn b
 unfolding entriesRead
-length-entriesRead b = length-map (below (entriesIn b)) (entryIn b) ∙ length-below (entriesIn b)
+length-entriesRead b = length-map-below (entryIn b) (entriesIn b)
 
 -- The starts, the tree numbers and the edge numbers of the bytes, each for itself.
 pub starts-read : (b : List ℕ) → map (λ (t : Tree). t .start) (decode b) ≡ map (startIn b) (below (treesIn b))

@@ -2,7 +2,7 @@
 -- Assumes nothing.
 use Prim.Native.Nat.{ℕ, zero, suc, _+_, _≤_, _<_}
 use mathlib.Core.Path.{_≡_, refl, sym, ap, ap₂, subst, _∙_}
-use mathlib.Core.List.{List, [], _∷_, _++_, map, List·Memᴰ·head, List·Memᴰ·tail, List·Memᴰ·not-nil, List·Memᴰ·append-cases, Memᴰ·append-right}
+use mathlib.Core.List.{List, [], _∷_, _++_, map, List·Memᴰ·head, List·Memᴰ·tail, List·Memᴰ·not-nil, Memᴰ·append-right}
 use mathlib.Core.Logic.{_⊎_, inl, inr}
 use native.Mathlib.Decide.{ℕ-discrete}
 use native.Mathlib.Omega.{arith}
@@ -12,6 +12,7 @@ use Rattle.lists.specs.Count.{from}
 use Rattle.lists.specs.Lists.{filter}
 use Rattle.lists.specs.Member.{_∈_, Rising}
 use Rattle.lists.proofs.Member.{of-map, of-filter}
+use Rattle.lists.proofs.InOrder.{InOrder, none, next, append-in-order}
 use Rattle.lists.proofs.Below.{of-from}
 use Rattle.lists.proofs.Runs.{map-same}
 use Rattle.theory.specs.Cover.{Tree}
@@ -22,18 +23,8 @@ abbrev pub Before : Entry → Entry → Type 0
 Before x y = (x .tree < y .tree) ⊎ ((x .tree ≡ y .tree) × (x .edge < y .edge))
 
 -- Each entry comes before all that follow it.
-pub data Rises : List Entry → Type 0 where
-  none : Rises []
-  next : {x : Entry} {xs : List Entry} → ((y : Entry) → y ∈ xs → Before x y) → Rises xs → Rises (x ∷ xs)
-
--- Rising entries after rising entries rise, where the first come before the second.
-pub rises-append : {xs ys : List Entry} → Rises xs → Rises ys → ((x y : Entry) → x ∈ xs → y ∈ ys → Before x y) → Rises (xs ++ ys)
-rises-append none r h = r
-rises-append {ys = ys} (next {x = x} {xs = xs} b q) r h = next (λ y m. go y (List·Memᴰ·append-cases xs m)) (rises-append q r (λ z y n m. h z y (List·Memᴰ·tail n) m))
-  where
-    go : (y : Entry) → (y ∈ xs) ⊎ (y ∈ ys) → Before x y
-    go y (inl m) = b y m
-    go y (inr m) = h x y (List·Memᴰ·head refl) m
+abbrev pub Rises : List Entry → Type 0
+Rises es = InOrder Before es
 
 -- Rising edges are rising entries of one tree.
 pub rises-named : {es : List ℕ} (j : ℕ) → Rising es → Rises (named j es)
@@ -46,7 +37,7 @@ pub rises-entries : (a : ℕ) (ts : List Tree) → ((t : Tree) → t ∈ ts → 
 unfolding entriesOf
 rises-entries a [] h = none
 rises-entries a (t ∷ ts) h =
-    rises-append (rises-named a (h t (List·Memᴰ·head refl))) (rises-entries (suc a) ts (λ s m. h s (List·Memᴰ·tail m)))
+    append-in-order (rises-named a (h t (List·Memᴰ·head refl))) (rises-entries (suc a) ts (λ s m. h s (List·Memᴰ·tail m)))
     (λ x y m n. inl (omega (arith, of-named a (t .edges) m .0, of-entries (suc a) ts n .0)))
 
 -- An edge of tree j stands in an entry of tree j.

@@ -6,15 +6,15 @@ use mathlib.Core.Bool.{Bool, true}
 use mathlib.Core.List.{List, map}
 use native.Mathlib.Omega.{arith}
 use lib.Dec.{eqb, leb, ltb}
-use lib.ListN.{length, getD, length-map}
+use lib.ListN.{length, getD}
 use borrow.Author.Tests.{eqb-true, leb-true, ltb-true, eq-eqb, le-leb, lt-ltb}
 use Rattle.lists.specs.Count.{below}
 use Rattle.lists.specs.Lists.{all}
 use Rattle.lists.specs.Member.{_∈_}
 use Rattle.lists.proofs.Every.{both-true, first-true, second-true, all-each, each-all}
 use Rattle.lists.proofs.Member.{in-map, of-map}
-use Rattle.lists.proofs.Below.{in-below, of-below}
-use Rattle.lists.proofs.Runs.{map-below, getD-map-below, length-below}
+use Rattle.lists.proofs.AllBelow.{all-below, each-below}
+use Rattle.lists.proofs.Runs.{map-below, getD-map-below, length-map-below}
 use Rattle.theory.specs.Cover.{Tree, Crews, rooted, unrooted, Starts}
 use Rattle.theory.specs.CoverBytes.{treesIn, startIn, treeIn, decode}
 use Rattle.theory.specs.CheckCover.{startsRight, startsBelow}
@@ -30,7 +30,7 @@ passed-starts (rooted roots) b t =
     let each = second-true same (all test (below (treesIn b))) t in
     starts-read b
     ∙ (ap (λ n. map (startIn b) (below n)) count
-    ∙ map-below (startIn b) 0 roots (λ i l. eqb-true _ _ (all-each test (below (treesIn b)) each (in-below (treesIn b) (omega (arith, count))))))
+    ∙ map-below (startIn b) 0 roots (λ i l. eqb-true _ _ (each-below test (treesIn b) each i (omega (arith, count)))))
 passed-starts (unrooted k) b t =
     let some = leb-true 1 (treesIn b) (first-true (leb 1 (treesIn b)) (leb (treesIn b) k) t) in
     let most = leb-true (treesIn b) k (second-true (leb 1 (treesIn b)) (leb (treesIn b) k) t) in
@@ -41,9 +41,9 @@ pub starts-pass : (crews : Crews) (b : List ℕ) → Starts crews (decode b) →
 unfolding startsRight
 starts-pass (rooted roots) b s =
     let read = sym s ∙ starts-read b in
-    both-true (eq-eqb _ _ (sym (ap length read ∙ (length-map (below (treesIn b)) (startIn b) ∙ length-below (treesIn b)))))
-    (each-all (λ j. eqb (startIn b j) (getD roots j 0)) (below (treesIn b))
-    (λ j m. eq-eqb _ _ (sym (ap (λ l. getD l j 0) read ∙ getD-map-below (startIn b) 0 (treesIn b) j (of-below (treesIn b) m)))))
+    both-true (eq-eqb _ _ (sym (ap length read ∙ length-map-below (startIn b) (treesIn b))))
+    (all-below (λ j. eqb (startIn b j) (getD roots j 0)) (treesIn b)
+    (λ j h. eq-eqb _ _ (sym (ap (λ l. getD l j 0) read ∙ getD-map-below (startIn b) 0 (treesIn b) j h))))
 starts-pass (unrooted k) b s = both-true (le-leb 1 (treesIn b) (omega (arith, length-decode b))) (le-leb (treesIn b) k (omega (arith, length-decode b)))
 
 module _ (n : ℕ) (b : List ℕ) where

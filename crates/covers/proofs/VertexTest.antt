@@ -4,12 +4,10 @@ use Prim.Native.Nat.{ℕ, _<_}
 use mathlib.Core.Path.{_≡_, subst}
 use mathlib.Core.Bool.{true}
 use mathlib.Core.List.{List, [], _∷_, map, List·Memᴰ·head, List·Memᴰ·tail, List·Memᴰ·eq-of-singleton}
-use Rattle.lists.specs.Count.{below}
 use Rattle.lists.specs.Lists.{any, member}
 use Rattle.lists.specs.Member.{_∈_}
-use Rattle.lists.proofs.Every.{all-each, each-all}
+use Rattle.lists.proofs.AllBelow.{all-below, each-below}
 use Rattle.lists.proofs.Member.{any-found, found-any, in-flat, of-flat, in-map, of-map, member-in, in-member}
-use Rattle.lists.proofs.Below.{in-below, of-below}
 use Rattle.graph.specs.Graph.{Graph, oneEnd, otherEnd}
 use Rattle.theory.specs.Cover.{Tree, Covers, at-start, at-one-end, at-other-end}
 use Rattle.theory.specs.Distance.{treeVertices}
@@ -49,7 +47,7 @@ module _ (g : Graph) where
     pub passed-covered : verticesCovered g trees ≡ true → (v : ℕ) → v < g .vertices → HasTree trees v
     unfolding verticesCovered
     passed-covered t v h =
-        let some = all-each (λ u. any (λ (s : Tree). member u (treeVertices g s)) trees) (below (g .vertices)) t (in-below (g .vertices) h) in
+        let some = each-below (λ u. any (λ (s : Tree). member u (treeVertices g s)) trees) (g .vertices) t v h in
         let r = any-found (λ (s : Tree). member v (treeVertices g s)) trees some in
         (r .0, r .1, stands-covered (r .0) (member-in v (treeVertices g (r .0)) (r .2)))
 
@@ -57,5 +55,5 @@ module _ (g : Graph) where
     pub covered-passes : ((v : ℕ) → v < g .vertices → HasTree trees v) → verticesCovered g trees ≡ true
     unfolding verticesCovered
     covered-passes h =
-        each-all (λ v. any (λ (s : Tree). member v (treeVertices g s)) trees) (below (g .vertices))
-        (λ v m. let r = h v (of-below (g .vertices) m) in found-any (λ (s : Tree). member v (treeVertices g s)) (r .1) (in-member (covered-stands (r .0) (r .2))))
+        all-below (λ v. any (λ (s : Tree). member v (treeVertices g s)) trees) (g .vertices)
+        (λ v l. let r = h v l in found-any (λ (s : Tree). member v (treeVertices g s)) (r .1) (in-member (covered-stands (r .0) (r .2))))

@@ -14,7 +14,7 @@ use Rattle.lists.proofs.Runs.{map-below}
 use Rattle.graph.specs.Bytes.{u16At}
 use Rattle.theory.specs.Cover.{Tree}
 use Rattle.theory.specs.CoverBytes.{u16Bytes, u16List, entryEdges, encode, treesIn, entriesIn, startIn, entryTree, entryEdge, decode}
-use Rattle.covers.proofs.Fields.{Small, u16List-append, length-u16List, read-written}
+use Rattle.theory.proofs.Fields.{Small, fields-append, fields-length, read-written}
 use Rattle.covers.proofs.Entries.{Entry, entriesOf, edgesOf, of-entries, edges-again, entries-trees, entries-edges}
 use Rattle.covers.proofs.RisingEntries.{grouped}
 use Rattle.covers.proofs.Reading.{entryIn, entriesRead, decode-grouped}
@@ -55,12 +55,12 @@ two-fields x y l = refl
 -- The bytes of trees are those of their fields.
 pub encode-fields : (ts : List Tree) → encode ts ≡ u16List (fields ts)
 unfolding encode fields arrays
-encode-fields ts = rw (two-fields, u16List-append, u16List-append, entries-trees, entries-edges, length-entries)
+encode-fields ts = rw (two-fields, fields-append, fields-append, entries-trees, entries-edges, length-entries)
 
 -- The bytes of trees have the length that they say.
 pub length-encode : (ts : List Tree) → length (encode ts) ≡ 4 + 2 * length ts + 4 * length (entryEdges ts)
 unfolding fields arrays
-length-encode ts = rw (encode-fields, length-u16List) (simp (length-append, length-map, length-entries) (omega arith))
+length-encode ts = rw (encode-fields, fields-length) (simp (length-append, length-map, length-entries) (omega arith))
 
 -- The fields fit, where the trees do.
 fields-small : (ts : List Tree) → Fits ts → Small (fields ts)

@@ -9,7 +9,7 @@ use lib.Seq.{take-add, drop-drop, take-all}
 use Rattle.lists.specs.Count.{below}
 use Rattle.lists.specs.Member.{_∈_}
 use Rattle.theory.specs.CoverBytes.{u16List, encode, treesIn, entriesIn, startIn, entryTree, entryEdge, coverLength, decode}
-use Rattle.covers.proofs.Fields.{Bytes, u16List-cons, u16List-append, field-back, written-read}
+use Rattle.theory.proofs.Fields.{Bytes, fields-cons, fields-append, field-back, written-read}
 use Rattle.covers.proofs.Entries.{Entry, entriesOf}
 use Rattle.covers.proofs.RisingEntries.{Rises, entries-again}
 use Rattle.covers.proofs.Reading.{entriesRead, decode-grouped, length-decode, length-entriesRead, starts-read, trees-read, edges-read}
@@ -52,7 +52,7 @@ module _ (b : List ℕ) (o : LaidOut b) where
   encode-decode =
       let q = 2 * treesIn b + (2 * entriesIn b + 2 * entriesIn b) in
       let whole : take (suc (suc (suc (suc q)))) b ≡ b = take-all (suc (suc (suc (suc q)))) b (omega (arith, o .sized)) in
-      rw (encode-fields, fields-kept, u16List-cons, u16List-cons, u16List-append, u16List-append, starts-back, trees-back, edges-back)
+      rw (encode-fields, fields-kept, fields-cons, fields-cons, fields-append, fields-append, starts-back, trees-back, edges-back)
       (rw (pieces b (4 + 2 * treesIn b) (2 * entriesIn b) (2 * entriesIn b), pieces b 4 (2 * treesIn b) (2 * entriesIn b + 2 * entriesIn b))
       (ap (λ l. treesIn b % 256 ∷ treesIn b / 256 % 256 ∷ l) (field-back b 2 q (o .bytes) (omega (arith, o .sized)))
       ∙ (field-back b 0 (suc (suc q)) (o .bytes) (omega (arith, o .sized)) ∙ whole)))

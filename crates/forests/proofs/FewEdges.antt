@@ -1,22 +1,23 @@
--- A loop-free list of edges on n vertices has fewer than n edges: each edge joins two classes of labels, and one class is left.
+-- The kept edges of a valid graph are fewer than its vertices: each joins two classes of labels, and one class is left.
 -- A class is counted by its label, which is the vertex that has itself for a label.
 -- Assumes nothing.
-use Prim.Native.Nat.{ℕ, _≤_, _<_}
+use Prim.Native.Nat.{ℕ, _<_}
 use mathlib.Core.Path.{_≡_, refl, sym, ap, _∙_}
-use mathlib.Core.Bool.{Bool, true, false, cond, not}
-use mathlib.Core.List.{List, [], _∷_, List·Memᴰ·head, List·Memᴰ·tail}
+use mathlib.Core.Bool.{Bool, true, false, cond}
+use mathlib.Core.List.{List}
 use mathlib.Core.Logic.{_⊎_, inl, inr}
 use native.Mathlib.Omega.{arith}
 use lib.Dec.{eqb}
 use lib.ListN.{length}
-use borrow.Author.Tests.{eqb-true, eqb-false, eq-eqb, ne-eqb, not-true}
+use borrow.Author.Tests.{eqb-true, eqb-false, eq-eqb, ne-eqb}
 use Rattle.lists.specs.Count.{count}
-use Rattle.lists.specs.Member.{_∈_}
-use Rattle.lists.proofs.Every.{first-true, second-true}
 use Rattle.lists.proofs.Fewer.{count-bounded, count-fewer, count-some}
 use Rattle.graph.specs.Graph.{Graph, oneEnd, otherEnd}
-use Rattle.theory.specs.Labels.{Labels, apart, joined, endsJoined, merge, mergeEdge}
-use Rattle.theory.specs.CheckCover.{loopFree}
+use Rattle.graph.specs.Valid.{Valid}
+use Rattle.graph.proofs.Ranges.{one-end-below, other-end-below}
+use Rattle.theory.specs.Labels.{Labels, apart, merge, mergeEdge}
+use Rattle.theory.specs.Forest.{keep}
+use Rattle.forests.proofs.Keeping.{Kept, nothing, skipped, taken, kept}
 
 -- A label is its own label, and the label of a vertex below n is below n.
 record Settled (n : ℕ) (label : Labels) : Type 0 where
@@ -31,9 +32,9 @@ own label x = eqb (label x) x
 abbrev Cases : Labels → ℕ → ℕ → ℕ → Type 0
 Cases label a b x = ((label x ≡ label b) × (merge label a b x ≡ label a)) ⊎ ((label x ≡ label b → ⊥) × (merge label a b x ≡ label x))
 
-merge-cases : (label : Labels) (a b x : ℕ) → Cases label a b x
+merge-each : (label : Labels) (a b x : ℕ) → Cases label a b x
 unfolding merge
-merge-cases label a b x = go (eqb (label x) (label b)) refl
+merge-each label a b x = go (eqb (label x) (label b)) refl
   where
     go : (t : Bool) → eqb (label x) (label b) ≡ t → ((label x ≡ label b) × (cond t (label a) (label x) ≡ label a)) ⊎ ((label x ≡ label b → ⊥) × (cond t (label a) (label x) ≡ label x))
     go true e = inl (eqb-true _ _ e, refl)
@@ -42,7 +43,7 @@ merge-cases label a b x = go (eqb (label x) (label b)) refl
 module _ {n : ℕ} {label : Labels} (s : Settled n label) (a b : ℕ) where
   -- Labels stay settled.
   merge-settled : a < n → Settled n (merge label a b)
-  merge-settled la = record { itself = λ x. itself x (merge-cases label a b x); below = λ x l. below x l (merge-cases label a b x) }
+  merge-settled la = record { itself = λ x. itself x (merge-each label a b x); below = λ x l. below x l (merge-each label a b x) }
     where
       taken : Cases label a b (label a) → merge label a b (label a) ≡ label a
       taken (inl c) = c .1
@@ -53,8 +54,8 @@ module _ {n : ℕ} {label : Labels} (s : Settled n label) (a b : ℕ) where
       kept x other (inr c) = c .1 ∙ s .itself x
 
       itself : (x : ℕ) → Cases label a b x → merge label a b (merge label a b x) ≡ merge label a b x
-      itself x (inl c) = rw (c .1) (taken (merge-cases label a b (label a)))
-      itself x (inr c) = rw (c .1) (kept x (c .0) (merge-cases label a b (label x)))
+      itself x (inl c) = rw (c .1) (taken (merge-each label a b (label a)))
+      itself x (inr c) = rw (c .1) (kept x (c .0) (merge-each label a b (label x)))
 
       below : (x : ℕ) → x < n → Cases label a b x → merge label a b x < n
       below x l (inl c) = omega (arith, c .1, s .below a la)
@@ -64,8 +65,8 @@ module _ {n : ℕ} {label : Labels} (s : Settled n label) (a b : ℕ) where
   merge-fewer : b < n → (label a ≡ label b → ⊥) → count n (own (merge label a b)) < count n (own label)
   unfolding own
   merge-fewer lb differ =
-      count-fewer n (own (merge label a b)) (own label) (λ x l t. was x (eqb-true _ _ t) (merge-cases label a b x))
-      (label b) (s .below b lb) (ne-eqb _ _ (λ e. lost e (merge-cases label a b (label b)))) (eq-eqb _ _ (s .itself b))
+      count-fewer n (own (merge label a b)) (own label) (λ x l t. was x (eqb-true _ _ t) (merge-each label a b x))
+      (label b) (s .below b lb) (ne-eqb _ _ (λ e. lost e (merge-each label a b (label b)))) (eq-eqb _ _ (s .itself b))
     where
       was : (x : ℕ) → merge label a b x ≡ x → Cases label a b x → own label x ≡ true
       was x e (inl c) = absurd (differ (sym (s .itself a) ∙ (ap label (sym (c .1) ∙ e) ∙ c .0)))
@@ -75,27 +76,20 @@ module _ {n : ℕ} {label : Labels} (s : Settled n label) (a b : ℕ) where
       lost e (inl c) = differ (sym (c .1) ∙ e)
       lost e (inr c) = c .0 (s .itself b)
 
-module _ (g : Graph) (n : ℕ) (some : 1 ≤ n) where
-  -- The ends of the edge are below n.
-  Inside : ℕ → Type 0
-  Inside e = (oneEnd g e < n) × (otherEnd g e < n)
-
-  -- There are fewer loop-free edges than classes.
-  fewer-than-classes : (label : Labels) → Settled n label → (es : List ℕ) → ((e : ℕ) → e ∈ es → Inside e) → loopFree g label es ≡ true → length es < count n (own label)
-  unfolding loopFree mergeEdge endsJoined joined own Inside
-  fewer-than-classes label s [] inside t = count-some n (own label) (label 0) (s .below 0 some) (eq-eqb _ _ (s .itself 0))
-  fewer-than-classes label s (e ∷ es) inside t =
-      let test = endsJoined g label e in
-      let rest = loopFree g (mergeEdge g label e) es in
-      let h = inside e (List·Memᴰ·head refl) in
+module _ {g : Graph} (valid : Valid g) where
+  -- There are fewer kept edges than classes.
+  fewer-than-classes : {P : Labels} {E K : List ℕ} → Settled (g .vertices) P → Kept g P E K → length K < count (g .vertices) (own P)
+  unfolding mergeEdge own
+  fewer-than-classes {P = P} s nothing = count-some (g .vertices) (own P) (P 0) (s .below 0 (valid .vertices-some)) (eq-eqb _ _ (s .itself 0))
+  fewer-than-classes s (skipped p k) = fewer-than-classes s k
+  fewer-than-classes s (taken {e = e} apart k) =
       omega (
         arith,
-        fewer-than-classes (mergeEdge g label e) (merge-settled s (oneEnd g e) (otherEnd g e) (h .0)) es (λ f m. inside f (List·Memᴰ·tail m)) (second-true (not test) rest t),
-        merge-fewer s (oneEnd g e) (otherEnd g e) (h .1) (eqb-false _ _ (not-true test (first-true (not test) rest t))),
+        fewer-than-classes (merge-settled s (oneEnd g e) (otherEnd g e) (one-end-below valid e)) k,
+        merge-fewer s (oneEnd g e) (otherEnd g e) (other-end-below valid e) apart,
       )
 
-  -- There are fewer loop-free edges than vertices.
-  pub fewer-than-vertices : (es : List ℕ) → ((e : ℕ) → e ∈ es → (oneEnd g e < n) × (otherEnd g e < n)) → loopFree g apart es ≡ true → length es < n
-  unfolding apart Inside
-  fewer-than-vertices es inside t =
-      omega (arith, fewer-than-classes apart (record { itself = λ x. refl; below = λ x l. l }) es inside t, count-bounded n (own apart))
+  -- There are fewer kept edges than vertices.
+  pub kept-few : (E : List ℕ) → length (keep g apart E) < g .vertices
+  unfolding apart
+  kept-few E = omega (arith, fewer-than-classes (record { itself = λ x. refl; below = λ x l. l }) (kept g apart E), count-bounded (g .vertices) (own apart))

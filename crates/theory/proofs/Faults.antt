@@ -7,10 +7,10 @@ use mathlib.Core.List.{List, [], _∷_, List·Memᴰ·head, List·Memᴰ·tail}
 use mathlib.Core.Option.{Option, some, none}
 use native.Mathlib.Omega.{arith}
 use Rattle.lists.specs.Member.{_∈_}
 use Rattle.theory.specs.Fault.{Fault, faultIf, faultUnless, firstFault}
 
 -- A number is a refusal.
-refuses : (k : ℕ) → _≡_ {A = Option ℕ} (some k) none → ⊥
+pub refuses : (k : ℕ) → _≡_ {A = Option ℕ} (some k) none → ⊥
 refuses k e = let z : _≡_ {A = ℕ} 0 1 = cc in omega arith
 
 -- Where a test that must not hold refuses nothing, it says no.

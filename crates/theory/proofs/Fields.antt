@@ -1,4 +1,4 @@
--- Fields of two bytes: what is written is read again, and what is read, written again, is the bytes.
+-- Fields of two bytes: the bytes of a list of them, that what is written is read again, and that what is read, written again, is the bytes.
 -- Assumes nothing.
 use Prim.Native.Nat.{ℕ, zero, suc, _+_, _*_, _/_, _%_, _≤_, _<_}
 use mathlib.Core.Path.{_≡_, refl, ap, ap₂, _∙_}
@@ -21,22 +21,32 @@ Bytes b = (i : ℕ) → i < length b → getD b i 0 < 256
 abbrev pub Small : List ℕ → Type 0
 Small xs = (x : ℕ) → x ∈ xs → x < 65536
 
+-- A field is two bytes.
+pub field-length : (x : ℕ) → length (u16Bytes x) ≡ 2
+unfolding u16Bytes
+field-length x = refl
+
 -- The bytes of fields, with one field more in front.
-pub u16List-cons : (x : ℕ) (xs : List ℕ) → u16List (x ∷ xs) ≡ x % 256 ∷ x / 256 % 256 ∷ u16List xs
+pub fields-cons : (x : ℕ) (xs : List ℕ) → u16List (x ∷ xs) ≡ x % 256 ∷ x / 256 % 256 ∷ u16List xs
 unfolding u16List u16Bytes flat
-u16List-cons x xs = refl
+fields-cons x xs = refl
 
 -- Fields after fields are bytes after bytes.
-pub u16List-append : (xs ys : List ℕ) → u16List (xs ++ ys) ≡ u16List xs ++ u16List ys
+pub fields-append : (xs ys : List ℕ) → u16List (xs ++ ys) ≡ u16List xs ++ u16List ys
 unfolding u16List u16Bytes flat
-u16List-append [] ys = refl
-u16List-append (x ∷ xs) ys = ap (λ l. x % 256 ∷ x / 256 % 256 ∷ l) (u16List-append xs ys)
+fields-append [] ys = refl
+fields-append (x ∷ xs) ys = ap (λ l. x % 256 ∷ x / 256 % 256 ∷ l) (fields-append xs ys)
 
--- A field is two bytes long.
-pub length-u16List : (xs : List ℕ) → length (u16List xs) ≡ 2 * length xs
+-- One field more behind fields.
+pub fields-more : (xs : List ℕ) (x : ℕ) → u16List (xs ++ (x ∷ [])) ≡ u16List xs ++ u16Bytes x
 unfolding u16List u16Bytes flat
-length-u16List [] = refl
-length-u16List (x ∷ xs) = omega (arith, length-u16List xs)
+fields-more xs x = fields-append xs (x ∷ [])
+
+-- Fields are two bytes each.
+pub fields-length : (xs : List ℕ) → length (u16List xs) ≡ 2 * length xs
+unfolding u16List u16Bytes flat
+fields-length [] = refl
+fields-length (x ∷ xs) = omega (arith, fields-length xs)
 
 -- A number that fits is its two bytes.
 low-and-high : (x : ℕ) → x < 65536 → x % 256 + 256 * (x / 256 % 256) ≡ x
@@ -53,9 +63,9 @@ u16At-past x y b p q e =
 pub read-written : (xs : List ℕ) → Small xs → (i : ℕ) → u16At (u16List xs) (2 * i) ≡ getD xs i 0
 unfolding u16At u16List flat
 read-written [] s i = refl
-read-written (x ∷ xs) s zero = rw u16List-cons (low-and-high x (s x (List·Memᴰ·head refl)))
+read-written (x ∷ xs) s zero = rw fields-cons (low-and-high x (s x (List·Memᴰ·head refl)))
 read-written (x ∷ xs) s (suc i) =
-    rw u16List-cons (u16At-past (x % 256) (x / 256 % 256) (u16List xs) (2 * i) (2 * suc i) (omega arith) ∙ read-written xs (λ y m. s y (List·Memᴰ·tail m)) i)
+    rw fields-cons (u16At-past (x % 256) (x / 256 % 256) (u16List xs) (2 * i) (2 * suc i) (omega arith) ∙ read-written xs (λ y m. s y (List·Memᴰ·tail m)) i)
 
 -- One field that is read, written again, is the two bytes where it stood.
 pub field-back : (b : List ℕ) (q m : ℕ) → Bytes b → suc q < length b → u16At b q % 256 ∷ u16At b q / 256 % 256 ∷ take m (drop (suc (suc q)) b) ≡ take (suc (suc m)) (drop q b)
@@ -72,7 +82,7 @@ written-run b p a zero by h = refl
 written-run b p a (suc n) by h =
     let e : 2 * suc n ≡ suc (suc (2 * n)) = omega arith in
     let f : p + 2 * suc a ≡ suc (suc (p + 2 * a)) = omega arith in
-    rw (u16List-cons, written-run b p (suc a) n by (omega arith), e, f) (field-back b (p + 2 * a) (2 * n) by (omega arith))
+    rw (fields-cons, written-run b p (suc a) n by (omega arith), e, f) (field-back b (p + 2 * a) (2 * n) by (omega arith))
 
 pub written-read : (b : List ℕ) (p n : ℕ) → Bytes b → p + 2 * n ≤ length b → u16List (map (λ i. u16At b (p + 2 * i)) (below n)) ≡ take (2 * n) (drop p b)
 unfolding below
