@@ -7,7 +7,8 @@ use lib.Dec.{eqb}
 use lib.ListN.{length}
 use Rattle.lists.specs.Count.{below}
 use Rattle.lists.specs.Lists.{filter}
-use Rattle.lists.proofs.Runs.{length-map-below, map-same, filter-of-map}
+use Rattle.lists.proofs.Filters.{filter-of-map}
+use Rattle.lists.proofs.Runs.{length-map-below, map-same}
 use Rattle.theory.specs.Cover.{Tree}
 use Rattle.theory.specs.CoverBytes.{treesIn, entriesIn, startIn, entryTree, entryEdge, treeIn, decode}
 use Rattle.covers.proofs.Entries.{Entry, edgesOf}

@@ -5,7 +5,7 @@ pub mod Member
 pub mod InOrder
 -- sums over appended, filtered and contained lists
 pub mod Sums
--- filters that keep nothing, and filters of two lists
+-- filters of a list that no element passes, of two lists, of a mapped list
 pub mod Filters
 -- the list without a number
 pub mod Without

@@ -2,12 +2,10 @@
 -- Assumes nothing.
 use Prim.Native.Nat.{ℕ, zero, suc, _+_, _<_}
 use mathlib.Core.Path.{_≡_, refl, ap, ap₂, _∙_}
-use mathlib.Core.Bool.{Bool, true, false, cond}
 use mathlib.Core.List.{List, [], _∷_, map, List·Memᴰ·head, List·Memᴰ·tail}
 use native.Mathlib.Omega.{arith}
 use lib.ListN.{length, getD, length-map}
 use Rattle.lists.specs.Count.{from, below}
-use Rattle.lists.specs.Lists.{filter}
 use Rattle.lists.specs.Member.{_∈_}
 
 -- A run of n numbers has n elements.
@@ -32,10 +30,11 @@ module _ {ℓ} {A : Type ℓ} (f : ℕ → A) where
   unfolding below
   map-below d xs h = map-places d xs 0 (λ i l. ap f (omega arith) ∙ h i l)
 
-  -- A mapped run is as long as the run, and what stands at a place of it.
+  -- A mapped run is as long as the run.
   pub length-map-below : (n : ℕ) → length (map f (below n)) ≡ n
   length-map-below n = length-map (below n) f ∙ length-below n
 
+  -- What stands at a place of a mapped run.
   getD-map-from : (d : A) (a n i : ℕ) → i < n → getD (map f (from a n)) i d ≡ f (a + i)
   unfolding from
   getD-map-from d a zero i h = absurd (omega arith)
@@ -51,14 +50,3 @@ module _ {ℓ κ} {A : Type ℓ} {B : Type κ} where
   pub map-same : {f h : A → B} (xs : List A) → ((x : A) → x ∈ xs → f x ≡ h x) → map f xs ≡ map h xs
   map-same [] s = refl
   map-same (x ∷ xs) s = ap₂ _∷_ (s x (List·Memᴰ·head refl)) (map-same xs (λ y m. s y (List·Memᴰ·tail m)))
-
-  -- Filtering a mapped list is mapping what the test, seen through the map, lets pass.
-  pub filter-of-map : (t : B → Bool) (f : A → B) (xs : List A) → filter t (map f xs) ≡ map f (filter (λ x. t (f x)) xs)
-  unfolding filter
-  filter-of-map t f [] = refl
-  filter-of-map t f (x ∷ xs) = go (t (f x)) (filter-of-map t f xs)
-    where
-      go : (b : Bool) → filter t (map f xs) ≡ map f (filter (λ x. t (f x)) xs)
-          → cond b (f x ∷ filter t (map f xs)) (filter t (map f xs)) ≡ map f (cond b (x ∷ filter (λ x. t (f x)) xs) (filter (λ x. t (f x)) xs))
-      go true e = ap (λ l. f x ∷ l) e
-      go false e = e
