@@ -9,9 +9,10 @@ use lib.Seq.{slice, length-slice, length-take-le, drop-append-le}
 use Rattle.lists.specs.Lists.{flat}
 use Rattle.theory.specs.Cover.{Tree}
 use Rattle.theory.specs.CoverBytes.{u16Bytes, u16List, entryTrees, entryEdges, encode}
+use Rattle.theory.proofs.Fields.{fields-length}
 use Rattle.cover.specs.Written.{Written, WrittenTo}
 use Rattle.cover.specs.Held.{heldFrom, held, EndsRise, done, next, numbersFrom, Holds, RoomFor}
-use Rattle.cover.proofs.Writing.{written-behind, field-to, written-length, fields-length}
+use Rattle.cover.proofs.Writing.{written-behind, field-to, written-length}
 use Rattle.cover.proofs.Numbering.{end-above, ends-after, end-below}
 
 module _ (edges : List ℕ) where

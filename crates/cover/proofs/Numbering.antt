@@ -1,22 +1,17 @@
 -- Tree numbers, written tree by tree: what is done, and what is left.
 -- Assumes nothing.
-use Prim.Native.Nat.{ℕ, zero, suc, _+_, _*_, _-_, _≤_, _<_}
+use Prim.Native.Nat.{ℕ, suc, _+_, _*_, _-_, _≤_, _<_}
 use mathlib.Core.Path.{_≡_, refl, sym, ap, _∙_}
 use mathlib.Core.List.{List, [], _∷_, _++_, append-assoc, append-nil}
 use native.Mathlib.Numerals.{add-one}
 use native.Mathlib.Omega.{arith}
-use lib.ListN.{length, drop, getD, replicate, length-append, length-replicate, length-drop, drop-of-length-le}
+use lib.ListN.{length, drop, getD, replicate, length-append, length-replicate, drop-of-length-le}
 use lib.Seq.{drop-cons}
-use Rattle.lists.specs.Lists.{flat}
-use Rattle.theory.specs.CoverBytes.{u16Bytes, u16List}
-use Rattle.cover.specs.Written.{Written, WrittenTo}
+use Rattle.theory.specs.CoverBytes.{u16List}
+use Rattle.theory.proofs.Fields.{fields-length, fields-append}
+use Rattle.cover.specs.Written.{WrittenTo}
 use Rattle.cover.specs.Held.{EndsRise, done, next, numbersFrom, RoomFor}
-use Rattle.cover.proofs.Writing.{written-behind, written-length, fields-length, no-fields}
-
-pub fields-append : (xs ys : List ℕ) → u16List (xs ++ ys) ≡ u16List xs ++ u16List ys
-unfolding u16List flat
-fields-append [] ys = refl
-fields-append (x ∷ xs) ys = ap (λ l. u16Bytes x ++ l) (fields-append xs ys) ∙ sym (append-assoc (u16Bytes x) (u16List xs) (u16List ys))
+use Rattle.cover.proofs.Writing.{written-behind, written-length, no-fields}
 
 -- Fields, and more fields behind them.
 pub fields-behind : {a b c : List ℕ} {at mid end : ℕ} (xs ys : List ℕ) → WrittenTo a b at (u16List xs) mid → WrittenTo b c mid (u16List ys) end

@@ -1,14 +1,15 @@
--- Bytes put one behind the other into a buffer are put there together, and fields of two bytes make up a list's bytes.
+-- Bytes put one behind the other into a buffer are put there together, and so are fields of two bytes.
 -- Assumes nothing.
-use Prim.Native.Nat.{ℕ, zero, suc, _+_, _*_, _/_, _%_, _≤_, _<_}
-use mathlib.Core.Path.{_≡_, refl, sym, ap, _∙_}
-use mathlib.Core.List.{List, [], _∷_, _++_, map, append-assoc, append-nil}
+use Prim.Native.Nat.{ℕ, _+_, _*_, _≤_, _<_}
+use mathlib.Core.Path.{_≡_, sym, ap, _∙_}
+use mathlib.Core.List.{List, [], _∷_, _++_, append-assoc}
 use native.Mathlib.Numerals.{add-one}
 use native.Mathlib.Omega.{arith}
-use lib.ListN.{length, take, drop, set, getD, replicate, replicate-append-replicate, length-append, length-drop, take-append-drop}
-use lib.Seq.{length-take-le, take-at, drop-at, drop-drop, drop-append-add, take-suc, sets-eq}
+use lib.ListN.{length, take, drop, set, replicate, replicate-append-replicate, length-append, length-drop, take-append-drop}
+use lib.Seq.{length-take-le, take-at, drop-drop, drop-append-add, sets-eq}
 use Rattle.lists.specs.Lists.{flat}
 use Rattle.theory.specs.CoverBytes.{u16Bytes, u16List}
+use Rattle.theory.proofs.Fields.{field-length, fields-length, fields-more}
 use Rattle.cover.specs.Written.{Written, WrittenTo}
 
 -- A buffer of which nothing was written.
@@ -72,24 +73,9 @@ written-behind {xs = xs} {ys = ys} v w =
       next-is = omega (arith, v .next-is, w .next-is, length-append xs ys);
     }
 
--- A field is two bytes, and a list of fields is made up of them.
-pub u16-length : (x : ℕ) → length (u16Bytes x) ≡ 2
-unfolding u16Bytes
-u16-length x = refl
-
-pub fields-length : (xs : List ℕ) → length (u16List xs) ≡ 2 * length xs
-unfolding u16List flat
-fields-length [] = refl
-fields-length (x ∷ xs) = omega (arith, length-append (u16Bytes x) (u16List xs), u16-length x, fields-length xs)
-
-pub fields-more : (xs : List ℕ) (x : ℕ) → u16List (xs ++ (x ∷ [])) ≡ u16List xs ++ u16Bytes x
-unfolding u16List flat
-fields-more [] x = append-nil (u16Bytes x)
-fields-more (y ∷ xs) x = ap (λ l. u16Bytes y ++ l) (fields-more xs x) ∙ sym (append-assoc (u16Bytes y) (u16List xs) (u16Bytes x))
-
 -- One field, with the place behind it.
 pub field-to : {a b : List ℕ} {at : ℕ} (x : ℕ) → Written a b at (u16Bytes x) → WrittenTo a b at (u16Bytes x) (at + 2)
-field-to x w = record { written = w; next-is = omega (arith, u16-length x) }
+field-to x w = record { written = w; next-is = omega (arith, field-length x) }
 
 -- One more field behind a list of them.
 pub field-behind : {a b c : List ℕ} {at next : ℕ} (xs : List ℕ) (x : ℕ) → WrittenTo a b at (u16List xs) next → Written b c next (u16Bytes x)

@@ -15,6 +15,8 @@ pub mod Lightest
 pub mod Replacing
 -- no kept edge lies on a loop
 pub mod Loops
+-- the kept edges are fewer than the vertices
+pub mod FewEdges
 -- all edges by weight, then number
 pub mod Ordering
 -- the edges within a limit, and which kept edges are among them

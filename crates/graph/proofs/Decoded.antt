@@ -1,30 +1,16 @@
 -- The graph that the bytes spell, field by field: how many edges it has, and that each edge's ends and weight are fields of the bytes.
 -- Assumes nothing.
-use Prim.Native.Nat.{ℕ, zero, suc, _+_, _≤_, _<_}
+use Prim.Native.Nat.{ℕ, _+_, _≤_, _<_}
 use mathlib.Core.Path.{_≡_, refl, sym, ap, subst, _∙_}
 use mathlib.Core.Logic.{dite}
-use mathlib.Core.List.{List, map}
-use native.Mathlib.Nat.{add-zero, zero-add, suc-add, add-suc}
+use mathlib.Core.List.{List}
 use native.Mathlib.Decide.{decLt, ℕ-discrete}
 use native.Mathlib.Omega.{arith}
-use lib.ListN.{length, getD, List·getD-eq-default}
+use lib.ListN.{length, List·getD-eq-default}
 use borrow.Author.Tests.{eq-eqb, ne-eqb}
-use Rattle.lists.specs.Count.{from, below}
+use Rattle.lists.proofs.Runs.{length-map-below, getD-map-below}
 use Rattle.graph.specs.Graph.{Edge, Graph, edgeCount, noEdge, edgeAt, oneEnd, otherEnd, weightOf}
 use Rattle.graph.specs.Bytes.{u16At, u32At, verticesIn, edgesIn, lengthFor, endsAt, weightAt, edgeIn, edgesHeld, graphOf}
-
-module _ {B : Type 0} (f : ℕ → B) where
-  -- The values of n numbers from a on: there are n of them, and that at place i is the value of a + i.
-  pub length-map-from : (a n : ℕ) → length (map f (from a n)) ≡ n
-  unfolding from
-  length-map-from a zero = refl
-  length-map-from a (suc n) = ap suc (length-map-from (suc a) n)
-
-  pub getD-map-from : (d : B) (a n i : ℕ) → i < n → getD (map f (from a n)) i d ≡ f (a + i)
-  unfolding from
-  getD-map-from d a zero i h = absurd (omega arith)
-  getD-map-from d a (suc n) zero h = rw add-zero
-  getD-map-from d a (suc n) (suc i) h = rw (add-suc, ← suc-add a i) (getD-map-from d (suc a) n i (omega arith))
 
 -- The counts: the head says how many vertices there are, and, where the length is right, how many edges.
 module _ (b : List ℕ) where
@@ -33,8 +19,8 @@ module _ (b : List ℕ) where
   vertices-head = refl
 
   held : edgeCount (graphOf b) ≡ edgesHeld b
-  unfolding graphOf below
-  held = length-map-from (edgeIn b) 0 (edgesHeld b)
+  unfolding graphOf
+  held = length-map-below (edgeIn b) (edgesHeld b)
 
   pub edges-sized : length b ≡ lengthFor (edgesIn b) → edgeCount (graphOf b) ≡ edgesIn b
   unfolding edgesHeld
@@ -59,8 +45,8 @@ module _ (b : List ℕ) (e : ℕ) (h : e < edgeCount (graphOf b)) where
   weight-within = omega (arith, sized, edges-head)
 
   pub edge-at : edgeAt (graphOf b) e ≡ edgeIn b e
-  unfolding graphOf below
-  edge-at = getD-map-from (edgeIn b) _ 0 (edgesHeld b) e (omega (arith, held b)) ∙ ap (edgeIn b) (zero-add e)
+  unfolding graphOf
+  edge-at = getD-map-below (edgeIn b) noEdge (edgesHeld b) e (omega (arith, held b))
 
   pub one-end-at : oneEnd (graphOf b) e ≡ u16At b (endsAt e)
   unfolding edgeIn

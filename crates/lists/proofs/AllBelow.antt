@@ -3,11 +3,11 @@
 use Prim.Native.Nat.{ℕ, _<_}
 use mathlib.Core.Path.{_≡_, refl, sym, ap, _∙_}
 use mathlib.Core.Bool.{Bool, true, false, _&&_}
-use mathlib.Core.List.{List, [], _∷_, List·Memᴰ·head, List·Memᴰ·tail}
+use mathlib.Core.List.{List, List·Memᴰ·head, List·Memᴰ·tail}
 use Rattle.lists.specs.Count.{below}
 use Rattle.lists.specs.Lists.{all}
 use Rattle.lists.specs.Member.{_∈_}
-use Rattle.lists.proofs.Every.{each-all}
+use Rattle.lists.proofs.Every.{all-each, each-all}
 use Rattle.lists.proofs.Below.{of-below, in-below}
 
 -- A test that says no says no with any other.
@@ -28,6 +28,10 @@ module _ (f : ℕ → Bool) (n : ℕ) where
   -- Each number below the bound passes.
   pub all-below : ((k : ℕ) → k < n → f k ≡ true) → all f (below n) ≡ true
   all-below h = each-all f (below n) (λ k m. h k (of-below n m))
+
+  -- So each does where the test says yes.
+  pub each-below : all f (below n) ≡ true → (k : ℕ) → k < n → f k ≡ true
+  each-below t k h = all-each f (below n) t (in-below n h)
 
   -- One does not.
   pub not-below : (k : ℕ) → k < n → f k ≡ false → all f (below n) ≡ false

@@ -1,45 +1,43 @@
--- Fewer numbers pass a narrower test, and strictly fewer where one number falls out.
+-- A test that passes fewer numbers below a bound counts less.
 -- Assumes nothing.
 use Prim.Native.Nat.{ℕ, zero, suc, _+_, _≤_, _<_}
 use mathlib.Core.Path.{_≡_, refl, sym, ap, _∙_}
-use mathlib.Core.Bool.{Bool, true, false, cond, false≢true}
-use mathlib.Core.Logic.{_⊎_, inl, inr}
+use mathlib.Core.Bool.{Bool, true, false, cond}
+use native.Mathlib.Decide.{ℕ-discrete}
 use native.Mathlib.Omega.{arith}
 use Rattle.lists.specs.Count.{count}
-use Rattle.lists.proofs.Below.{equal-or-not}
 
-module _ (f h : ℕ → Bool) (narrower : (k : ℕ) → f k ≡ true → h k ≡ true) where
-  at-most : (k : ℕ) → cond (f k) 1 0 ≤ cond (h k) 1 0
-  at-most k = go (f k) (h k) (narrower k)
-    where
-      go : (a b : Bool) → (a ≡ true → b ≡ true) → cond a 1 0 ≤ cond b 1 0
-      go true true t = omega arith
-      go true false t = absurd (false≢true (t refl))
-      go false true t = omega arith
-      go false false t = omega arith
-
-  -- a narrower test is passed by no more numbers
-  pub count-narrower : (n : ℕ) → count n f ≤ count n h
-  unfolding count
-  count-narrower zero = omega arith
-  count-narrower (suc n) = omega (arith, at-most n, count-narrower n)
-
-  -- and by fewer, where z passes the wider test and not the narrower one
-  pub count-fewer : (n z : ℕ) → z < n → f z ≡ false → h z ≡ true → count n f < count n h
-  unfolding count
-  count-fewer zero z below out pass = absurd (omega arith)
-  count-fewer (suc n) z below out pass = go (equal-or-not z n) (λ l. count-fewer n z l out pass)
-    where
-      go : (z ≡ n) ⊎ (z ≡ n → ⊥) → (z < n → count n f < count n h) → cond (f n) 1 0 + count n f < cond (h n) 1 0 + count n h
-      go (inl q) rest = rw (ap f (sym q) ∙ out, ap h (sym q) ∙ pass) (omega (arith, count-narrower n))
-      go (inr away) rest = omega (arith, at-most n, rest (omega arith))
-
--- at most n numbers below n pass
-pub count-bound : (f : ℕ → Bool) (n : ℕ) → count n f ≤ n
+-- No more numbers below n pass than there are.
+pub count-bounded : (n : ℕ) (f : ℕ → Bool) → count n f ≤ n
 unfolding count
-count-bound f zero = omega arith
-count-bound f (suc n) = go (f n) (count-bound f n)
+count-bounded zero f = omega arith
+count-bounded (suc n) f = go (f n) (count-bounded n f)
   where
     go : (b : Bool) → count n f ≤ n → cond b 1 0 + count n f ≤ suc n
-    go true ih = omega arith
-    go false ih = omega arith
+    go true h = omega arith
+    go false h = omega arith
+
+-- Where one test passes only what another passes, it passes no more.
+one-no-more : (a b : Bool) → (a ≡ true → b ≡ true) → cond a 1 0 ≤ cond b 1 0
+one-no-more true b h = rw (h refl) (omega arith)
+one-no-more false b h = omega arith
+
+pub count-no-more : (n : ℕ) (f h : ℕ → Bool) → ((x : ℕ) → x < n → f x ≡ true → h x ≡ true) → count n f ≤ count n h
+unfolding count
+count-no-more zero f h sub = omega arith
+count-no-more (suc n) f h sub = omega (arith, one-no-more (f n) (h n) (sub n (omega arith)), count-no-more n f h (λ x l. sub x (omega arith)))
+
+-- Where it misses a number besides, it passes fewer.
+pub count-fewer : (n : ℕ) (f h : ℕ → Bool) → ((x : ℕ) → x < n → f x ≡ true → h x ≡ true) → (c : ℕ) → c < n → f c ≡ false → h c ≡ true → count n f < count n h
+unfolding count
+count-fewer zero f h sub c l p q = absurd (omega arith)
+count-fewer (suc n) f h sub c l p q = go (ℕ-discrete c n) (λ k. count-fewer n f h (λ x m. sub x (omega arith)) c k p q)
+  where
+    go : Dec (c ≡ n) → (c < n → count n f < count n h) → cond (f n) 1 0 + count n f < cond (h n) 1 0 + count n h
+    go (yes e) ih = rw (ap f (sym e) ∙ p, ap h (sym e) ∙ q) (omega (arith, count-no-more n f h (λ x m. sub x (omega arith))))
+    go (no e) ih = omega (arith, one-no-more (f n) (h n) (sub n (omega arith)), ih (omega arith))
+
+-- A number that passes counts.
+pub count-some : (n : ℕ) (f : ℕ → Bool) (c : ℕ) → c < n → f c ≡ true → 1 ≤ count n f
+unfolding count
+count-some n f c l p = omega (arith, count-fewer n (λ x. false) f (λ x m q. absurd (mathlib.Core.Bool.false≢true q)) c l refl p)

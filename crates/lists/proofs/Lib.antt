@@ -5,7 +5,7 @@ pub mod Member
 pub mod InOrder
 -- sums over appended, filtered and contained lists
 pub mod Sums
--- filters that keep nothing
+-- filters of a list that no element passes, of two lists, of a mapped list
 pub mod Filters
 -- the first element that passes a test
 pub mod First
@@ -17,6 +17,10 @@ pub mod Middle
 pub mod Sorting
 -- the numbers below a bound
 pub mod Below
+-- lists written place by place along a run of numbers
+pub mod Runs
+-- a test that passes fewer numbers counts less
+pub mod Fewer
 -- the tests `all`, `&&` and `||`
 pub mod Every
 -- a test over all numbers below a bound
@@ -29,5 +33,3 @@ pub mod SameTimes
 pub mod FlatMap
 -- some number below a bound passes a test
 pub mod AnyBelow
--- fewer numbers pass a narrower test
-pub mod Fewer

@@ -11,7 +11,7 @@ use Rattle.lists.specs.Count.{count}
 use Rattle.lists.specs.Lists.{member}
 use Rattle.lists.specs.Member.{_∈_}
 use Rattle.lists.proofs.Member.{in-member, member-out, out-member}
-use Rattle.lists.proofs.Fewer.{count-narrower, count-fewer, count-bound}
+use Rattle.lists.proofs.Fewer.{count-no-more, count-fewer, count-bounded}
 use Rattle.graph.specs.Graph.{Graph, oneEnd, otherEnd}
 use Rattle.theory.specs.Walk.{Joins, onward, back}
 use Rattle.theory.specs.Grow.{branch, Grown, farEnd, leadsOn, growChildren, growNode}
@@ -37,12 +37,12 @@ module _ (g : Graph) where
   -- With more passed no more are unpassed, and one fewer with one more.
   unpassed-more : (passed more : List ℕ) → ((x : ℕ) → x ∈ passed → x ∈ more) → unpassed g more ≤ unpassed g passed
   unfolding unpassed
-  unpassed-more passed more sub = count-narrower (λ v. not (member v more)) (λ v. not (member v passed)) (narrower passed more sub) (g .vertices)
+  unpassed-more passed more sub = count-no-more (g .vertices) (λ v. not (member v more)) (λ v. not (member v passed)) (λ v _. narrower passed more sub v)
 
   pub unpassed-fewer : (c : ℕ) (passed : List ℕ) → c < g .vertices → (c ∈ passed → ⊥) → unpassed g (c ∷ passed) < unpassed g passed
   unfolding unpassed
   unpassed-fewer c passed inside new =
-      count-fewer (λ v. not (member v (c ∷ passed))) (λ v. not (member v passed)) (narrower passed (c ∷ passed) (λ x m. List·Memᴰ·tail m)) (g .vertices) c inside
+      count-fewer (g .vertices) (λ v. not (member v (c ∷ passed))) (λ v. not (member v passed)) (λ v _. narrower passed (c ∷ passed) (λ x m. List·Memᴰ·tail m) v) c inside
       (rw (in-member {v = c} {xs = c ∷ passed} (List·Memᴰ·head refl))) (out-member c passed new)
 
   -- Where one vertex was passed, fewer than all are unpassed.
@@ -51,7 +51,7 @@ module _ (g : Graph) where
   unpassed-below c passed inside =
       let test : ℕ → Bool = λ v. not (member v (c ∷ passed)) in
       let all : ℕ → Bool = λ _. true in
-      omega (arith, count-bound all (g .vertices), count-fewer test all (λ _ _. refl) (g .vertices) c inside (rw (in-member {v = c} {xs = c ∷ passed} (List·Memᴰ·head refl))) refl)
+      omega (arith, count-bounded (g .vertices) all, count-fewer (g .vertices) test all (λ _ _ _. refl) c inside (rw (in-member {v = c} {xs = c ∷ passed} (List·Memᴰ·head refl))) refl)
 
 -- The children of v among the edges es are grown: what is newly passed is finished, and so is v itself along es.
 record Done (g : Graph) (edges : List ℕ) (v : ℕ) (es before after : List ℕ) : Type 0 where

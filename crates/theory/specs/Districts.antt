@@ -75,7 +75,7 @@ unfolding headD
     Bytes.u16At Bytes.u32At Bytes.edgeIn Bytes.edgesHeld Bytes.graphOf Check.checkEdge Check.checkEdges Check.checkOf
     Assignable.assignable
     Walk.totalWeight Cover.treeWeight Cover.heaviest
-    CoverBytes.treesIn CoverBytes.entriesIn CoverBytes.startIn CoverBytes.entryTree CoverBytes.entryEdge CoverBytes.coverLength CoverBytes.treeIn CoverBytes.decode
+    CoverBytes.treeIn CoverBytes.decode
     Order.comesBefore Order.ordered Order.light
     Labels.joined Labels.endsJoined Labels.apart Labels.together Labels.merge Labels.mergeEdge Labels.mergeAll
     Forest.keep Forest.forest Forest.labelsAt Forest.unjoined Forest.lowest
