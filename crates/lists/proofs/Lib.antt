@@ -33,3 +33,7 @@ pub mod SameTimes
 pub mod FlatMap
 -- some number below a bound passes a test
 pub mod AnyBelow
+-- values at the numbers below a bound, one more at a time
+pub mod Numbered
+-- segments of a list, and runs of stores
+pub mod Stores

@@ -1,0 +1,107 @@
+-- Labels in an array: the roots' at the start, and those after two vertices are joined.
+-- Assumes nothing.
+use Prim.Native.Nat.{ℕ, _+_, _≤_, _<_}
+use mathlib.Core.Path.{_≡_, refl, sym, ap, _∙_}
+use mathlib.Core.Bool.{true, false, cond, false≢true}
+use mathlib.Core.List.{List, [], _∷_, headD}
+use native.Mathlib.Omega.{arith}
+use lib.ListN.{length, getD, drop, set, length-set}
+use lib.Seq.{getD-set-same, getD-set-other, drop-set-lt}
+use lib.Dec.{eqb}
+use borrow.Author.Count.{below-none, below-more}
+use borrow.Author.Tests.{eq-eqb, ne-eqb}
+use Rattle.lists.specs.Lists.{any, member}
+use Rattle.theory.specs.Labels.{Labels, merge, together}
+use Rattle.forest.specs.Arrays.{Agrees}
+use Rattle.forest.specs.Labelled.{Started, Merged}
+use Rattle.forest.proofs.Rest.{rest-next, rest-none}
+
+-- Whether v stands in a list, from a place on.
+module _ (v : ℕ) (list : List ℕ) (i : ℕ) where
+  pub stands-here : i < length list → getD list i 0 ≡ v → member v (drop i list) ≡ true
+  unfolding member any
+  stands-here h q = rw (rest-next list i h, eq-eqb v (getD list i 0) (sym q))
+
+  pub stands-later : i < length list → (getD list i 0 ≡ v → ⊥) → member v (drop i list) ≡ member v (drop (i + 1) list)
+  unfolding member any
+  stands-later h d = rw (rest-next list i h, ne-eqb v (getD list i 0) (λ q. d (sym q)))
+
+  pub stands-nowhere : length list ≤ i → member v (drop i list) ≡ false
+  unfolding member any
+  stands-nowhere h = rw (rest-none list i h)
+
+-- The label of a root at the start is the first root, and that of another vertex its own.
+pub root-some : (v : ℕ) (roots : List ℕ) → member v roots ≡ true → 0 < length roots
+unfolding member any
+root-some v [] t = absurd (false≢true t)
+root-some v (r ∷ roots) t = omega arith
+
+pub root-label : (v : ℕ) (roots : List ℕ) → member v roots ≡ true → getD roots 0 0 ≡ together roots v
+unfolding together member any headD
+root-label v [] t = absurd (false≢true t)
+root-label v (r ∷ roots) t = rw t
+
+pub own-label : (v : ℕ) (roots : List ℕ) → member v roots ≡ false → v ≡ together roots v
+unfolding together
+own-label v roots t = rw t
+
+-- One label more: the array agrees below x, and x's label is stored.
+pub agrees-more : (label : Labels) (array : List ℕ) (x y : ℕ) → x < length array → Agrees x array label → y ≡ label x
+    → Agrees (x + 1) (set array x y) label
+agrees-more label array x y h agrees q =
+    below-more _ x
+    (λ k l. getD-set-other array x k y 0 (omega arith) ∙ agrees k l)
+    (getD-set-same array x y 0 h ∙ q)
+
+-- Below x the labels of the start are stored, and nothing past the n vertices changed.
+pub record Starting (roots : List ℕ) (n x : ℕ) (before after : List ℕ) : Type 0 where
+  pub labels : Agrees x after (together roots)
+  pub rest : drop n after ≡ drop n before
+  pub same : length after ≡ length before
+
+module _ {roots : List ℕ} {n : ℕ} where
+  pub starting-none : (before : List ℕ) → Starting roots n 0 before before
+  starting-none before = record { labels = below-none _; rest = refl; same = refl }
+
+  module _ {x : ℕ} {before after : List ℕ} (s : Starting roots n x before after) where
+    pub starting-more : {y : ℕ} → x < n → n ≤ length before → y ≡ together roots x → Starting roots n (x + 1) before (set after x y)
+    starting-more {y} h room q =
+        record {
+          labels = agrees-more (together roots) after x y (omega arith) (s .labels) q;
+          rest = drop-set-lt n after x y h ∙ s .rest;
+          same = length-set after x y ∙ s .same;
+        }
+
+    pub starting-all : n ≤ x → Started roots n before after
+    starting-all h = record { labels = λ v l. s .labels v (omega arith); rest = s .rest }
+
+-- Below x the labels are merged, and from x on they are as they were.
+pub record Merging (n u v x : ℕ) (before after : List ℕ) : Type 0 where
+  pub labels : (label : Labels) → Agrees n before label → Agrees x after (merge label u v)
+  pub ahead : (k : ℕ) → x ≤ k → getD after k 0 ≡ getD before k 0
+  pub rest : drop n after ≡ drop n before
+  pub same : length after ≡ length before
+
+module _ {n u v : ℕ} where
+  pub merging-none : (before : List ℕ) → Merging n u v 0 before before
+  merging-none before = record { labels = λ label a. below-none _; ahead = λ k l. refl; rest = refl; same = refl }
+
+  module _ {x : ℕ} {before after : List ℕ} (m : Merging n u v x before after) where
+    merged-label : (label : Labels) → u < n → v < n → x < n → Agrees n before label
+        → cond (eqb (getD after x 0) (getD before v 0)) (getD before u 0) (getD after x 0) ≡ merge label u v x
+    unfolding merge
+    merged-label label hu hv hx a = rw (m .ahead x (omega arith), a x hx, a u hu, a v hv)
+
+    pub merging-more : {y : ℕ} → u < n → v < n → n ≤ length before → x < n
+        → y ≡ cond (eqb (getD after x 0) (getD before v 0)) (getD before u 0) (getD after x 0)
+        → Merging n u v (x + 1) before (set after x y)
+    merging-more {y} hu hv room hx q =
+        record {
+          labels = λ label a. agrees-more (merge label u v) after x y (omega arith) (m .labels label a) (q ∙ merged-label label hu hv hx a);
+          ahead = λ k l. getD-set-other after x k y 0 (omega arith) ∙ m .ahead k (omega arith);
+          rest = drop-set-lt n after x y hx ∙ m .rest;
+          same = length-set after x y ∙ m .same;
+        }
+
+    pub merging-all : n ≤ x → Merged n u v before after
+    merging-all h = record { labels = λ label a k l. m .labels label a k (omega arith); rest = m .rest }

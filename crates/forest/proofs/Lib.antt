@@ -1,0 +1,19 @@
+-- Laws that belong to no one function, in reading order.
+-- what is left of a list from a place on
+pub mod Rest
+-- a list written to the front of an array, element by element
+pub mod Writing
+-- labels in an array
+pub mod Labelling
+-- the lowest vertices, vertex by vertex
+pub mod Looking
+-- the edges within a limit, edge by edge
+pub mod Sifting
+-- which of two edges comes first
+pub mod Comparing
+-- a sorted list is its sorted halves merged
+pub mod Halves
+-- edges kept one after the other
+pub mod Taking
+-- two lists merged, element by element
+pub mod Interleaving

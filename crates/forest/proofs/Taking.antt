@@ -1,0 +1,149 @@
+-- Edges taken one after the other: what is kept, and the labels, from a place of the list on.
+-- Assumes nothing.
+use Prim.Native.Nat.{ℕ, _+_, _≤_, _<_}
+use mathlib.Core.Path.{_≡_, refl, sym, ap, _∙_}
+use mathlib.Core.Bool.{Bool, true, false, not}
+use mathlib.Core.List.{List, [], _∷_}
+use native.Mathlib.Omega.{arith}
+use lib.ListN.{length, getD, drop, set, length-set}
+use borrow.Author.Tests.{not-true, not-false, eqb-true, eqb-false, eq-eqb, ne-eqb}
+use Rattle.graph.specs.Graph.{Graph, oneEnd, otherEnd}
+use Rattle.theory.specs.Labels.{Labels, joined, endsJoined, mergeEdge, mergeAll}
+use Rattle.theory.specs.Forest.{keep}
+use Rattle.forests.proofs.Merging.{edge-joined}
+use Rattle.forests.proofs.Keeping.{keep-joined, keep-apart}
+use Rattle.forest.specs.Arrays.{Agrees, Wrote}
+use Rattle.forest.specs.Labelled.{Merged, Joined}
+use Rattle.forest.specs.Keeping.{Kept}
+use Rattle.forest.proofs.Rest.{rest-next, rest-none}
+use Rattle.forest.proofs.Writing.{Writing, writing-none, writing-same, writing-more, writing-all}
+
+-- The ends of an edge are joined: where they are already, no label changes, and otherwise the labels are merged.
+module _ (g : Graph) (e : ℕ) (before : List ℕ) (hu : oneEnd g e < g .vertices) (hv : otherEnd g e < g .vertices) where
+  abbrev u : ℕ
+  u = oneEnd g e
+
+  abbrev v : ℕ
+  v = otherEnd g e
+
+  module _ (label : Labels) (a : Agrees (g .vertices) before label) where
+    ends-same : getD before u 0 ≡ getD before v 0 → label u ≡ label v
+    ends-same q = sym (a u hu) ∙ q ∙ a v hv
+
+    ends-other : (getD before u 0 ≡ getD before v 0 → ⊥) → label u ≡ label v → ⊥
+    ends-other d q = d (a u hu ∙ q ∙ sym (a v hv))
+
+  pub joined-already : getD before u 0 ≡ getD before v 0 → Joined g e before before false
+  unfolding endsJoined joined
+  joined-already q =
+      record {
+        new = λ label a. ap not (sym (eq-eqb (label u) (label v) (ends-same label a q)));
+        labels = λ label a. rw (edge-joined g label e (ends-same label a q)) a;
+        rest = refl;
+      }
+
+  pub joined-now : {after : List ℕ} → (getD before u 0 ≡ getD before v 0 → ⊥) → Merged (g .vertices) u v before after → Joined g e before after true
+  unfolding endsJoined joined mergeEdge
+  joined-now d m =
+      record {
+        new = λ label a. ap not (sym (ne-eqb (label u) (label v) (ends-other label a d)));
+        labels = m .labels;
+        rest = m .rest;
+      }
+
+-- From labels on entry: the labels now, what is still to be kept, and the labels that all edges make.
+pub record TakingFrom (g : Graph) (edges : List ℕ) (i : ℕ) (label₁ kept₀ kept₁ : List ℕ) (r : ℕ) (label : Labels) : Type 0 where
+  pub here : Labels
+  pub agrees : Agrees (g .vertices) label₁ here
+  pub writing : Writing (keep g label edges) (keep g here (drop i edges)) kept₀ kept₁ r
+  pub merged : mergeAll g label edges ≡ mergeAll g here (drop i edges)
+
+-- The edges before i were taken.
+pub record Taking (g : Graph) (edges : List ℕ) (i : ℕ) (label₀ label₁ kept₀ kept₁ : List ℕ) (r : ℕ) : Type 0 where
+  pub few : r ≤ i
+  pub labels-same : length label₁ ≡ length label₀
+  pub kept-same : length kept₁ ≡ length kept₀
+  pub rest : drop (g .vertices) label₁ ≡ drop (g .vertices) label₀
+  pub going : (label : Labels) → Agrees (g .vertices) label₀ label → TakingFrom g edges i label₁ kept₀ kept₁ r label
+
+module _ {g : Graph} {edges : List ℕ} where
+  pub taking-none : (label kept : List ℕ) → Taking g edges 0 label label kept kept 0
+  taking-none array kept =
+      record {
+        few = omega arith;
+        labels-same = refl;
+        kept-same = refl;
+        rest = refl;
+        going = λ label a. record { here = label; agrees = a; writing = writing-none kept; merged = refl };
+      }
+
+  module _ {i : ℕ} {label₀ label₁ kept₀ kept₁ : List ℕ} {r : ℕ} (t : Taking g edges i label₀ label₁ kept₀ kept₁ r) where
+    module _ (h : i < length edges) where
+      abbrev edge : ℕ
+      edge = getD edges i 0
+
+      -- the labels that all edges make, after this one is joined
+      merged-on : (here : Labels) → mergeAll g here (drop i edges) ≡ mergeAll g (mergeEdge g here edge) (drop (i + 1) edges)
+      unfolding mergeAll
+      merged-on here = rw (rest-next edges i h)
+
+      -- the edge's ends, as the answer says
+      module _ {label₂ : List ℕ} (same : length label₂ ≡ length label₁) where
+        pub taking-passed : Joined g edge label₁ label₂ false → Taking g edges (i + 1) label₀ label₂ kept₀ kept₁ r
+        unfolding endsJoined joined
+        taking-passed j =
+            record {
+              few = omega arith;
+              labels-same = same ∙ t .labels-same;
+              kept-same = t .kept-same;
+              rest = j .rest ∙ t .rest;
+              going =
+                  λ label a.
+                  let f = t .going label a in
+                  let here = f .here in
+                  let q : here (oneEnd g edge) ≡ here (otherEnd g edge) = eqb-true (here (oneEnd g edge)) (here (otherEnd g edge)) (not-false _ (sym (j .new here (f .agrees)))) in
+                  record {
+                    here = mergeEdge g here edge;
+                    agrees = j .labels here (f .agrees);
+                    writing =
+                        writing-same (f .writing)
+                        (ap (keep g here) (rest-next edges i h)
+                        ∙ keep-joined g here edge (drop (i + 1) edges) q
+                        ∙ ap (λ (l : Labels). keep g l (drop (i + 1) edges)) (sym (edge-joined g here edge q)));
+                    merged = f .merged ∙ merged-on here;
+                  };
+            }
+
+        pub taking-more : Joined g edge label₁ label₂ true → r < length kept₁ → Taking g edges (i + 1) label₀ label₂ kept₀ (set kept₁ r edge) (r + 1)
+        unfolding endsJoined joined
+        taking-more j room =
+            record {
+              few = omega arith;
+              labels-same = same ∙ t .labels-same;
+              kept-same = length-set kept₁ r edge ∙ t .kept-same;
+              rest = j .rest ∙ t .rest;
+              going =
+                  λ label a.
+                  let f = t .going label a in
+                  let here = f .here in
+                  let d : here (oneEnd g edge) ≡ here (otherEnd g edge) → ⊥ = eqb-false (here (oneEnd g edge)) (here (otherEnd g edge)) (not-true _ (sym (j .new here (f .agrees)))) in
+                  record {
+                    here = mergeEdge g here edge;
+                    agrees = j .labels here (f .agrees);
+                    writing =
+                        writing-more (f .writing)
+                        (ap (keep g here) (rest-next edges i h) ∙ keep-apart g here edge (drop (i + 1) edges) d)
+                        room;
+                    merged = f .merged ∙ merged-on here;
+                  };
+            }
+
+    pub taking-all : length edges ≤ i → i ≤ length edges → Kept g edges label₀ label₁ kept₀ kept₁ r
+    unfolding keep mergeAll
+    taking-all h k =
+        record {
+          edges-are = λ label a. let f = t .going label a in writing-all (f .writing) (ap (keep g (f .here)) (rest-none edges i h));
+          labels = λ label a. let f = t .going label a in rw (f .merged ∙ ap (mergeAll g (f .here)) (rest-none edges i h)) (f .agrees);
+          rest = t .rest;
+          few = omega arith;
+        }

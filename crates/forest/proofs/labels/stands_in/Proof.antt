@@ -1,0 +1,69 @@
+-- `forest::labels::stands_in` meets its contract. The loop's invariant: v stands in the list exactly where it stands in what is left of it.
+-- The measure is what is left of the length. Assumes nothing.
+use Prim.Native.Nat.{_-_}
+use mathlib.Core.Path.{_≡_, refl, sym, _∙_}
+use native.Mathlib.Omega.{arith}
+use lib.ListN.{length, drop}
+use borrow.Author.Needs.{needs}
+use Rattle.lists.specs.Lists.{member}
+use Rattle.forest.proofs.Labelling.{stands-here, stands-later, stands-nowhere}
+use Rattle.forest.proofs.labels.stands_in.Statement.{statement}
+use Rattle.forest.proofs.labels.stands_in.Tie as tie
+
+abbrev Inv-loop : tie.InvT-loop
+Inv-loop list v i₀ i = member v list ≡ member v (drop i list)
+
+abbrev μ-loop : tie.MeasureT-loop
+μ-loop list v i₀ i = length list - i
+
+loop-holds : tie.Need-loop-holds Inv-loop μ-loop
+loop-holds c = refl
+
+mul-wide : tie.Need-mul-wide Inv-loop μ-loop
+mul-wide c = search needs
+
+shared-slice-read-wide : tie.Need-shared-slice-read-wide Inv-loop μ-loop
+shared-slice-read-wide c = search needs
+
+wide-requires : tie.Need-wide-requires Inv-loop μ-loop
+wide-requires c κs = search needs
+
+returns : tie.Need-returns Inv-loop μ-loop
+returns c =
+    let a = c .before .before .before .before .before .before .args in
+    let at = c .before .before .before .before .loop in
+    sym (at .inv ∙ stands-here (a .v) (a .list .now) (at .i) (omega arith) (omega arith))
+
+add-i : tie.Need-add-i Inv-loop μ-loop
+add-i c = search needs
+
+loop-less : tie.Need-loop-less Inv-loop μ-loop
+loop-less c = search needs
+
+loop-again : tie.Need-loop-again Inv-loop μ-loop
+loop-again c =
+    let a = c .before .before .before .before .before .before .args in
+    let at = c .before .before .before .before .loop in
+    at .inv ∙ stands-later (a .v) (a .list .now) (at .i) (omega arith) (omega arith)
+
+returns-2 : tie.Need-returns-2 Inv-loop μ-loop
+returns-2 c =
+    let a = c .before .before .before .args in
+    let at = c .before .loop in
+    sym (at .inv ∙ stands-nowhere (a .v) (a .list .now) (at .i) (omega arith))
+
+pub stands-in-spec : {M : Type 1} → statement M
+stands-in-spec =
+    tie.close
+    (tie.spec
+    Inv-loop
+    μ-loop
+    loop-holds
+    mul-wide
+    shared-slice-read-wide
+    wide-requires
+    returns
+    add-i
+    loop-less
+    loop-again
+    returns-2)

@@ -1,0 +1,30 @@
+-- What keeping edges asks of the lent arrays, and what it leaves in them (document 01, step 2).
+-- Assumes nothing.
+use Prim.Native.Nat.{ℕ, _≤_}
+use mathlib.Core.Path.{_≡_}
+use mathlib.Core.List.{List}
+use lib.ListN.{length, drop}
+use Rattle.graph.specs.Graph.{Graph}
+use Rattle.graph.specs.Bytes.{graphOf}
+use Rattle.graph.specs.Valid.{IsGraph}
+use Rattle.theory.specs.Labels.{Labels, mergeAll}
+use Rattle.theory.specs.Forest.{keep}
+use Rattle.forest.specs.Arrays.{Agrees, Wrote}
+
+-- The bytes are a graph's, and the array has a place for each vertex's label.
+pub record Labelable (b label : List ℕ) : Type 0 where
+  pub graph : IsGraph b
+  pub room : graphOf b .vertices ≤ length label
+
+-- There is room for all edges besides.
+pub record Keepable (b edges label kept : List ℕ) : Type 0 where
+  pub labelable : Labelable b label
+  pub room : length edges ≤ length kept
+
+-- Whatever labels the array held: the r edges written are those "whose ends are not yet joined", and the ends of all edges are joined.
+-- Elements past the vertices and past the edges written are as they came.
+pub record Kept (g : Graph) (edges label₀ label₁ kept₀ kept₁ : List ℕ) (r : ℕ) : Type 0 where
+  pub edges-are : (label : Labels) → Agrees (g .vertices) label₀ label → Wrote (keep g label edges) kept₀ kept₁ r
+  pub labels : (label : Labels) → Agrees (g .vertices) label₀ label → Agrees (g .vertices) label₁ (mergeAll g label edges)
+  pub rest : drop (g .vertices) label₁ ≡ drop (g .vertices) label₀
+  pub few : r ≤ length edges

@@ -1,0 +1,39 @@
+-- The values of a function at the numbers below a bound, one more at a time.
+-- Assumes nothing.
+use Prim.Native.Nat.{ℕ, zero, suc, _+_, _<_}
+use mathlib.Core.Path.{_≡_, refl, sym, ap, _∙_}
+use mathlib.Core.List.{List, [], _∷_, _++_, map, map-append}
+use native.Mathlib.Nat.{add-zero, zero-add, add-suc, suc-add}
+use native.Mathlib.Numerals.{add-one}
+use native.Mathlib.Omega.{arith}
+use Rattle.lists.specs.Count.{from, below}
+
+-- one more number, at the end
+from-snoc : (a n : ℕ) → from a (suc n) ≡ from a n ++ ((a + n) ∷ [])
+unfolding from
+from-snoc a zero = rw add-zero
+from-snoc a (suc n) = rw (add-suc, ← suc-add a n) (ap {B = List ℕ} (λ r. a ∷ r) (from-snoc (suc a) n))
+
+module _ {A : Type 0} (f g : ℕ → A) where
+  map-from-same : (a n : ℕ) → ((i : ℕ) → i < a + n → g i ≡ f i) → map g (from a n) ≡ map f (from a n)
+  unfolding from
+  map-from-same a zero h = refl
+  map-from-same a (suc n) h =
+      let x : g a ≡ f a = h a (omega arith) in
+      let r : map g (from (suc a) n) ≡ map f (from (suc a) n) = map-from-same (suc a) n (λ i l. h i (omega arith)) in
+      cc
+
+  -- functions that agree below the bound have the same values there
+  pub map-below-same : (n : ℕ) → ((i : ℕ) → i < n → g i ≡ f i) → map g (below n) ≡ map f (below n)
+  unfolding below
+  map-below-same n h = map-from-same 0 n (λ i l. h i (omega arith))
+
+  -- one more value, at the end
+  pub map-below-more : (n : ℕ) (x : A) → ((i : ℕ) → i < n → g i ≡ f i) → g n ≡ x → map g (below (n + 1)) ≡ map f (below n) ++ (x ∷ [])
+  unfolding below
+  map-below-more n x h q =
+      let s : from 0 (n + 1) ≡ from 0 n ++ (n ∷ []) = ap (from 0) (add-one n) ∙ from-snoc 0 n ∙ ap (λ (k : ℕ). from 0 n ++ (k ∷ [])) (zero-add n) in
+      ap (map g) s
+      ∙ map-append g (from 0 n) (n ∷ [])
+      ∙ ap (λ (l : List A). l ++ (g n ∷ [])) (map-below-same n h)
+      ∙ ap (λ (y : A). map f (from 0 n) ++ (y ∷ [])) q

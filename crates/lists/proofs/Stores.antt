@@ -1,0 +1,44 @@
+-- A run of stores into a list: what stands before it, what it stored, and what stands behind it. Segments of a list.
+-- Assumes nothing.
+use Prim.Native.Nat.{ℕ, zero, suc, _+_, _≤_, _<_}
+use mathlib.Core.Path.{_≡_, refl, sym, ap, _∙_}
+use mathlib.Core.List.{List, [], _∷_, _++_, append-assoc}
+use native.Mathlib.Omega.{arith}
+use lib.ListN.{length, take, drop, getD, set, length-append, take-append-drop}
+use lib.Seq.{sets, sets-eq, slice, take-at, drop-at, take-take, drop-append-le, length-take-le, getD-set-other}
+
+module _ {A : Type 0} where
+  -- the elements up to c are those up to b, then those from b to c
+  take-slice : (b c : ℕ) (l : List A) → b ≤ c → take c l ≡ take b l ++ slice b c l
+  take-slice b c l h = sym (take-append-drop b (take c l)) ∙ ap (λ (x : List A). x ++ slice b c l) (take-take b c l h)
+
+  -- two segments that meet
+  pub slice-join : (a b c : ℕ) (l : List A) → a ≤ b → b ≤ c → b ≤ length l → slice a c l ≡ slice a b l ++ slice b c l
+  slice-join a b c l h k m =
+      ap (drop a) (take-slice b c l k) ∙ drop-append-le a (take b l) (slice b c l) (omega (arith, length-take-le b l m))
+
+  -- lists that begin alike have the same segments there
+  pub slice-same : (a b c : ℕ) (l m : List A) → b ≤ c → take c l ≡ take c m → slice a b l ≡ slice a b m
+  slice-same a b c l m h q = ap (drop a) (sym (take-take b c l h) ∙ ap (take b) q ∙ take-take b c m h)
+
+  module _ (l : List A) (i : ℕ) (vs : List A) (h : i + length vs ≤ length l) where
+    stored-length : length (take i l) ≡ i
+    stored-length = length-take-le i l (omega arith)
+
+    -- before a run of stores
+    pub take-sets : take i (sets l i vs) ≡ take i l
+    take-sets = ap (take i) (sets-eq vs l i h ∙ append-assoc (take i l) vs (drop (i + length vs) l)) ∙ take-at (take i l) _ i stored-length
+
+    -- what was stored
+    pub slice-sets : slice i (i + length vs) (sets l i vs) ≡ vs
+    slice-sets =
+        let p : length (take i l ++ vs) ≡ i + length vs = length-append (take i l) vs ∙ ap (λ (k : ℕ). k + length vs) stored-length in
+        ap (slice i (i + length vs)) (sets-eq vs l i h)
+        ∙ ap (drop i) (take-at (take i l ++ vs) (drop (i + length vs) l) (i + length vs) p)
+        ∙ drop-at (take i l) vs i stored-length
+
+  -- behind a run of stores
+  pub getD-sets-past : (l : List A) (i : ℕ) (vs : List A) (j : ℕ) (d : A) → i + length vs ≤ j → getD (sets l i vs) j d ≡ getD l j d
+  getD-sets-past l i [] j d h = refl
+  getD-sets-past l i (x ∷ vs) j d h =
+      getD-sets-past (set l i x) (suc i) vs j d (omega arith) ∙ getD-set-other l i j x d (omega arith)
