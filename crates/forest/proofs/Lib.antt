@@ -5,6 +5,8 @@ pub mod Rest
 pub mod Writing
 -- labels in an array
 pub mod Labelling
+-- edges kept one after the other
+pub mod Taking
 -- the lowest vertices, vertex by vertex
 pub mod Looking
 -- the edges within a limit, edge by edge
@@ -13,7 +15,5 @@ pub mod Sifting
 pub mod Comparing
 -- a sorted list is its sorted halves merged
 pub mod Halves
--- edges kept one after the other
-pub mod Taking
 -- two lists merged, element by element
 pub mod Interleaving

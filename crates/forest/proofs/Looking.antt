@@ -2,19 +2,17 @@
 -- Assumes nothing.
 use Prim.Native.Nat.{ℕ, _+_, _-_, _≤_, _<_}
 use mathlib.Core.Path.{_≡_, refl, sym, ap, _∙_}
-use mathlib.Core.Bool.{Bool, true, false, not, _||_}
-use mathlib.Core.List.{List, [], headD}
-use mathlib.Core.Option.{Option, some, none}
+use mathlib.Core.Bool.{Bool, true, false, not}
+use mathlib.Core.List.{List}
+use mathlib.Core.Option.{Option}
 use native.Mathlib.Omega.{arith}
 use lib.ListN.{length, getD, set, length-set}
-use lib.Dec.{eqb}
 use borrow.Author.Tests.{eq-eqb, ne-eqb}
-use Rattle.lists.specs.Count.{anyBelow, below}
+use Rattle.lists.specs.Count.{anyBelow}
 use Rattle.lists.specs.Lists.{filter, firstThat}
-use Rattle.graph.specs.Graph.{Graph}
 use Rattle.theory.specs.Labels.{Labels, joined}
 use Rattle.theory.specs.Forest.{unjoined, lowest}
-use Rattle.forest.specs.Arrays.{Agrees, Wrote}
+use Rattle.forest.specs.Arrays.{Agrees}
 use Rattle.forest.specs.Lowest.{vertexIn, Unjoined, JoinedBelow, Components}
 use Rattle.forest.specs.declared.lowest.Found.{Found}
 use Rattle.forest.proofs.Rest.{numbersFrom, numbers-all, numbers-next, numbers-none, filter-taken, filter-passed, any-below-next}
@@ -102,13 +100,14 @@ isLowest label v = not (anyBelow v (λ u. joined label u v))
 -- The lowest vertices below v were written, and those from v on are left.
 pub record Listing (array : List ℕ) (n v : ℕ) (before after : List ℕ) (r : ℕ) : Type 0 where
   pub few : r ≤ v
+  pub within : v ≤ n
   pub same : length after ≡ length before
   pub writing : (label : Labels) → Agrees n array label
       → Writing (filter (isLowest label) (numbersFrom n 0)) (filter (isLowest label) (numbersFrom n v)) before after r
 
 module _ {array : List ℕ} {n : ℕ} where
   pub listing-none : (before : List ℕ) → Listing array n 0 before before 0
-  listing-none before = record { few = omega arith; same = refl; writing = λ label a. writing-none before }
+  listing-none before = record { few = omega arith; within = omega arith; same = refl; writing = λ label a. writing-none before }
 
   module _ {v : ℕ} {before after : List ℕ} {r : ℕ} (l : Listing array n v before after r) where
     module _ (h : v < n) where
@@ -116,6 +115,7 @@ module _ {array : List ℕ} {n : ℕ} where
       listing-passed j =
           record {
             few = omega arith;
+            within = omega arith;
             same = l .same;
             writing = λ label a. writing-same (l .writing label a) (filter-passed (isLowest label) (numbers-next n v h) (ap not (sym (j .is n label h a))));
           }
@@ -124,6 +124,7 @@ module _ {array : List ℕ} {n : ℕ} where
       listing-more j room =
           record {
             few = omega arith;
+            within = omega arith;
             same = length-set after r v ∙ l .same;
             writing = λ label a. writing-more (l .writing label a) (filter-taken (isLowest label) (numbers-next n v h) (ap not (sym (j .is n label h a)))) room;
           }
@@ -132,5 +133,6 @@ module _ {array : List ℕ} {n : ℕ} where
     unfolding lowest filter
     listing-all h =
         record {
+          few = omega arith;
           are = λ g label vertices a. rw (vertices, numbers-all n) (writing-all (l .writing label a) (rw (numbers-none n v h)));
         }

@@ -1,7 +1,7 @@
 -- What is left from a place on: of a list, of the numbers below a bound, and of those that pass a test.
 -- Assumes nothing.
 use Prim.Native.Nat.{ℕ, zero, suc, _+_, _-_, _≤_, _<_}
-use mathlib.Core.Path.{_≡_, refl, sym, ap, _∙_}
+use mathlib.Core.Path.{_≡_, refl, ap}
 use mathlib.Core.Bool.{Bool, true, false, _||_}
 use mathlib.Core.List.{List, [], _∷_}
 use native.Mathlib.Nat.{sub-zero}
@@ -10,7 +10,7 @@ use native.Mathlib.Omega.{arith}
 use lib.ListN.{length, getD, drop, drop-of-length-le}
 use lib.Seq.{drop-cons}
 use Rattle.lists.specs.Count.{anyBelow, from, below}
-use Rattle.lists.specs.Lists.{filter, firstThat}
+use Rattle.lists.specs.Lists.{filter}
 
 module _ (list : List ℕ) (i : ℕ) where
   -- of a list: the element at the place, and what is left from the next place on

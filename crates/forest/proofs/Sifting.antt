@@ -2,22 +2,20 @@
 -- Assumes nothing.
 use Prim.Native.Nat.{ℕ, _+_, _≤_, _<_}
 use mathlib.Core.Path.{_≡_, refl, sym, ap, _∙_}
-use mathlib.Core.Bool.{Bool, true, false}
 use mathlib.Core.List.{List, [], _∷_, _++_, append-nil, List·Memᴰ·head, List·Memᴰ·tail}
 use native.Mathlib.Numerals.{add-one}
 use native.Mathlib.Omega.{arith}
-use lib.ListN.{length, getD, take, drop, set, length-set}
+use lib.ListN.{length, getD, take, drop, set}
 use lib.Seq.{take-suc, append-snoc}
 use lib.Dec.{leb}
 use borrow.Author.Tests.{le-leb, lt-leb}
 use Rattle.lists.specs.Lists.{filter}
 use Rattle.lists.specs.Member.{_∈_}
 use Rattle.lists.proofs.Filters.{filter-none}
-use Rattle.lists.proofs.InOrder.{InOrder, first-before, rest-in-order}
+use Rattle.lists.proofs.InOrder.{first-before, rest-in-order}
 use Rattle.graph.specs.Graph.{Graph, weightOf}
 use Rattle.forests.proofs.Lightest.{ByWeight}
-use Rattle.forest.specs.Arrays.{Wrote}
-use Rattle.forest.specs.Order.{lightOf, LightFront}
+use Rattle.forest.specs.Light.{lightOf, LightFront, LightWritten}
 use Rattle.forest.proofs.Rest.{rest-next, rest-none, filter-taken, filter-passed}
 use Rattle.forest.proofs.Writing.{Writing, writing-none, writing-same, writing-more, writing-all}
 
@@ -72,11 +70,12 @@ module _ {g : Graph} {limit : ℕ} {edges : List ℕ} where
 -- The edges within the limit before i were written, and those from i on are left.
 pub record Sifting (g : Graph) (limit : ℕ) (edges : List ℕ) (i : ℕ) (before after : List ℕ) (r : ℕ) : Type 0 where
   pub few : r ≤ i
+  pub within : i ≤ length edges
   pub writing : Writing (lightOf g limit edges) (lightOf g limit (drop i edges)) before after r
 
 module _ {g : Graph} {limit : ℕ} {edges : List ℕ} where
   pub sifting-none : (before : List ℕ) → Sifting g limit edges 0 before before 0
-  sifting-none before = record { few = omega arith; writing = writing-none before }
+  sifting-none before = record { few = omega arith; within = omega arith; writing = writing-none before }
 
   module _ {i : ℕ} {before after : List ℕ} {r : ℕ} (s : Sifting g limit edges i before after r) where
     module _ (h : i < length edges) where
@@ -84,6 +83,7 @@ module _ {g : Graph} {limit : ℕ} {edges : List ℕ} where
       sifting-passed heavy =
           record {
             few = omega arith;
+            within = omega arith;
             writing = writing-same (s .writing) (filter-passed (λ e. leb (weightOf g e) limit) (rest-next edges i h) (lt-leb (weightOf g (getD edges i 0)) limit heavy));
           }
 
@@ -91,9 +91,10 @@ module _ {g : Graph} {limit : ℕ} {edges : List ℕ} where
       sifting-more light room =
           record {
             few = omega arith;
+            within = omega arith;
             writing = writing-more (s .writing) (filter-taken (λ e. leb (weightOf g e) limit) (rest-next edges i h) (le-leb (weightOf g (getD edges i 0)) limit light)) room;
           }
 
-    pub sifting-all : length edges ≤ i → Wrote (lightOf g limit edges) before after r
+    pub sifting-all : length edges ≤ i → LightWritten g limit edges before after r
     unfolding filter
-    sifting-all h = writing-all (s .writing) (ap (lightOf g limit) (rest-none edges i h))
+    sifting-all h = record { few = omega arith; edges-are = writing-all (s .writing) (ap (lightOf g limit) (rest-none edges i h)) }

@@ -2,24 +2,26 @@
 -- Assumes nothing.
 use Prim.Native.Nat.{ℕ, _+_, _≤_, _<_}
 use mathlib.Core.Path.{_≡_, refl, sym, ap, _∙_}
-use mathlib.Core.Bool.{Bool, true, false, not}
-use mathlib.Core.List.{List, [], _∷_}
+use mathlib.Core.Bool.{true, false, not}
+use mathlib.Core.List.{List}
 use native.Mathlib.Omega.{arith}
 use lib.ListN.{length, getD, drop, set, length-set}
 use borrow.Author.Tests.{not-true, not-false, eqb-true, eqb-false, eq-eqb, ne-eqb}
 use Rattle.graph.specs.Graph.{Graph, oneEnd, otherEnd}
+use Rattle.graph.specs.Valid.{Valid}
+use Rattle.graph.proofs.Ranges.{one-end-below, other-end-below}
 use Rattle.theory.specs.Labels.{Labels, joined, endsJoined, mergeEdge, mergeAll}
 use Rattle.theory.specs.Forest.{keep}
 use Rattle.forests.proofs.Merging.{edge-joined}
 use Rattle.forests.proofs.Keeping.{keep-joined, keep-apart}
-use Rattle.forest.specs.Arrays.{Agrees, Wrote}
+use Rattle.forest.specs.Arrays.{Agrees}
 use Rattle.forest.specs.Labelled.{Merged, Joined}
 use Rattle.forest.specs.Keeping.{Kept}
 use Rattle.forest.proofs.Rest.{rest-next, rest-none}
 use Rattle.forest.proofs.Writing.{Writing, writing-none, writing-same, writing-more, writing-all}
 
 -- The ends of an edge are joined: where they are already, no label changes, and otherwise the labels are merged.
-module _ (g : Graph) (e : ℕ) (before : List ℕ) (hu : oneEnd g e < g .vertices) (hv : otherEnd g e < g .vertices) where
+module _ {g : Graph} (valid : Valid g) (e : ℕ) (before : List ℕ) where
   abbrev u : ℕ
   u = oneEnd g e
 
@@ -28,10 +30,10 @@ module _ (g : Graph) (e : ℕ) (before : List ℕ) (hu : oneEnd g e < g .vertice
 
   module _ (label : Labels) (a : Agrees (g .vertices) before label) where
     ends-same : getD before u 0 ≡ getD before v 0 → label u ≡ label v
-    ends-same q = sym (a u hu) ∙ q ∙ a v hv
+    ends-same q = sym (a u (one-end-below valid e)) ∙ q ∙ a v (other-end-below valid e)
 
     ends-other : (getD before u 0 ≡ getD before v 0 → ⊥) → label u ≡ label v → ⊥
-    ends-other d q = d (a u hu ∙ q ∙ sym (a v hv))
+    ends-other d q = d (a u (one-end-below valid e) ∙ q ∙ sym (a v (other-end-below valid e)))
 
   pub joined-already : getD before u 0 ≡ getD before v 0 → Joined g e before before false
   unfolding endsJoined joined

@@ -1,6 +1,6 @@
 -- A list written to the front of an array, element by element: what a loop that writes knows at each turn.
 -- Assumes nothing.
-use Prim.Native.Nat.{ℕ, _+_, _<_}
+use Prim.Native.Nat.{ℕ, _+_, _≤_, _<_}
 use mathlib.Core.Path.{_≡_, refl, sym, ap, _∙_}
 use mathlib.Core.List.{List, [], _∷_, _++_, append-assoc, append-nil}
 use native.Mathlib.Omega.{arith}
@@ -52,6 +52,11 @@ module _ {list before after : List ℕ} {r : ℕ} (w : Wrote list before after r
 
   pub wrote-rest : drop r after ≡ drop r before
   wrote-rest = ap (drop r) (w .all) ∙ drop-at list (drop r before) r (sym (w .count))
+
+  -- there is room for what was written
+  pub wrote-fits : length after ≡ length before → r ≤ length before
+  wrote-fits same =
+      omega (arith, w .count, ap length (w .all), length-append list (drop r before), length-drop r before)
 
   -- an array as long as the list holds the list
   pub wrote-whole : length before ≡ length list → after ≡ list

@@ -6,7 +6,7 @@ use mathlib.Core.List.{List, _++_}
 use lib.ListN.{length, getD, drop}
 use Rattle.theory.specs.Labels.{Labels}
 
--- The array has the label of each vertex below n.
+-- The array has the label of each vertex below n. Whatever it holds, it has some labels: its own elements.
 abbrev pub Agrees : ℕ → List ℕ → Labels → Type 0
 Agrees n array label = (v : ℕ) → v < n → getD array v 0 ≡ label v
 

@@ -16,7 +16,7 @@ pub record Labelable (b label : List ℕ) : Type 0 where
   pub graph : IsGraph b
   pub room : graphOf b .vertices ≤ length label
 
--- There is room for all edges besides.
+-- Besides, there is room to keep all of the edges.
 pub record Keepable (b edges label kept : List ℕ) : Type 0 where
   pub labelable : Labelable b label
   pub room : length edges ≤ length kept

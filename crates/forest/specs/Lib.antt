@@ -7,7 +7,9 @@ pub mod Labelled
 pub mod Keeping
 -- the lowest vertex joined to no root, and the lowest of each component
 pub mod Lowest
--- merged lists, edges that stand by weight, and those within a limit
+-- edges within a limit
+pub mod Light
+-- all edges by weight, then number, and lists merged
 pub mod Order
 -- vertices marked
 pub mod Marks

@@ -1,6 +1,6 @@
 -- The lowest vertices, as the code answers them, and the definitions that the answers equal.
 -- Assumes nothing.
-use Prim.Native.Nat.{ℕ, _<_}
+use Prim.Native.Nat.{ℕ, _≤_, _<_}
 use mathlib.Core.Path.{_≡_}
 use mathlib.Core.Bool.{Bool}
 use mathlib.Core.List.{List, headD}
@@ -23,8 +23,9 @@ pub record Unjoined (array : List ℕ) (n root : ℕ) (r : Found) : Type 0 where
   pub is : (g : Graph) (roots : List ℕ) (label : Labels) → g .vertices ≡ n → headD roots 0 ≡ root → Agrees n array label
       → vertexIn r ≡ unjoined g roots label
 
--- The lowest vertex of each component was written, rising, in every graph of n vertices.
+-- The lowest vertex of each component was written, rising, in every graph of n vertices. There are at most n components.
 pub record Components (array : List ℕ) (n : ℕ) (before after : List ℕ) (r : ℕ) : Type 0 where
+  pub few : r ≤ n
   pub are : (g : Graph) (label : Labels) → g .vertices ≡ n → Agrees n array label → Wrote (lowest g label) before after r
 
 -- v is joined to a lower vertex, exactly where r says so.

@@ -6,7 +6,7 @@ ghost use Rattle.forest.specs.Labelled.{Joined};
 ghost use Rattle.forest.specs.Keeping.{Labelable, Keepable, Kept};
 
 // Joins the ends of edge e, and says whether they were not yet joined. Where they were, no label changes.
-fn join_ends(b: &[u8], e: usize, label: &mut [u16]) -> bool
+pub fn join_ends(b: &[u8], e: usize, label: &mut [u16]) -> bool
     requires { ⌜ Labelable (now b) (now label) ⌝ }
     ensures { λ r. ⌜ Joined (graphOf (now (b .entry))) e (now (label .entry)) (now (label .exit)) r ⌝ }
 {

@@ -3,9 +3,8 @@ use crate::index::weight_of;
 ghost use Prim.Native.Nat.{_≤_};
 ghost use lib.ListN.{length};
 ghost use Rattle.graph.specs.Bytes.{graphOf};
-ghost use Rattle.forest.specs.Arrays.{Wrote};
 ghost use Rattle.forests.proofs.Lightest.{ByWeight};
-ghost use Rattle.forest.specs.Order.{lightOf, LightFront};
+ghost use Rattle.forest.specs.Light.{LightFront, LightWritten};
 
 // How many edges at the front are within the limit, of edges that stand by weight: these are all that are.
 pub fn light_count(b: &[u8], edges: &[u16], limit: u64) -> usize
@@ -25,7 +24,7 @@ pub fn light_count(b: &[u8], edges: &[u16], limit: u64) -> usize
 // The edges within the limit, in the order given, written to the front of the array. Says how many.
 pub fn keep_light(b: &[u8], edges: &[u16], limit: u64, out: &mut [u16]) -> usize
     requires { ⌜ length (now edges) ≤ length (now out) ⌝ }
-    ensures { λ r. ⌜ Wrote (lightOf (graphOf (now (b .entry))) limit (now (edges .entry))) (now (out .entry)) (now (out .exit)) r ⌝ }
+    ensures { λ r. ⌜ LightWritten (graphOf (now (b .entry))) limit (now (edges .entry)) (now (out .entry)) (now (out .exit)) r ⌝ }
 {
     let mut r = 0;
     let mut i = 0;

@@ -1,5 +1,4 @@
 // The lowest vertex joined to no root, and the lowest vertex of each component.
-ghost use mathlib.Core.Path.{_≡_};
 ghost use Prim.Native.Nat.{_≤_, _<_};
 ghost use lib.ListN.{length};
 ghost use Rattle.forest.specs.Lowest.{Unjoined, Components, JoinedBelow};
