@@ -33,6 +33,8 @@ pub mod SameTimes
 pub mod FlatMap
 -- some number below a bound passes a test
 pub mod AnyBelow
+-- numbers sent apart to others are no more than these; what holds after a store
+pub mod Pigeonhole
 -- values at the numbers below a bound, one more at a time
 pub mod Numbered
 -- segments of a list, and runs of stores

@@ -1,0 +1,19 @@
+// Links libmatching_c.a from where `rt staticlib matching_c` writes it, or from the folder that MATCHING_LIB_DIR names.
+use std::env;
+use std::path::PathBuf;
+
+fn main() {
+    let folder = match env::var_os("MATCHING_LIB_DIR") {
+        Some(folder) => PathBuf::from(folder),
+        None => {
+            PathBuf::from(env::var_os("CARGO_MANIFEST_DIR").unwrap()).join("../target/staticlib")
+        }
+    };
+    println!("cargo:rerun-if-env-changed=MATCHING_LIB_DIR");
+    println!(
+        "cargo:rerun-if-changed={}",
+        folder.join("libmatching_c.a").display()
+    );
+    println!("cargo:rustc-link-search=native={}", folder.display());
+    println!("cargo:rustc-link-lib=static=matching_c");
+}

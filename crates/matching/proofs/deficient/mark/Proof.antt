@@ -1,0 +1,104 @@
+-- `mark` meets its contract. The loop's invariant: exactly the parts passed are marked.
+-- Assumes nothing.
+use Prim.Native.Nat.{ℕ, _≤_, _<_, _+_, _-_}
+use mathlib.Core.Path.{_≡_, _∙_, refl}
+use mathlib.Core.List.{List}
+use native.Mathlib.Omega.{arith}
+use lib.ListN.{length, getD, set, length-set}
+use lib.Seq.{drop-set-lt}
+use Rattle.lists.proofs.Pigeonhole.{at-or-not, after-store}
+use Rattle.matching.specs.Marks.{Cleared, Marks}
+use Rattle.matching.proofs.deficient.mark.Statement.{statement}
+use Rattle.matching.proofs.deficient.mark.Tie as tie
+
+-- The bytes are marks of the parts passed, beside those at the loop's start, where all p are 0.
+abbrev Inv-loop : tie.InvT-loop
+Inv-loop p parts t out₀ a₀ out a = (a ≤ t) × Marks p a parts out₀ out
+
+abbrev μ-loop : tie.MeasureT-loop
+μ-loop p parts t out₀ a₀ out a = t - a
+
+none-marked : {p : ℕ} {parts before out : List ℕ} → Cleared p before out → Marks p 0 parts out out
+none-marked z =
+    record {
+      mark = λ k h. omega (arith, z .zeros k h);
+      all = λ a h. absurd (omega arith);
+      only = λ k h one. absurd (omega (arith, z .zeros k h));
+      rest = refl;
+      size = refl;
+    }
+
+one-more : {p a : ℕ} {parts before out : List ℕ} → Marks p a parts before out → p ≤ length out → getD parts a 0 < p → Marks p (a + 1) parts before (set out (getD parts a 0) 1)
+one-more {p} {a} {parts} {before} {out} m fits is-part =
+    let part = getD parts a 0 in
+    let within : part < length out = omega arith in
+    record {
+      mark = λ k h. after-store (λ _ b. b < 2) out part 1 k within (omega arith) (λ _. m .mark k h);
+      all = λ b h. after-store (λ _ v. v ≡ 1) out part 1 (getD parts b 0) within refl (λ ne. m .all b (at-or-not (λ x. x < a + 1 → (getD parts x 0 ≡ part → ⊥) → x < a) a b (λ _ away. absurd (away refl)) (λ off h _. omega arith) h ne));
+      only = λ k h. after-store (λ k v. k < p → v ≡ 1 → (b : ℕ) × (b < a + 1) × (getD parts b 0 ≡ k)) out part 1 k within (λ _ _. (a, omega arith, refl)) (λ _ h one. let o = m .only k h one in (o .0, omega arith, o .2)) h;
+      rest = drop-set-lt p out part 1 is-part ∙ m .rest;
+      size = length-set out part 1 ∙ m .size;
+    }
+
+clear-requires : tie.Need-clear-requires Inv-loop μ-loop
+clear-requires c κs = omega arith
+
+loop-holds : tie.Need-loop-holds Inv-loop μ-loop
+loop-holds c = (omega arith, none-marked (c .before .before .clear .ensures))
+
+mul-out : tie.Need-mul-out Inv-loop μ-loop
+mul-out c = omega arith
+
+element-copy-out-out : tie.Need-element-copy-out-out Inv-loop μ-loop
+element-copy-out-out c = omega arith
+
+-- In a turn: the part to mark is one, and there is room for it.
+turn : (c : tie.In-loop Inv-loop μ-loop) → let a = c .before .before .before .before .before .before .before .args in
+    (getD (a .parts .now) (c .before .loop .a) 0 < a .p) × (a .p ≤ length (c .before .loop .out))
+turn c =
+    let start = c .before .before .before .before .before .before .before in
+    (start .pre .below (c .before .loop .a) (c .loop-test .taken), omega (arith, start .pre, c .before .before .before .before .clear .ensures, c .before .loop .inv))
+
+slice-write-out : tie.Need-slice-write-out Inv-loop μ-loop
+slice-write-out c = omega (arith, turn (c .before))
+
+add-a : tie.Need-add-a Inv-loop μ-loop
+add-a c = omega arith
+
+loop-less : tie.Need-loop-less Inv-loop μ-loop
+loop-less c = omega arith
+
+loop-again : tie.Need-loop-again Inv-loop μ-loop
+loop-again c = (omega arith, one-more (c .before .before .loop .inv .1) (turn (c .before) .1) (turn (c .before) .0))
+
+same-length : tie.Need-same-length Inv-loop μ-loop
+same-length c = omega (arith, c .before .before .before .before .clear .ensures)
+
+returns : tie.Need-returns Inv-loop μ-loop
+returns c =
+    let cleared = c .before .before .before .before .clear .ensures in
+    let marks = c .before .loop .inv .1 in
+    record {
+      mark = marks .mark;
+      all = λ a h. marks .all a (omega arith);
+      only = λ k h one. let o = marks .only k h one in (o .0, omega arith, o .2);
+      rest = marks .rest ∙ cleared .rest;
+      size = marks .size ∙ cleared .size;
+    }
+
+pub mark-spec : {M : Type 1} → statement M
+mark-spec =
+    tie.close
+    (tie.spec
+    Inv-loop
+    μ-loop
+    clear-requires
+    loop-holds
+    mul-out
+    element-copy-out-out
+    slice-write-out
+    add-a
+    loop-less
+    loop-again
+    same-length
+    returns)

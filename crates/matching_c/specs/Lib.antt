@@ -1,0 +1,3 @@
+-- The exported assignment.
+-- what `matching_assign` promises
+pub mod Promise
