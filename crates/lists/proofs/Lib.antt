@@ -19,6 +19,8 @@ pub mod Sorting
 pub mod Below
 -- lists written place by place along a run of numbers
 pub mod Runs
+-- what holds after a store; numbers sent apart to others are no more than these
+pub mod Pigeonhole
 -- a test that passes fewer numbers counts less
 pub mod Fewer
 -- the tests `all`, `&&` and `||`
@@ -33,8 +35,6 @@ pub mod SameTimes
 pub mod FlatMap
 -- some number below a bound passes a test
 pub mod AnyBelow
--- numbers sent apart to others are no more than these; what holds after a store
-pub mod Pigeonhole
 -- values at the numbers below a bound, one more at a time
 pub mod Numbered
 -- segments of a list, and runs of stores

@@ -1,13 +1,14 @@
 -- What is known of an input that is not refused.
 -- Assumes nothing.
 use Prim.Native.Nat.{ℕ, _*_, _≤_}
-use mathlib.Core.Path.{_≡_, refl}
-use mathlib.Core.Bool.{Bool, true, false, not, _||_, true≢false}
+use mathlib.Core.Path.{_≡_}
+use mathlib.Core.Bool.{Bool, false, not, _||_}
 use mathlib.Core.List.{List}
 use lib.Dec.{ltb, eqb}
 use lib.ListN.{length}
 use borrow.Author.Tests.{ltb-false, eqb-true, not-false}
 use Rattle.lists.specs.Lists.{any}
+use Rattle.lists.proofs.Every.{first-false, second-false}
 use Rattle.matching.specs.Input.{aboveOne, refusedOf}
 
 pub record Accepted (p y : ℕ) (bytes : List ℕ) (buffer : ℕ) : Type 0 where
@@ -19,8 +20,7 @@ pub record Accepted (p y : ℕ) (bytes : List ℕ) (buffer : ℕ) : Type 0 where
 
 -- Neither test is passed.
 neither : (a b : Bool) → a || b ≡ false → (a ≡ false) × (b ≡ false)
-neither true b e = absurd (true≢false e)
-neither false b e = (refl, e)
+neither a b e = (first-false a b e, second-false a b e)
 
 pub accepted : (p y : ℕ) (bytes : List ℕ) (buffer : ℕ) → refusedOf p y bytes buffer ≡ false → Accepted p y bytes buffer
 unfolding refusedOf

@@ -11,7 +11,9 @@ use lib.ListN.{length, getD, take, drop}
 use lib.Seq.{getD-take, length-take-le, drop-drop}
 use borrow.Author.Tests.{eqb-true, eq-eqb}
 use Rattle.lists.specs.Count.{count, anyBelow}
-use Rattle.lists.proofs.Pigeonhole.{at-or-not, and-left, and-right, anyBelow-one, count-into-missing}
+use Rattle.lists.proofs.Every.{first-true, second-true}
+use Rattle.lists.proofs.AnyBelow.{any-below-found}
+use Rattle.lists.proofs.Pigeonhole.{at-or-not, count-into-missing}
 use Rattle.matching.specs.Assignment.{IsAssignment, IsDeficient, marked}
 use Rattle.matching.specs.Marks.{Marks}
 use Rattle.matching.specs.State.{none, Mirror, May, Edges, Closed, Exchanged}
@@ -61,9 +63,9 @@ module _ {p y i t : ℕ} {allowed : ℕ → ℕ → Bool} {owner parts roots bef
 
   owner-in : (r : ℕ) → r < y → wanted r ≡ true → (b : ℕ) × (0 < b) × (b < t) × (getD owner r 0 ≡ getD parts b 0)
   owner-in r h w =
-      let k = anyBelow-one p (λ k. marked (take p after) k && allowed k r) w in
-      let a = marks .only (k .0) (k .1) (one-of (k .0) (k .1) (and-left (marked (take p after) (k .0)) (allowed (k .0) r) (k .2))) in
-      closed .closed (a .0) r (a .1) h (rw (a .2) (and-right (marked (take p after) (k .0)) (allowed (k .0) r) (k .2)))
+      let k = any-below-found (λ k. marked (take p after) k && allowed k r) p w in
+      let a = marks .only (k .0) (k .1) (one-of (k .0) (k .1) (first-true (marked (take p after) (k .0)) (allowed (k .0) r) (k .2))) in
+      closed .closed (a .0) r (a .1) h (rw (a .2) (second-true (marked (take p after) (k .0)) (allowed (k .0) r) (k .2)))
 
   -- Its owner is before part i, and has it.
   owner-before : (r : ℕ) → r < y → wanted r ≡ true → getD owner r 0 < i

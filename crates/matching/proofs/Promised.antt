@@ -2,12 +2,13 @@
 -- Assumes nothing.
 use Prim.Native.Nat.{ℕ}
 use mathlib.Core.Path.{_≡_, refl}
+use mathlib.Core.Logic.{_⊎_, inl, inr}
 use mathlib.Core.Bool.{true, false}
 use mathlib.Core.List.{List}
 use native.Mathlib.Omega.{arith}
 use lib.ListN.{length}
-use Rattle.lists.proofs.Pigeonhole.{passed-or-not}
 use Rattle.lists.specs.Count.{below}
+use Rattle.lists.proofs.Member.{either}
 use Rattle.matching.specs.declared.Answer.{Answer}
 use Rattle.matching.specs.declared.Answer.the-variants.{Refused, Assigned, Deficient}
 use Rattle.matching.proofs.AssignmentLaws.{deficient-none}
@@ -37,10 +38,11 @@ module _ (p y : ℕ) (bytes before after : List ℕ) (accepted : refusedOf p y b
   unfolding answerOf
   replied Refused s = absurd (s .answered refl)
   replied Assigned s = rw (accepted, some-assignable (allowedAt bytes y) (s .assigned refl))
-  replied Deficient s =
-      passed-or-not (assignable (allowedAt bytes y) (below p) (below y))
-      (λ e. absurd (deficient-none (s .set refl) (assignable-some (allowedAt bytes y) p y e .1)))
-      (λ e. rw (accepted, e))
+  replied Deficient s = go (either (assignable (allowedAt bytes y) (below p) (below y)))
+    where
+      go : (assignable (allowedAt bytes y) (below p) (below y) ≡ true) ⊎ (assignable (allowedAt bytes y) (below p) (below y) ≡ false) → Deficient ≡ answerOf p y bytes (length before)
+      go (inl e) = absurd (deficient-none (s .set refl) (assignable-some (allowedAt bytes y) p y e .1))
+      go (inr e) = rw (accepted, e)
 
   said : (answer : Answer) → Solved p y bytes before answer after → (case : Answer) → answer ≡ case → caseOf p y bytes before after case .says
   said answer s Refused q = absurd (s .answered q)

@@ -2,7 +2,7 @@
 -- As many roots are reached as there are places behind the first, so the places are never full while a root is left.
 -- Assumes nothing.
 use Prim.Native.Nat.{ℕ, _+_, _*_, _<_, _≤_}
-use mathlib.Core.Path.{_≡_, _∙_, sym, ap}
+use mathlib.Core.Path.{_≡_, _∙_, refl, sym, ap}
 use mathlib.Core.Bool.{Bool, true, false, not}
 use mathlib.Core.List.{List}
 use native.Mathlib.Omega.{arith}
@@ -12,7 +12,8 @@ use lib.ListN.{length, getD, set, length-set}
 use lib.Seq.{getD-set-same, getD-set-other}
 use borrow.Author.Tests.{eq-eqb, ne-eqb, eqb-false, not-true}
 use Rattle.lists.specs.Count.{count}
-use Rattle.lists.proofs.Pigeonhole.{at-or-not, after-store, count-more, count-less, count-most}
+use Rattle.lists.proofs.Fewer.{count-bounded, count-fewer}
+use Rattle.lists.proofs.Pigeonhole.{at-or-not, after-store, count-all}
 use Rattle.matching.specs.State.{none, Place, Edges, Searchable, Reached, Closed}
 
 -- Some part has reached the root.
@@ -82,7 +83,7 @@ module _ {y : ℕ} {allowed : ℕ → ℕ → Bool} {i : ℕ} {owner parts via f
 
   -- There are no more parts than places.
   pub search-few : t ≤ 33
-  search-few = omega (arith, count-most 32 (reached from), room)
+  search-few = omega (arith, count-bounded 32 (reached from), room)
 
   -- Each part reached is part i or one before it.
   search-part : (a : ℕ) → a < t → getD parts a 0 ≤ i
@@ -175,7 +176,7 @@ module _ {y : ℕ} {allowed : ℕ → ℕ → Bool} {i : ℕ} {owner parts via f
 
     -- There is a place for the part that has it.
     pub search-room : t < 33
-    search-room = omega (arith, room, count-less 32 (reached from) j (omega arith) (reached-false from j new))
+    search-room = omega (arith, room, count-all 32, count-fewer 32 (reached from) (λ _. true) (λ _ _ _. refl) j (omega arith) (reached-false from j new) refl)
 
     -- The part that has it is reached now.
     module _ (is-part : getD owner j 0 < i) where
@@ -192,7 +193,7 @@ module _ {y : ℕ} {allowed : ℕ → ℕ → Bool} {i : ℕ} {owner parts via f
       via-off a l = getD-set-other via t a j 0 (omega arith)
 
       room′ : t + 1 ≤ 1 + count 32 (reached from′)
-      room′ = omega (arith, room, count-more 32 (reached from) (reached from′) (λ r l p. reached-true from′ r (still r (reached-not from r p))) j (omega arith) (reached-false from j new) (reached-true from′ j (rw from-at at-some)))
+      room′ = omega (arith, room, count-fewer 32 (reached from) (reached from′) (λ r l p. reached-true from′ r (still r (reached-not from r p))) j (omega arith) (reached-false from j new) (reached-true from′ j (rw from-at at-some)))
 
       via-at : getD via′ t 0 ≡ j
       via-at = getD-set-same via t j 0 (omega (arith, search-room, via-size))
