@@ -1,7 +1,7 @@
 -- Segments by bounds: one more bound adds one more segment and keeps the others.
 -- Assumes nothing.
 use Prim.Native.Nat.{ℕ, _+_, _≤_, _<_}
-use mathlib.Core.Path.{_≡_, refl, sym, ap, ap₂, _∙_}
+use mathlib.Core.Path.{_≡_, refl}
 use mathlib.Core.List.{List, [], _∷_, _++_}
 use mathlib.Core.Logic.{dite}
 use native.Mathlib.Decide.{ℕ-discrete}
@@ -47,4 +47,13 @@ module _ {bounds : List ℕ} {k used : ℕ} (b : Bounded bounds k used) (last : 
               dite (ℕ-discrete i (k + 1))
               (λ e. rw e (omega (arith, getD-set-same bounds (k + 1) last 0 room)))
               (λ e. omega (arith, bound-kept i (omega arith), b .within i (omega arith)));
+          rising =
+              λ i l.
+              dite (ℕ-discrete i k)
+              (λ e. rw e (omega (arith, bound-kept k (omega arith), b .last, getD-set-same bounds (k + 1) last 0 room)))
+              (λ e. omega (arith, bound-kept i (omega arith), bound-kept (i + 1) (omega arith), b .rising i (omega arith)));
         }
+
+-- The last bound says how many elements are taken up.
+pub bounded-last : {bounds : List ℕ} {k used : ℕ} → Bounded bounds k used → Bounded bounds k (getD bounds k 0)
+bounded-last b = record { last = refl; within = λ i l. omega (arith, b .within i l, b .last); rising = b .rising }

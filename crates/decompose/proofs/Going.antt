@@ -26,6 +26,7 @@ pub record SameLengths (s t : State) : Type 0 where
   pub bounds : length (t .store .bounds) ≡ length (s .store .bounds)
   pub flat : length (t .store .flat) ≡ length (s .store .flat)
 
+-- Over two steps.
 pub lengths-on : {s t u : State} → SameLengths s t → SameLengths t u → SameLengths s u
 lengths-on a b =
     record {

@@ -2,9 +2,9 @@
 -- is given suffices, since each level leaves one vertex fewer to be visited.
 -- Assumes nothing.
 use Prim.Native.Nat.{ℕ, zero, suc, _≤_, _<_}
-use mathlib.Core.Path.{_≡_, refl, sym, ap, _∙_}
-use mathlib.Core.Bool.{Bool, true, false, not}
-use mathlib.Core.List.{List, [], _∷_}
+use mathlib.Core.Path.{_≡_, refl, _∙_}
+use mathlib.Core.Bool.{true, not}
+use mathlib.Core.List.{List, _∷_}
 use mathlib.Core.Logic.{dite}
 use native.Mathlib.Decide.{ℕ-discrete}
 use native.Mathlib.Omega.{arith}
@@ -13,7 +13,7 @@ use lib.ListN.{length, set, length-set}
 use Rattle.lists.specs.Lists.{any, member}
 use Rattle.graph.specs.Graph.{Graph}
 use Rattle.graph.specs.Valid.{Valid}
-use Rattle.theory.specs.Grow.{Branches, none, branch, Grown, farEnd, leadsOn, growChildren, growNode}
+use Rattle.theory.specs.Grow.{Branches, branch, Grown, farEnd, leadsOn, growChildren, growNode}
 use Rattle.decompose.specs.Grows.{unmarked, unvisited, leadsTo, Grows, done, past, child}
 use Rattle.decompose.proofs.Ends.{far-end-below, leads-unmarked}
 use Rattle.decompose.proofs.Marks.{marks-kept, marked-now, unvisited-less, unvisited-below, unvisited-fewer}
@@ -39,12 +39,13 @@ leads-same : {g : Graph} {marks passed : List ℕ} → Valid g → Agrees (g .ve
 unfolding leadsOn leadsTo
 leads-same {g} d a v e = rw (a .at (farEnd g e v) (far-end-below d e v))
 
--- growing keeps the number of marks' places, and leaves no more to be visited
+-- growing keeps the number of marks
 grows-length : {g : Graph} {edges : List ℕ} {v : ℕ} {rest marks last : List ℕ} {b : Branches} → Grows g edges v rest marks b last → length last ≡ length marks
 grows-length done = refl
 grows-length (past q r) = grows-length r
 grows-length {g} (child {v = v} {e = e} {marks = marks} q i r) = grows-length r ∙ grows-length i ∙ length-set marks (farEnd g e v) 1
 
+-- and leaves no more to be visited
 grows-fewer : {g : Graph} {edges : List ℕ} {v : ℕ} {rest marks last : List ℕ} {b : Branches} (n : ℕ) → Grows g edges v rest marks b last
     → unvisited n last ≤ unvisited n marks
 grows-fewer n done = omega arith

@@ -3,15 +3,16 @@
 use Prim.Native.Nat.{ℕ, _+_, _≤_, _<_}
 use mathlib.Core.Path.{_≡_, refl, sym, ap, _∙_}
 use mathlib.Core.List.{List, [], _∷_, _++_, map, append-assoc, append-nil, map-append}
+use mathlib.Core.Logic.{dite}
+use native.Mathlib.Decide.{ℕ-discrete}
 use native.Mathlib.Omega.{arith}
-use lib.ListN.{length, take, getD, set, length-set}
-use lib.Seq.{slice, sets, length-sets, getD-set-same, getD-set-other}
+use lib.ListN.{length, set, length-set}
+use lib.Seq.{sets, length-sets, getD-set-same, getD-set-other}
 use Rattle.lists.specs.Count.{below}
 use Rattle.lists.proofs.Numbered.{map-below-more}
 use Rattle.lists.proofs.Stores.{take-sets, slice-sets, getD-sets-past}
 use Rattle.theory.specs.Cover.{Tree}
 use Rattle.theory.specs.Split.{partAt}
-use Rattle.decompose.specs.Segments.{segment, Bounded}
 use Rattle.decompose.specs.Store.{Part, partIn, partsIn, asTree, Store, treesIn, Sound, Added}
 use Rattle.decompose.specs.PutPart.{withPart}
 use Rattle.decompose.proofs.Bounds.{segment-kept, segment-new, bounded-more}
@@ -43,13 +44,16 @@ added-on {xs = xs} {ys = ys} {s = s} a b =
     }
 
 -- One part is added, of some edges for which there is room.
-module _ {n : ℕ} {s : Store} (h : Sound n s) (v : ℕ) (edges : List ℕ) (some : 1 ≤ length edges) (room : s .used + length edges ≤ n) where
+module _ {n : ℕ} {s : Store} (h : Sound n s) (v : ℕ) (inside : v < n) (edges : List ℕ) (some : 1 ≤ length edges) (room : s .used + length edges ≤ n) where
+  -- there is room for its edges
   fits : s .used + length edges ≤ length (s .flat)
   fits = omega (arith, h .flat-room)
 
+  -- there is room for its bound
   bound-room : s .parts + 1 < length (s .bounds)
-  bound-room = omega (arith, h .bounds-room, h .none-empty)
+  bound-room = omega (arith, h .bounds-room, h .few)
 
+  -- the bound behind it
   abbrev next : ℕ
   next = s .used + length edges
 
@@ -57,9 +61,11 @@ module _ {n : ℕ} {s : Store} (h : Sound n s) (v : ℕ) (edges : List ℕ) (som
   abbrev old : ℕ → Part
   old = partIn (s .starts) (s .bounds) (s .flat)
 
+  -- the parts with it
   abbrev new : ℕ → Part
   new = partIn (set (s .starts) (s .parts) v) (set (s .bounds) (s .parts + 1) next) (sets (s .flat) (s .used) edges)
 
+  -- the parts that were held are as they were
   part-kept : (i : ℕ) → i < s .parts → new i ≡ old i
   unfolding partIn
   part-kept i l =
@@ -68,21 +74,24 @@ module _ {n : ℕ} {s : Store} (h : Sound n s) (v : ℕ) (edges : List ℕ) (som
         segment-kept (h .bounded) next (s .flat) (sets (s .flat) (s .used) edges) (take-sets (s .flat) (s .used) edges fits) i l,
       )
 
+  -- the new part is the one stored
   part-new : new (s .parts) ≡ record { start = v; edges = edges }
   unfolding partIn
   part-new =
       rw (
-        getD-set-same (s .starts) (s .parts) v 0 (omega (arith, h .starts-room, h .none-empty)),
+        getD-set-same (s .starts) (s .parts) v 0 (omega (arith, h .starts-room, h .few)),
         segment-new (h .bounded) next bound-room (sets (s .flat) (s .used) edges),
         slice-sets (s .flat) (s .used) edges fits,
       )
 
+  -- the trees held are one more
   held-more : treesIn (withPart v edges s) ≡ treesIn s ++ (partAt v edges ∷ [])
   unfolding treesIn partsIn withPart asTree
   held-more =
       let part : Part = record { start = v; edges = edges } in
       ap (map asTree) (map-below-more old new (s .parts) part part-kept part-new) ∙ map-append asTree (map old (below (s .parts))) (part ∷ [])
 
+  -- so the part is added, and nothing else changes
   pub part-added : Added n (partAt v edges ∷ []) s (withPart v edges s)
   unfolding withPart
   part-added =
@@ -92,7 +101,12 @@ module _ {n : ℕ} {s : Store} (h : Sound n s) (v : ℕ) (edges : List ℕ) (som
               starts-room = rw length-set (h .starts-room);
               bounds-room = rw length-set (h .bounds-room);
               flat-room = rw length-sets (h .flat-room);
-              none-empty = omega (arith, h .none-empty);
+              starts-inside =
+                  λ i l.
+                  dite (ℕ-discrete i (s .parts))
+                  (λ e. rw e (omega (arith, getD-set-same (s .starts) (s .parts) v 0 (omega (arith, h .starts-room, h .few)))))
+                  (λ e. omega (arith, getD-set-other (s .starts) (s .parts) i v 0 e, h .starts-inside i (omega arith)));
+              few = omega (arith, h .few);
               bounded = bounded-more (h .bounded) (s .used + length edges) bound-room (omega arith);
             };
         held = held-more;

@@ -19,3 +19,5 @@ pub mod Going
 pub mod Growing
 -- the roots, one after the other
 pub mod Planting
+-- for callers: what the arrays hold, one by one
+pub mod Reading

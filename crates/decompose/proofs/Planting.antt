@@ -2,7 +2,6 @@
 -- Assumes nothing.
 use Prim.Native.Nat.{ℕ, suc, _+_, _≤_, _<_}
 use mathlib.Core.Path.{_≡_, refl, sym, ap, _∙_}
-use mathlib.Core.Bool.{Bool, true, not}
 use mathlib.Core.List.{List, [], _∷_, _++_, map, append-nil, append-assoc, map-append}
 use mathlib.Core.Logic.{_⊎_, inl, inr, ⊎-elim}
 use native.Mathlib.Numerals.{add-one}
@@ -16,14 +15,14 @@ use Rattle.graph.specs.Graph.{Graph}
 use Rattle.graph.specs.Valid.{Valid}
 use Rattle.lists.proofs.Runs.{length-map-below}
 use Rattle.theory.specs.Cover.{Tree}
-use Rattle.theory.specs.Grow.{Branches, Rooted, growNode, growFrom, grow}
+use Rattle.theory.specs.Grow.{Rooted, growNode, growFrom, grow}
 use Rattle.theory.specs.Split.{Pieces, splitAt, split, allParts}
-use Rattle.decompose.specs.Segments.{segment, segments, Bounded}
-use Rattle.decompose.specs.Store.{partIn, partsIn, asTree, Store, treesIn, Sound, Added}
+use Rattle.decompose.specs.Segments.{segments, Bounded}
+use Rattle.decompose.specs.Store.{partIn, partsIn, asTree, Store, treesIn, Added}
 use Rattle.decompose.specs.Grows.{unmarked, unvisited}
 use Rattle.decompose.specs.Walked.{State, passing, Ready, piecesAt, Walked}
 use Rattle.decompose.specs.Decomposed.{Lent, lent, Room, NoMarks, Decomposed}
-use Rattle.decompose.proofs.Bounds.{segments-more, bounded-more}
+use Rattle.decompose.proofs.Bounds.{segments-more, bounded-more, bounded-last}
 use Rattle.decompose.proofs.Holding.{added-none, added-on}
 use Rattle.decompose.proofs.Marks.{unvisited-below, unvisited-fewer, unvisited-most}
 use Rattle.decompose.proofs.Going.{SameLengths, lengths-on}
@@ -107,16 +106,21 @@ module _ {g : Graph} (d : Valid g) {H : ℕ} {edges roots : List ℕ} {first : S
   -- One root more.
   module _ {j : ℕ} {s : State} {firsts left : List ℕ} (p : Planted g H edges roots first a b j s firsts left) (more : j < length roots)
       {r : ℕ} (r-is : r ≡ getD roots j 0) (inside : r < g .vertices) {t : State} {w : ℕ} (walked : Walked g H edges r (s .top) 0 (passing r s) t w) where
+    -- the tree of the root
     tree : Rooted
     tree = record { root = r; branches = walked .branches }
 
+    -- the walk split that tree
     pieces-are : piecesAt g H r (s .top) (passing r s) (walked .branches) ≡ split g H tree
     unfolding split tree
+    -- the walk split that tree
     pieces-are = ap (λ (l : List ℕ). splitAt g H r l (walked .branches)) (slice-empty (s .top) (s .stack))
 
+    -- theory grows the same tree
     gives : Gives g (walked .branches) (t .marks) (growNode (g .vertices) g edges r (p .passed))
     gives = node-gives d (walked .grown) inside (p .ready .marks-room) (p .agrees)
 
+    -- the trees grown are one more
     grown-more : grow g edges roots ≡ (p .trees ++ (tree ∷ [])) ++ growFrom g edges (drop (j + 1) roots) (gives .passed)
     unfolding growFrom tree
     grown-more =
@@ -126,20 +130,25 @@ module _ {g : Graph} (d : Valid g) {H : ℕ} {edges roots : List ℕ} {first : S
         let e : growFrom g edges (drop j roots) (p .passed) ≡ tree ∷ growFrom g edges (drop (j + 1) roots) (gives .passed) = rw (q, gives .gives) in
         p .grown ∙ ap (λ (l : List Rooted). p .trees ++ l) e ∙ sym (append-snoc (p .trees) tree (growFrom g edges (drop (j + 1) roots) (gives .passed)))
 
+    -- its parts stand behind those of the trees before it
     trees-more : treesIn (t .store) ≡ treesIn (s .store) ++ split g H tree .parts
+    -- its parts stand behind those of the trees before it
     trees-more = walked .added .held ∙ ap (λ (x : Pieces). treesIn (s .store) ++ x .parts) pieces-are
 
+    -- the parts before it are as they were
     trees-before : take (s .store .parts) (treesIn (t .store)) ≡ take (s .store .parts) (treesIn (s .store))
     trees-before =
         ap (take (s .store .parts)) trees-more
         ∙ take-at (treesIn (s .store)) (split g H tree .parts) (s .store .parts) (trees-length (s .store))
         ∙ sym (take-all (s .store .parts) (treesIn (s .store)) (omega (arith, trees-length (s .store))))
 
+    -- the new parts are those of the tree
     trees-new : slice (s .store .parts) (t .store .parts) (treesIn (t .store)) ≡ split g H tree .parts
     trees-new =
         ap (drop (s .store .parts)) (take-all (t .store .parts) (treesIn (t .store)) (omega (arith, trees-length (t .store))) ∙ trees-more)
         ∙ drop-at (treesIn (s .store)) (split g H tree .parts) (s .store .parts) (trees-length (s .store))
 
+    -- so the arrays hold the pieces of one tree more
     pub planted-more : j + 1 < length firsts → j + 1 < length left
         → Planted g H edges roots first a b (j + 1) t (set firsts (j + 1) (t .store .parts)) (set left (j + 1) (t .top))
     planted-more firsts-room left-room =
@@ -175,8 +184,10 @@ bounded-none bounds h =
     record {
       last = getD-set-same bounds 0 0 0 h;
       within = λ i l. let q : i ≡ 0 = omega arith in rw q (omega (arith, getD-set-same bounds 0 0 0 h));
+      rising = λ i l. absurd (omega arith);
     }
 
+-- the first root can be walked
 ready-none : {g : Graph} {roots marks : List ℕ} {c : Lent} → Room g roots c → NoMarks g marks → Ready g (unplanted marks c)
 ready-none {g} {marks = marks} {c = c} room none =
     record {
@@ -188,7 +199,8 @@ ready-none {g} {marks = marks} {c = c} room none =
             starts-room = room .starts-room;
             bounds-room = rw length-set (room .bounds-room);
             flat-room = room .flat-room;
-            none-empty = omega arith;
+            starts-inside = λ i l. absurd (omega arith);
+            few = omega arith;
             bounded = bounded-none (c .bounds) (omega (arith, room .bounds-room));
           };
     }
@@ -236,14 +248,18 @@ at-next d {j = j} {firsts = firsts} {left = left} at more r-is inside {t} walked
 -- All roots are grown: the arrays hold what is promised.
 module _ {g : Graph} (d : Valid g) {H : ℕ} {edges roots : List ℕ} {first s : State} {firsts left : List ℕ} (c : Lent)
     (p : Planted g H edges roots first (set (c .firsts) 0 0) (set (c .left) 0 0) (length roots) s firsts left) (first-is : first .store ≡ emptied c) where
+  -- the trees grown are all
   trees-all : p .trees ≡ grow g edges roots
   unfolding growFrom
   trees-all = sym (p .grown ∙ rw (drop-length roots) (append-nil (p .trees)))
 
+  -- the parts held are those of the trees
   held-all : treesIn (s .store) ≡ allParts (map (split g H) (p .trees))
   unfolding treesIn partsIn below from
+  -- the parts held are those of the trees
   held-all = p .added .held ∙ ap (λ (x : Store). treesIn x ++ allParts (map (split g H) (p .trees))) first-is
 
+  -- What is promised.
   pub planted-all : Decomposed g H edges roots c (lent (s .stack) (s .store .starts) (s .store .bounds) (s .store .flat) firsts left) (s .store .parts)
   unfolding treesIn
   planted-all =
@@ -251,8 +267,16 @@ module _ {g : Graph} (d : Valid g) {H : ℕ} {edges roots : List ℕ} {first s :
         parts = held-all ∙ ap (λ (ts : List Rooted). allParts (map (split g H) ts)) trees-all;
         of-roots = p .of-roots ∙ ap (λ (ts : List Rooted). map (λ (x : Pieces). x .parts) (map (split g H) ts)) trees-all;
         lefts = p .lefts ∙ ap (λ (ts : List Rooted). map (λ (x : Pieces). x .left) (map (split g H) ts)) trees-all;
-        few =
-            ⊎-elim (λ q. omega (arith, p .ready .sound .none-empty, d .vertices-some)) (λ q. omega (arith, p .ready .sound .none-empty)) (p .spare);
+        part-bounds = bounded-last (p .ready .sound .bounded);
+        first-bounds = p .firsts-bounds;
+        left-bounds = bounded-last (p .left-bounds);
+        starts-inside = p .ready .sound .starts-inside;
+        few = omega (arith, p .ready .sound .few, p .ready .sound .bounded .last);
+        fits =
+            ⊎-elim
+            (λ q. omega (arith, p .ready .sound .bounded .last, p .left-bounds .last, d .vertices-some))
+            (λ q. omega (arith, p .ready .sound .bounded .last, p .left-bounds .last))
+            (p .spare);
         starts-rest = λ i l. p .added .starts-rest i l ∙ ap (λ (x : Store). getD (x .starts) i 0) first-is;
         bounds-rest =
             λ i l. p .added .bounds-rest i l ∙ ap (λ (x : Store). getD (x .bounds) i 0) first-is ∙ getD-set-other (c .bounds) 0 i 0 0 (omega arith);

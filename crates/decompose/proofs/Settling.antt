@@ -1,8 +1,8 @@
 -- A child's piece meets the bunch: the three cases.
 -- Assumes nothing.
-use Prim.Native.Nat.{ℕ, _+_, _*_, _≤_, _<_}
-use mathlib.Core.Path.{_≡_, refl, sym, ap, _∙_}
-use mathlib.Core.Bool.{Bool, true, false, cond, _&&_}
+use Prim.Native.Nat.{ℕ, _+_, _≤_}
+use mathlib.Core.Path.{_≡_, sym, ap, _∙_}
+use mathlib.Core.Bool.{true, false, _&&_}
 use mathlib.Core.List.{List, [], _∷_, _++_}
 use native.Mathlib.Omega.{arith}
 use native.Mathlib.Numerals.{add-one}
@@ -13,8 +13,8 @@ use Rattle.lists.proofs.Stores.{slice-join}
 use Rattle.graph.specs.Graph.{Graph, weightOf}
 use Rattle.graph.specs.Valid.{Valid}
 use Rattle.theory.specs.Walk.{totalWeight}
-use Rattle.theory.specs.Split.{Pieces, reaches, partAt, settle}
-use Rattle.decompose.specs.Store.{Store, Sound, Added}
+use Rattle.theory.specs.Split.{reaches, partAt, settle}
+use Rattle.decompose.specs.Store.{Store}
 use Rattle.decompose.specs.PutPart.{withPart}
 use Rattle.decompose.specs.Settled.{Meets, met, Settled}
 use Rattle.decompose.specs.declared.Progress.{Progress}
@@ -28,24 +28,29 @@ reach-is g H w es q = rw q
 
 -- By cases on the two tests.
 module _ (g : Graph) (H v : ℕ) (bunch piece : List ℕ) where
+  -- the piece reaches the threshold
   alone : reaches g H piece ≡ true → settle g H v bunch piece ≡ record { parts = partAt v piece ∷ []; left = bunch }
   unfolding settle
   alone q = rw q
 
+  -- the bunch with it does
   full : reaches g H piece ≡ false → reaches g H (bunch ++ piece) ≡ true
       → settle g H v bunch piece ≡ record { parts = partAt v (bunch ++ piece) ∷ []; left = [] }
   unfolding settle
   full q r = rw (q, r)
 
+  -- neither does
   joins : reaches g H piece ≡ false → reaches g H (bunch ++ piece) ≡ false
       → settle g H v bunch piece ≡ record { parts = []; left = bunch ++ piece }
   unfolding settle
   joins q r = rw (q, r)
 
 module _ {g : Graph} {v base middle bunch : ℕ} {stack : List ℕ} {s : Store} {p : Progress} (m : Meets g v base middle bunch stack s p) where
+  -- the child's edge and what is left below the child
   abbrev piece : List ℕ
   piece = slice middle (p .top) stack
 
+  -- the bunch
   abbrev bunched : List ℕ
   bunched = slice base middle stack
 
@@ -70,9 +75,11 @@ module _ {g : Graph} {v base middle bunch : ℕ} {stack : List ℕ} {s : Store} 
   weighs-little d a b h =
       omega (arith, total-most d (slice a b stack), length-slice a b stack (omega (arith, m .stacked)), m .fits, d .vertices-most)
 
+  -- what is left below the child
   pub below-little : Valid g → p .weight ≤ 256000000
   below-little d = omega (arith, m .below-weighs, weighs-little d (middle + 1) (p .top) (omega arith))
 
+  -- the bunch
   pub bunch-little : Valid g → bunch ≤ 256000000
   bunch-little d = omega (arith, m .bunch-weighs, weighs-little d base middle (omega (arith, m .edge-next)))
 
@@ -90,7 +97,7 @@ module _ {g : Graph} {v base middle bunch : ℕ} {stack : List ℕ} {s : Store} 
           let e : met g H v base middle (p .top) stack ≡ record { parts = partAt v piece ∷ []; left = bunched } = alone g H v bunched piece (sym (reach-is g H w piece q) ∙ test) in
           let l : length piece + middle ≡ p .top = omega (arith, length-slice middle (p .top) stack (m .stacked), m .edge-next) in
           record {
-            added = rw (e, stored) (part-added (m .sound) v piece (omega (arith, m .edge-next)) (omega (arith, m .fits)));
+            added = rw (e, stored) (part-added (m .sound) v (m .inside) piece (omega (arith, m .edge-next)) (omega (arith, m .fits)));
             left = rw (e, top-is);
             weighs = rw (e, weight-is) (m .bunch-weighs);
             fits = omega (arith, ap (λ (x : Store). x .used) stored, top-is);
@@ -111,7 +118,7 @@ module _ {g : Graph} {v base middle bunch : ℕ} {stack : List ℕ} {s : Store} 
             in
             let k : t ≡ withPart v (bunched ++ piece) s = stored ∙ ap (λ (es : List ℕ). withPart v es s) together in
             record {
-              added = rw (e, k) (part-added (m .sound) v (bunched ++ piece) (omega (arith, m .edge-next, m .bunch-first)) (omega (arith, m .fits)));
+              added = rw (e, k) (part-added (m .sound) v (m .inside) (bunched ++ piece) (omega (arith, m .edge-next, m .bunch-first)) (omega (arith, m .fits)));
               left = rw (e, top-is) (slice-empty base stack);
               weighs = rw (e, weight-is) (sym (total-none g));
               fits = omega (arith, ap (λ (x : Store). x .used) k, top-is);

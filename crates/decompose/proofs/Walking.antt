@@ -2,19 +2,18 @@
 -- Assumes nothing.
 use Prim.Native.Nat.{ℕ, zero, suc, _+_, _-_, _≤_, _<_}
 use mathlib.Core.Path.{_≡_, refl, sym, ap, _∙_}
-use mathlib.Core.Bool.{Bool, true, false}
+use mathlib.Core.Bool.{false}
 use mathlib.Core.List.{List, [], _∷_, _++_}
-use native.Mathlib.Nat.{add-zero, add-suc, suc-add}
+use native.Mathlib.Nat.{add-zero}
 use native.Mathlib.Numerals.{add-one}
 use native.Mathlib.Omega.{arith}
 use lib.ListN.{length, take, drop, getD, set, length-set}
 use lib.Seq.{slice, slice-empty, slice-cons, drop-cons, drop-length, take-take, take-set-le, getD-take, getD-set-same}
-use Rattle.lists.proofs.Stores.{slice-same}
 use Rattle.graph.specs.Graph.{Graph}
 use Rattle.theory.specs.Walk.{totalWeight}
 use Rattle.theory.specs.Grow.{Branches, none, branch, farEnd}
-use Rattle.theory.specs.Split.{Pieces, settle, splitAt}
-use Rattle.decompose.specs.Store.{Store, Sound, Added}
+use Rattle.theory.specs.Split.{settle, splitAt}
+use Rattle.decompose.specs.Store.{Store}
 use Rattle.decompose.specs.Grows.{leadsTo, unvisited, Grows, done, past, child}
 use Rattle.decompose.specs.NextChild.{IsChild, NextChild}
 use Rattle.decompose.specs.Settled.{Meets, met, Settled}
@@ -22,7 +21,7 @@ use Rattle.decompose.specs.Walked.{State, passing, Ready, piecesAt, Walk
 use Rattle.decompose.specs.declared.Progress.{Progress}
 use Rattle.decompose.specs.declared.child.Child.{Child}
 use Rattle.decompose.proofs.Holding.{added-none, added-on}
-use Rattle.decompose.proofs.Marks.{unvisited-less, unvisited-fewer}
+use Rattle.decompose.proofs.Marks.{unvisited-less}
 
 -- Edges that lead nowhere on are passed by.
 grows-past : {g : Graph} {v : ℕ} {marks last : List ℕ} {b : Branches} (edges : List ℕ) (k from : ℕ) → from + k ≤ length edges
@@ -48,6 +47,7 @@ split-child g H v bunch e x under later start bunch′ piece left p q r s = rw (
 
 module _ {g : Graph} {edges : List ℕ} {v base from : ℕ} {s : State} {c : Child} (next : NextChild g edges (s .marks) v from c)
     (ready : Ready g s) (above : base ≤ s .top) where
+  -- the edges before the child's are passed by
   grown-past : {last : List ℕ} {b : Branches} → Grows g edges v (drop (c .place) edges) (s .marks) b last → Grows g edges v (drop from edges) (s .marks) b last
   grown-past r =
       let k : ℕ = c .place - from in
@@ -72,6 +72,7 @@ module _ {g : Graph} {edges : List ℕ} {v base from : ℕ} {s : State} {c : Chi
       }
 
   module _ (more : c .place < length edges) where
+    -- the edge there is a child's
     is-child : IsChild g edges (s .marks) v c
     is-child = next .found more
 
@@ -79,6 +80,7 @@ module _ {g : Graph} {edges : List ℕ} {v base from : ℕ} {s : State} {c : Chi
     abbrev pub pushed : State
     pushed = record { marks = s .marks; stack = set (s .stack) (s .top) (c .edge); top = s .top + 1; store = s .store }
 
+    -- the child has a mark of its own
     marks-inside : c .vertex < length (s .marks)
     marks-inside = omega (arith, is-child .inside, ready .marks-room)
 
@@ -109,9 +111,11 @@ module _ {g : Graph} {edges : List ℕ} {v base from : ℕ} {s : State} {c : Chi
           ∙ take-take (s .top) (s .top + 1) (set (s .stack) (s .top) (c .edge)) (omega arith)
           ∙ take-set-le (s .top) (s .stack) (s .top) (c .edge) (omega arith)
 
+      -- so the bunch is as it was
       bunch-kept : slice base (s .top) (t .stack) ≡ slice base (s .top) (s .stack)
       bunch-kept = ap (drop base) stack-kept
 
+      -- and so is the edge
       edge-kept : getD (t .stack) (s .top) 0 ≡ c .edge
       edge-kept =
           sym (getD-take (s .top + 1) (t .stack) (s .top) 0 (omega arith))
@@ -119,6 +123,7 @@ module _ {g : Graph} {edges : List ℕ} {v base from : ℕ} {s : State} {c : Chi
           ∙ getD-take (s .top + 1) (set (s .stack) (s .top) (c .edge)) (s .top) 0 (omega arith)
           ∙ getD-set-same (s .stack) (s .top) (c .edge) 0 edge-fits
 
+      -- the stack holds its elements
       stacked : t .top ≤ length (t .stack)
       stacked = omega (arith, inner .ready .fits, inner .ready .stack-room)
 
@@ -150,6 +155,7 @@ module _ {g : Graph} {edges : List ℕ} {v base from : ℕ} {s : State} {c : Chi
         abbrev pub after : State
         after = record { marks = t .marks; stack = t .stack; top = r .top; store = u }
 
+        -- there is room in it
         pub after-ready : Ready g after
         after-ready =
             record {
@@ -159,9 +165,11 @@ module _ {g : Graph} {edges : List ℕ} {v base from : ℕ} {s : State} {c : Chi
               sound = settled .added .sound;
             }
 
+        -- the bunch then weighs what the code says
         pub after-weighs : r .weight ≡ totalWeight g (slice base (r .top) (t .stack))
         after-weighs = settled .weighs ∙ ap (totalWeight g) (sym (settled .left))
 
+        -- fewer vertices are left
         pub after-fewer : unvisited (g .vertices) (t .marks) ≤ unvisited (g .vertices) (s .marks)
         after-fewer = omega (arith, inner .fewer, child-less)
 

@@ -8,7 +8,7 @@ use Rattle.graph.specs.Graph.{Graph}
 use Rattle.theory.specs.Cover.{Tree}
 use Rattle.theory.specs.Grow.{grow}
 use Rattle.theory.specs.Split.{Pieces, split, allParts}
-use Rattle.decompose.specs.Segments.{segments}
+use Rattle.decompose.specs.Segments.{segments, Bounded}
 use Rattle.decompose.specs.Store.{partsIn, asTree}
 
 -- The arrays that are lent: the stack; the starts, the bounds and the edges of the parts; the bounds of each root's parts,
@@ -21,6 +21,7 @@ pub record Lent : Type 0 where
   pub firsts : List ℕ
   pub left : List ℕ
 
+-- The same, array by array.
 abbrev pub lent : List ℕ → List ℕ → List ℕ → List ℕ → List ℕ → List ℕ → Lent
 lent stack starts bounds flat firsts left =
     record { stack = stack; starts = starts; bounds = bounds; flat = flat; firsts = firsts; left = left }
@@ -48,13 +49,21 @@ piecesOf g H edges roots = map (split g H) (grow g edges roots)
 abbrev pub heldIn : Lent → ℕ → List Tree
 heldIn z r = map asTree (partsIn (z .starts) (z .bounds) (z .flat) r)
 
--- What is promised of the arrays at the end, z, which were a, and of the answer r, the number of parts.
--- The stack beyond the last leftover is scratch: of it only the length is promised.
+-- What is promised of the arrays at the end, z, which were a, and of the answer r, the number of parts:
+-- `parts`, `of-roots`, `lefts`: the arrays hold the parts of all trees, the parts of each root's tree, and what is left at each root;
+-- `part-bounds` to `fits`: the bounds rise and lie within the arrays, the starts are vertices, there are no more parts than edges in
+-- them, and all parts and leftovers together have fewer edges than there are vertices;
+-- the others: what the arrays have beyond what is used is as it came. The stack is scratch there: of it only the length is promised.
 pub record Decomposed (g : Graph) (H : ℕ) (edges roots : List ℕ) (a z : Lent) (r : ℕ) : Type 0 where
   pub parts : heldIn z r ≡ allParts (piecesOf g H edges roots)
   pub of-roots : segments (z .firsts) (heldIn z r) (length roots) ≡ map (λ (p : Pieces). p .parts) (piecesOf g H edges roots)
   pub lefts : segments (z .left) (z .stack) (length roots) ≡ map (λ (p : Pieces). p .left) (piecesOf g H edges roots)
-  pub few : r < g .vertices
+  pub part-bounds : Bounded (z .bounds) r (getD (z .bounds) r 0)
+  pub first-bounds : Bounded (z .firsts) (length roots) r
+  pub left-bounds : Bounded (z .left) (length roots) (getD (z .left) (length roots) 0)
+  pub starts-inside : (i : ℕ) → i < r → getD (z .starts) i 0 < g .vertices
+  pub few : r ≤ getD (z .bounds) r 0
+  pub fits : getD (z .bounds) r 0 + getD (z .left) (length roots) 0 < g .vertices
   pub starts-rest : (i : ℕ) → r ≤ i → getD (z .starts) i 0 ≡ getD (a .starts) i 0
   pub bounds-rest : (i : ℕ) → r < i → getD (z .bounds) i 0 ≡ getD (a .bounds) i 0
   pub flat-rest : (i : ℕ) → getD (z .bounds) r 0 ≤ i → getD (z .flat) i 0 ≡ getD (a .flat) i 0

@@ -1,6 +1,6 @@
 -- Several lists that stand one after the other in one array, cut by an array of bounds: list i runs from bound i up to bound i + 1.
 -- Assumes nothing.
-use Prim.Native.Nat.{ℕ, _+_, _≤_}
+use Prim.Native.Nat.{ℕ, _+_, _≤_, _<_}
 use mathlib.Core.Path.{_≡_}
 use mathlib.Core.List.{List, map}
 use lib.ListN.{getD}
@@ -20,3 +20,4 @@ module _ {ℓ} {A : Type ℓ} where
 pub record Bounded (bounds : List ℕ) (k used : ℕ) : Type 0 where
   pub last : getD bounds k 0 ≡ used
   pub within : (i : ℕ) → i ≤ k → getD bounds i 0 ≤ used
+  pub rising : (i : ℕ) → i < k → getD bounds i 0 ≤ getD bounds (i + 1) 0

@@ -43,12 +43,13 @@ storeOf starts bounds flat p = record { starts = starts; bounds = bounds; flat =
 unfoldable pub treesIn : Store → List Tree
 treesIn s = map asTree (partsIn (s .starts) (s .bounds) (s .flat) (s .parts))
 
--- There is room for parts of n edges, no part is without an edge, and the bounds are those of the parts.
+-- There is room for parts of n edges, the starts are below n, there are no more parts than edges in them, and the bounds are those of the parts.
 pub record Sound (n : ℕ) (s : Store) : Type 0 where
   pub starts-room : n ≤ length (s .starts)
   pub bounds-room : n < length (s .bounds)
   pub flat-room : n ≤ length (s .flat)
-  pub none-empty : s .parts ≤ s .used
+  pub starts-inside : (i : ℕ) → i < s .parts → getD (s .starts) i 0 < n
+  pub few : s .parts ≤ s .used
   pub bounded : Bounded (s .bounds) (s .parts) (s .used)
 
 -- From s to t these trees were added behind those that were held, and what the arrays have beyond them is as it was.

@@ -1,6 +1,6 @@
 -- The node walk and the child-list walk: what they ask and promise. The bunch of a node stands on the stack from `base` on.
 -- Assumes nothing.
-use Prim.Native.Nat.{ℕ, _+_, _≤_, _<_}
+use Prim.Native.Nat.{ℕ, _+_, _≤_}
 use mathlib.Core.Path.{_≡_}
 use mathlib.Core.List.{List}
 use lib.ListN.{length, take, drop, set}

@@ -36,7 +36,9 @@ fn split_roots(
     requires { ⌜ IsGraph (now b) ⌝ }
     requires { ⌜ Room (graphOf (now b)) (now roots) (lent (now stack) (now starts) (now bounds) (now flat) (now firsts) (now left)) ⌝ }
     requires { ⌜ NoMarks (graphOf (now b)) (now passed) ⌝ }
-    ensures { λ r. ⌜ Decomposed (graphOf (now (b .entry))) h (now (edges .entry)) (now (roots .entry)) (lent (now (stack .entry)) (now (starts .entry)) (now (bounds .entry)) (now (flat .entry)) (now (firsts .entry)) (now (left .entry))) (lent (now (stack .exit)) (now (starts .exit)) (now (bounds .exit)) (now (flat .exit)) (now (firsts .exit)) (now (left .exit))) r ⌝ }
+    ensures { λ r. ⌜ Decomposed (graphOf (now (b .entry))) h (now (edges .entry)) (now (roots .entry))
+        (lent (now (stack .entry)) (now (starts .entry)) (now (bounds .entry)) (now (flat .entry)) (now (firsts .entry)) (now (left .entry)))
+        (lent (now (stack .exit)) (now (starts .exit)) (now (bounds .exit)) (now (flat .exit)) (now (firsts .exit)) (now (left .exit))) r ⌝ }
 {
     bounds[0] = 0;
     firsts[0] = 0;
@@ -78,7 +80,9 @@ pub fn split_forest(
 ) -> usize
     requires { ⌜ IsGraph (now b) ⌝ }
     requires { ⌜ Room (graphOf (now b)) (now roots) (lent (now stack) (now starts) (now bounds) (now flat) (now firsts) (now left)) ⌝ }
-    ensures { λ r. ⌜ Decomposed (graphOf (now (b .entry))) h (now (edges .entry)) (now (roots .entry)) (lent (now (stack .entry)) (now (starts .entry)) (now (bounds .entry)) (now (flat .entry)) (now (firsts .entry)) (now (left .entry))) (lent (now (stack .exit)) (now (starts .exit)) (now (bounds .exit)) (now (flat .exit)) (now (firsts .exit)) (now (left .exit))) r ⌝ }
+    ensures { λ r. ⌜ Decomposed (graphOf (now (b .entry))) h (now (edges .entry)) (now (roots .entry))
+        (lent (now (stack .entry)) (now (starts .entry)) (now (bounds .entry)) (now (flat .entry)) (now (firsts .entry)) (now (left .entry)))
+        (lent (now (stack .exit)) (now (starts .exit)) (now (bounds .exit)) (now (flat .exit)) (now (firsts .exit)) (now (left .exit))) r ⌝ }
 {
     let mut passed = [0u8; 256];
     split_roots(

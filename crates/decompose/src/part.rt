@@ -39,7 +39,9 @@ fn put_part(
     flat: &mut [u16],
 ) -> Progress
     requires { ⌜ Putting v from (now stack) (storeOf (now starts) (now bounds) (now flat) s) s ⌝ }
-    ensures { λ r. ⌜ PutPart v from weight (now (stack .entry)) (storeOf (now (starts .entry)) (now (bounds .entry)) (now (flat .entry)) s) (storeOf (now (starts .exit)) (now (bounds .exit)) (now (flat .exit)) r) s r ⌝ }
+    ensures { λ r. ⌜ PutPart v from weight (now (stack .entry))
+        (storeOf (now (starts .entry)) (now (bounds .entry)) (now (flat .entry)) s)
+        (storeOf (now (starts .exit)) (now (bounds .exit)) (now (flat .exit)) r) s r ⌝ }
 {
     let parts = s.parts;
     let used = s.used;
@@ -83,10 +85,13 @@ pub fn settle(
 ) -> Progress
     requires { ⌜ IsGraph (now b) ⌝ }
     requires { ⌜ Meets (graphOf (now b)) v base middle bunch (now stack) (storeOf (now starts) (now bounds) (now flat) s) s ⌝ }
-    ensures { λ r. ⌜ Settled (graphOf (now (b .entry))) h v base middle (s .top) (now (stack .entry)) (storeOf (now (starts .entry)) (now (bounds .entry)) (now (flat .entry)) s) (storeOf (now (starts .exit)) (now (bounds .exit)) (now (flat .exit)) r) r ⌝ }
+    ensures { λ r. ⌜ Settled (graphOf (now (b .entry))) h v base middle (s .top) (now (stack .entry))
+        (storeOf (now (starts .entry)) (now (bounds .entry)) (now (flat .entry)) s)
+        (storeOf (now (starts .exit)) (now (bounds .exit)) (now (flat .exit)) r) r ⌝ }
 {
     let below = s.weight;
-    let piece = graph::weight(b, stack[middle] as usize) + below;
+    let own = graph::weight(b, stack[middle] as usize);
+    let piece = own + below;
     if reaches(h, piece) {
         return put_part(v, middle, bunch, s, stack, starts, bounds, flat);
     }

@@ -25,7 +25,9 @@ pub fn walk_node(
     requires { ⌜ IsGraph (now b) ⌝ }
     requires { ⌜ v < graphOf (now b) .vertices ⌝ }
     requires { ⌜ Ready (graphOf (now b)) (passing v (stateOf (now passed) (now stack) (now starts) (now bounds) (now flat) s)) ⌝ }
-    ensures { λ r. ⌜ Walked (graphOf (now (b .entry))) h (now (edges .entry)) v (s .top) 0 (passing v (stateOf (now (passed .entry)) (now (stack .entry)) (now (starts .entry)) (now (bounds .entry)) (now (flat .entry)) s)) (stateOf (now (passed .exit)) (now (stack .exit)) (now (starts .exit)) (now (bounds .exit)) (now (flat .exit)) r) (r .weight) ⌝ }
+    ensures { λ r. ⌜ Walked (graphOf (now (b .entry))) h (now (edges .entry)) v (s .top) 0
+        (passing v (stateOf (now (passed .entry)) (now (stack .entry)) (now (starts .entry)) (now (bounds .entry)) (now (flat .entry)) s))
+        (stateOf (now (passed .exit)) (now (stack .exit)) (now (starts .exit)) (now (bounds .exit)) (now (flat .exit)) r) (r .weight) ⌝ }
 {
     passed[v] = 1;
     walk_children(b, edges, h, v, s, passed, stack, starts, bounds, flat)
@@ -48,7 +50,9 @@ fn walk_children(
     requires { ⌜ IsGraph (now b) ⌝ }
     requires { ⌜ v < graphOf (now b) .vertices ⌝ }
     requires { ⌜ Ready (graphOf (now b)) (stateOf (now passed) (now stack) (now starts) (now bounds) (now flat) s) ⌝ }
-    ensures { λ r. ⌜ Walked (graphOf (now (b .entry))) h (now (edges .entry)) v (s .top) 0 (stateOf (now (passed .entry)) (now (stack .entry)) (now (starts .entry)) (now (bounds .entry)) (now (flat .entry)) s) (stateOf (now (passed .exit)) (now (stack .exit)) (now (starts .exit)) (now (bounds .exit)) (now (flat .exit)) r) (r .weight) ⌝ }
+    ensures { λ r. ⌜ Walked (graphOf (now (b .entry))) h (now (edges .entry)) v (s .top) 0
+        (stateOf (now (passed .entry)) (now (stack .entry)) (now (starts .entry)) (now (bounds .entry)) (now (flat .entry)) s)
+        (stateOf (now (passed .exit)) (now (stack .exit)) (now (starts .exit)) (now (bounds .exit)) (now (flat .exit)) r) (r .weight) ⌝ }
 {
     let base = s.top;
     let mut at = Progress {

@@ -20,35 +20,36 @@ use Rattle.forest.specs.Keeping.{Kept}
 use Rattle.forest.proofs.Rest.{rest-next, rest-none}
 use Rattle.forest.proofs.Writing.{Writing, writing-none, writing-same, writing-more, writing-all}
 
--- The ends of an edge are joined: where they are already, no label changes, and otherwise the labels are merged.
-module _ {g : Graph} (valid : Valid g) (e : ℕ) (before : List ℕ) where
-  abbrev u : ℕ
-  u = oneEnd g e
-
-  abbrev v : ℕ
-  v = otherEnd g e
-
+-- The ends u and v of an edge are joined: where they are already, no label changes, and otherwise the labels are merged.
+module _ {g : Graph} (valid : Valid g) (e : ℕ) {u v : ℕ} (one : u ≡ oneEnd g e) (other : v ≡ otherEnd g e) (before : List ℕ) where
   module _ (label : Labels) (a : Agrees (g .vertices) before label) where
-    ends-same : getD before u 0 ≡ getD before v 0 → label u ≡ label v
-    ends-same q = sym (a u (one-end-below valid e)) ∙ q ∙ a v (other-end-below valid e)
+    one-label : getD before u 0 ≡ label (oneEnd g e)
+    one-label = ap (λ (x : ℕ). getD before x 0) one ∙ a (oneEnd g e) (one-end-below valid e)
 
-    ends-other : (getD before u 0 ≡ getD before v 0 → ⊥) → label u ≡ label v → ⊥
-    ends-other d q = d (a u (one-end-below valid e) ∙ q ∙ sym (a v (other-end-below valid e)))
+    other-label : getD before v 0 ≡ label (otherEnd g e)
+    other-label = ap (λ (x : ℕ). getD before x 0) other ∙ a (otherEnd g e) (other-end-below valid e)
+
+    ends-same : getD before u 0 ≡ getD before v 0 → label (oneEnd g e) ≡ label (otherEnd g e)
+    ends-same q = sym one-label ∙ q ∙ other-label
+
+    ends-other : (getD before u 0 ≡ getD before v 0 → ⊥) → label (oneEnd g e) ≡ label (otherEnd g e) → ⊥
+    ends-other d q = d (one-label ∙ q ∙ sym other-label)
 
   pub joined-already : getD before u 0 ≡ getD before v 0 → Joined g e before before false
   unfolding endsJoined joined
   joined-already q =
       record {
-        new = λ label a. ap not (sym (eq-eqb (label u) (label v) (ends-same label a q)));
+        new = λ label a. ap not (sym (eq-eqb (label (oneEnd g e)) (label (otherEnd g e)) (ends-same label a q)));
         labels = λ label a. rw (edge-joined g label e (ends-same label a q)) a;
         rest = refl;
       }
 
-  pub joined-now : {after : List ℕ} → (getD before u 0 ≡ getD before v 0 → ⊥) → Merged (g .vertices) u v before after → Joined g e before after true
+  pub joined-now : {after : List ℕ} → (getD before u 0 ≡ getD before v 0 → ⊥)
+      → Merged (g .vertices) (oneEnd g e) (otherEnd g e) before after → Joined g e before after true
   unfolding endsJoined joined mergeEdge
   joined-now d m =
       record {
-        new = λ label a. ap not (sym (ne-eqb (label u) (label v) (ends-other label a d)));
+        new = λ label a. ap not (sym (ne-eqb (label (oneEnd g e)) (label (otherEnd g e)) (ends-other label a d)));
         labels = m .labels;
         rest = m .rest;
       }

@@ -1,5 +1,6 @@
 -- Counting by sending: where numbers that pass one test are sent, all apart, to numbers that pass another, the first are
--- no more than the second, and fewer where one of the second is missed.
+-- no more than the second, and fewer where one of the second is missed. Before that, how a fact of each number is shown
+-- by the one number where it is new: so after a store.
 -- Assumes nothing.
 use Prim.Native.Nat.{ℕ, zero, suc, _≤_, _<_}
 use mathlib.Core.Path.{_≡_, _∙_, refl, sym}

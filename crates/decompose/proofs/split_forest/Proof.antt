@@ -1,6 +1,6 @@
 -- `decompose::split_forest` meets its contract: its marks are 256 zeros, and a valid graph has no more vertices.
 -- Assumes nothing.
-use Prim.Native.Nat.{ℕ, _<_, _≤_}
+use Prim.Native.Nat.{ℕ}
 use native.Mathlib.Omega.{arith}
 use borrow.Author.Needs.{needs}
 use lib.ListN.{length-replicate, getD-replicate, replicate}

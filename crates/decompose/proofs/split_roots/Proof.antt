@@ -1,13 +1,13 @@
 -- `decompose::split_roots` meets its contract. The loop's invariant: the first j roots' trees are grown and split.
 -- The measure is how many roots are left. Assumes nothing.
-use Prim.Native.Nat.{ℕ, _+_, _-_, _≤_, _<_}
-use mathlib.Core.Path.{_≡_, refl, sym, ap, _∙_}
+use Prim.Native.Nat.{_-_}
+use mathlib.Core.Path.{_≡_, refl, _∙_}
 use native.Mathlib.Omega.{arith}
 use borrow.Author.Needs.{needs}
-use lib.ListN.{length, getD, set, length-set}
+use lib.ListN.{length, length-set}
 use Rattle.graph.specs.Bytes.{graphOf}
-use Rattle.decompose.specs.Walked.{stateOf, Ready}
-use Rattle.decompose.specs.Decomposed.{lent, Room}
+use Rattle.decompose.specs.Walked.{stateOf}
+use Rattle.decompose.specs.Decomposed.{lent}
 use Rattle.decompose.proofs.Planting.{AtRoot, root-ready, at-first, at-next, planted-all}
 use Rattle.decompose.proofs.split_roots.Statement.{statement}
 use Rattle.decompose.proofs.split_roots.Tie as tie
@@ -50,7 +50,7 @@ walk-node-requires c κs =
 cast-firsts : tie.Need-cast-firsts Inv-loop μ-loop
 cast-firsts c =
     let s = c .before .before .before .before .before .before .before .before .before .before .before .before .before .before .before .before .before .before .before .before .before .before .before .before .before .before .before .before .before .before in
-    omega (arith, c .before .before .before .before .before .before .before .before .before .before .before .walk-node .ensures .ready .fits, c .before .before .before .before .before .before .before .before .before .before .before .walk-node .ensures .ready .sound .none-empty, s .pre .0 .valid .vertices-most)
+    omega (arith, c .before .before .before .before .before .before .before .before .before .before .before .walk-node .ensures .ready .fits, c .before .before .before .before .before .before .before .before .before .before .before .walk-node .ensures .ready .sound .few, s .pre .0 .valid .vertices-most)
 
 add-firsts : tie.Need-add-firsts Inv-loop μ-loop
 add-firsts c = omega (arith, c .before .before .before .before .before .before .before .before .before .before .before .before .before .before .before .before .before .before .loop-test .taken, c .before .before .before .before .before .before .before .before .before .before .before .before .before .before .before .before .before .before .before .before .before .before .before .before .before .before .before .before .before .before .good .1 .1 .0 .0)

@@ -6,8 +6,6 @@ use Rattle.graph.specs.Bytes.{graphOf}
 use Rattle.decompose.proofs.Ends.{far-of-one, far-of-other}
 use Rattle.decompose.proofs.child.far_end.Statement.{statement}
 use Rattle.decompose.proofs.child.far_end.Tie as tie
-use Rattle.graph.proofs.one_end.Reads as one-end-reads
-use Rattle.graph.proofs.other_end.Reads as other-end-reads
 
 one-end-requires : tie.Need-one-end-requires
 one-end-requires c κs = search needs

@@ -8,8 +8,6 @@ use Rattle.graph.proofs.Ranges.{one-end-below, other-end-below}
 use Rattle.decompose.proofs.Ends.{leads-from-one, leads-from-other, leads-nowhere}
 use Rattle.decompose.proofs.child.leads_on.Statement.{statement}
 use Rattle.decompose.proofs.child.leads_on.Tie as tie
-use Rattle.graph.proofs.one_end.Reads as one-end-reads
-use Rattle.graph.proofs.other_end.Reads as other-end-reads
 
 one-end-requires : tie.Need-one-end-requires
 one-end-requires c κs = search needs

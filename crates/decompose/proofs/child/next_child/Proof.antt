@@ -1,6 +1,6 @@
 -- `decompose::child::next_child` meets its contract. The loop's invariant: no edge from `from` up to `place` leads on.
 -- The measure is how many edges are left. Assumes nothing.
-use Prim.Native.Nat.{ℕ, _+_, _-_, _≤_, _<_}
+use Prim.Native.Nat.{ℕ, _-_, _≤_, _<_}
 use mathlib.Core.Path.{_≡_, refl, sym, _∙_}
 use mathlib.Core.Bool.{true, false}
 use mathlib.Core.Logic.{dite}
@@ -14,10 +14,6 @@ use Rattle.decompose.specs.Grows.{leadsTo}
 use Rattle.decompose.proofs.Ends.{far-end-below, leads-unmarked}
 use Rattle.decompose.proofs.child.next_child.Statement.{statement}
 use Rattle.decompose.proofs.child.next_child.Tie as tie
-use Rattle.decompose.proofs.child.next_child.Reads as reads
-use Rattle.decompose.proofs.child.next_child.Lts as lts
-use Rattle.decompose.proofs.child.far_end.Reads as far-end-reads
-use Rattle.decompose.proofs.child.leads_on.Reads as leads-on-reads
 
 abbrev Inv-loop : tie.InvT-loop
 Inv-loop b edges passed v from place₀ place =

@@ -2,7 +2,7 @@
 -- are left into what is there. The measure is how many are left. Assumes nothing.
 use Prim.Native.Nat.{ℕ, _+_, _-_, _≤_, _<_}
 use mathlib.Core.Path.{_≡_, refl, sym, ap, _∙_}
-use mathlib.Core.List.{List, _∷_}
+use mathlib.Core.List.{List}
 use native.Mathlib.Omega.{arith}
 use native.Mathlib.Numerals.{add-one}
 use borrow.Author.Needs.{needs}
@@ -10,13 +10,11 @@ use lib.ListN.{length, getD, set, length-set}
 use lib.Seq.{slice, sets, slice-cons, slice-empty}
 use Rattle.decompose.proofs.part.copy_edges.Statement.{statement}
 use Rattle.decompose.proofs.part.copy_edges.Tie as tie
-use Rattle.decompose.proofs.part.copy_edges.Reads as reads
-use Rattle.decompose.proofs.part.copy_edges.Lts as lts
 
 -- one edge is copied
 copy-one : (stack flat : List ℕ) (i to at : ℕ) → i < to → to ≤ length stack
     → sets flat at (slice i to stack) ≡ sets (set flat at (getD stack i 0)) (at + 1) (slice (i + 1) to stack)
-copy-one stack flat i to at h l = rw (add-one, add-one) (ap (sets flat at) (slice-cons i to stack 0 h l))
+copy-one stack flat i to at h l = rw (add-one at, add-one i) (ap (sets flat at) (slice-cons i to stack 0 h l))
 
 abbrev Inv-loop : tie.InvT-loop
 Inv-loop stack from to flat₀ used i₀ at₀ flat i at =

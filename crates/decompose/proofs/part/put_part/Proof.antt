@@ -2,14 +2,10 @@
 -- Assumes nothing.
 use borrow.Author.Needs.{needs}
 use mathlib.Core.Path.{refl}
-use native.Mathlib.Omega.{arith}
 use lib.Seq.{length-slice}
 use Rattle.decompose.specs.PutPart.{withPart}
 use Rattle.decompose.proofs.part.put_part.Statement.{statement}
 use Rattle.decompose.proofs.part.put_part.Tie as tie
-use Rattle.decompose.proofs.part.put_part.Reads as reads
-use Rattle.decompose.proofs.part.put_part.Lts as lts
-use Rattle.decompose.proofs.part.copy_edges.Reads as copy-edges-reads
 
 sub-next : tie.Need-sub-next
 sub-next c = search needs

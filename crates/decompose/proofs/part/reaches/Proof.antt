@@ -4,8 +4,6 @@ use native.Mathlib.Omega.{arith}
 use borrow.Author.Tests.{le-ltb, lt-ltb}
 use Rattle.decompose.proofs.part.reaches.Statement.{statement}
 use Rattle.decompose.proofs.part.reaches.Tie as tie
-use Rattle.decompose.proofs.part.reaches.Reads as reads
-use Rattle.decompose.proofs.part.reaches.Lts as lts
 
 returns : tie.Need-returns
 returns c = rw (le-ltb 0 (c .before .args .h) (omega arith))

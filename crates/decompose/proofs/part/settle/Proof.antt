@@ -1,7 +1,7 @@
 -- `decompose::part::settle` meets its contract: the three cases.
 -- Assumes nothing.
 use borrow.Author.Needs.{needs}
-use Prim.Native.Nat.{ℕ, _+_}
+use Prim.Native.Nat.{_+_}
 use mathlib.Core.Path.{_≡_, refl, sym, _∙_}
 use native.Mathlib.Omega.{arith}
 use lib.Seq.{slice}
@@ -12,11 +12,6 @@ use Rattle.decompose.specs.Settled.{Meets}
 use Rattle.decompose.proofs.Settling.{below-little, bunch-little, piece-weighs, settled-alone, settled-full, settled-joined}
 use Rattle.decompose.proofs.part.settle.Statement.{statement}
 use Rattle.decompose.proofs.part.settle.Tie as tie
-use Rattle.decompose.proofs.part.settle.Reads as reads
-use Rattle.decompose.proofs.part.settle.Lts as lts
-use Rattle.decompose.proofs.part.put_part.Reads as put-part-reads
-use Rattle.decompose.proofs.part.reaches.Reads as reaches-reads
-use Rattle.graph.proofs.weight.Reads as weight-reads
 
 -- Once the edge's weight is read: what was asked of the piece and the bunch, and that the sum is the piece's weight.
 module _ (w : tie.After-weight) where

@@ -1,21 +1,17 @@
 -- The node walk and the child-list walk meet their contracts. The measure is what is left to be visited: the node walk passes a vertex,
 -- and the child-list walk calls it only at a vertex without a mark. Twice that number lets the calls between the two fall as well.
 -- Assumes nothing.
-use Prim.Native.Nat.{ℕ, _+_, _-_, _*_, _≤_, _<_}
-use mathlib.Core.Path.{_≡_, refl, sym, ap, _∙_}
+use Prim.Native.Nat.{ℕ, _+_, _-_, _*_, _<_}
+use mathlib.Core.Path.{_≡_, refl, _∙_}
 use native.Mathlib.Omega.{arith}
 use borrow.Fn.Kinds.{In}
 use borrow.Fn.PlainCycle.{Measures, is, falls, and}
 use lib.ListN.{length, set, length-set}
-use Rattle.graph.specs.Graph.{Graph}
 use Rattle.graph.specs.Bytes.{graphOf}
 use Rattle.decompose.specs.Grows.{unvisited}
-use Rattle.decompose.specs.NextChild.{NextChild}
-use Rattle.decompose.specs.Settled.{Meets, Settled}
-use Rattle.decompose.specs.Walked.{State, stateOf, passing, Ready, Walked}
-use Rattle.decompose.proofs.Marks.{unvisited-below}
+use Rattle.decompose.specs.Walked.{stateOf}
 use Rattle.decompose.proofs.Walking.{walk-done, child-less, edge-fits, child-ready, child-meets}
-use Rattle.decompose.proofs.Going.{SameLengths, Going, going-first, going-on}
+use Rattle.decompose.proofs.Going.{Going, going-first, going-on}
 use Rattle.decompose.proofs.walk.walk_children.Reads as walk-children
 use Rattle.decompose.proofs.walk.walk_children.Kinds as walk-children-kinds
 use Rattle.decompose.proofs.walk.+walk_children+walk_node.Lts-walk_children as list

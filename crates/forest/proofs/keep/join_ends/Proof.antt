@@ -38,8 +38,8 @@ returns : tie.Need-returns
 returns c =
     let s = c .before .before .before .before .before .before .before in
     let k = c .before .before .before in
-    joined-already (s .pre .graph .valid) (s .args .e) (s .args .label .now)
-    (rw (k .before .one-end .ensures .is, k .other-end .ensures .is) at (c .if1 .taken))
+    joined-already (s .pre .graph .valid) (s .args .e) (k .before .one-end .ensures .is) (k .other-end .ensures .is) (s .args .label .now)
+    (c .if1 .taken)
 
 vertex-count-requires : tie.Need-vertex-count-requires
 vertex-count-requires c κs = search needs
@@ -56,8 +56,7 @@ returns-2 c =
     let k = c .before .before .before .before .before .before .before .before in
     let one = k .before .one-end .ensures .is in
     let other = k .other-end .ensures .is in
-    joined-now (s .pre .graph .valid) (s .args .e) (s .args .label .now)
-    (rw (one, other) at (c .before .before .before .before .before .if1 .left))
+    joined-now (s .pre .graph .valid) (s .args .e) one other (s .args .label .now) (c .before .before .before .before .before .if1 .left)
     (rw (one, other, c .before .before .before .before .vertex-count .ensures .is) at (c .before .before .merge-labels .ensures))
 
 pub join-ends-spec : {M : Type 1} → statement M

@@ -40,7 +40,11 @@ loop-less c = search needs
 loop-again : tie.Need-loop-again Inv-loop μ-loop
 loop-again c =
     let j = c .before .before .before .join-ends in
-    (omega arith, taking-passed (c .before .before .before .before .before .before .before .before .loop .inv .1) (omega arith) (j .kept .1 .1 .0) (rw (c .before .before .before .before .before .wide .ensures .is, not-true (j .result) (c .if1 .taken)) at (j .ensures)))
+    let edge = c .before .before .before .before .before .wide .ensures .is in (
+      omega arith,
+      taking-passed (c .before .before .before .before .before .before .before .before .loop .inv .1) (omega arith) (j .kept .1 .1 .0)
+          (rw (edge, not-true (j .result) (c .if1 .taken)) at (j .ensures)),
+    )
 
 mul-kept : tie.Need-mul-kept Inv-loop μ-loop
 mul-kept c = search needs
@@ -57,7 +61,11 @@ loop-less-2 c = search needs
 loop-again-2 : tie.Need-loop-again-2 Inv-loop μ-loop
 loop-again-2 c =
     let j = c .before .before .before .join-ends in
-    (omega arith, taking-more (c .before .before .before .before .before .before .before .before .loop .inv .1) (omega arith) (j .kept .1 .1 .0) (rw (c .before .before .before .before .before .wide .ensures .is, not-false (j .result) (c .if1 .left)) at (j .ensures)) (omega arith))
+    let edge = c .before .before .before .before .before .wide .ensures .is in (
+      omega arith,
+      taking-more (c .before .before .before .before .before .before .before .before .loop .inv .1) (omega arith) (j .kept .1 .1 .0)
+          (rw (edge, not-false (j .result) (c .if1 .left)) at (j .ensures)) (omega arith),
+    )
 
 same-length : tie.Need-same-length Inv-loop μ-loop
 same-length c = search needs
