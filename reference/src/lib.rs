@@ -15,6 +15,7 @@ pub mod judge;
 pub mod judge_parts;
 pub mod judge_text;
 pub mod judge_tree;
+pub mod made_filings;
 pub mod optimum;
 pub mod question;
 pub mod random;

@@ -9,3 +9,15 @@ pub mod HeldBytes
 pub mod EntryTests
 -- the tests of the starts
 pub mod StartTests
+-- the entries of a tree are one run
+pub mod TreeRuns
+-- a run of entries, edge by edge
+pub mod RunTests
+-- the tests of the trees
+pub mod TreeTests
+-- marks, vertex by vertex
+pub mod Marking
+-- the weights of runs and trees
+pub mod Weights
+-- the check, test by test
+pub mod CheckSteps

@@ -1,37 +1,48 @@
 -- The tests of the starts (32) as the code makes them, one after the other.
 -- Assumes nothing.
 use Prim.Native.Nat.{ℕ, _≤_, _<_}
-use mathlib.Core.Path.{_≡_, refl}
-use mathlib.Core.Bool.{Bool, true, false}
-use mathlib.Core.List.{List}
+use mathlib.Core.Path.{_≡_, sym, ap, _∙_}
+use mathlib.Core.Bool.{true, false}
+use mathlib.Core.List.{List, map-id}
+use native.Mathlib.Omega.{arith}
 use lib.ListN.{length, getD}
 use lib.Dec.{eqb, leb, ltb}
-use borrow.Author.Tests.{lt-ltb, le-ltb, le-leb, lt-leb, eq-eqb, ne-eqb}
-use Rattle.lists.proofs.AllBelow.{all-below, not-below}
+use borrow.Author.Tests.{ltb-true, lt-ltb, le-ltb, le-leb, lt-leb, eq-eqb, ne-eqb}
+use Rattle.lists.specs.Count.{below}
+use Rattle.lists.proofs.Runs.{length-below, getD-map-below}
+use Rattle.lists.proofs.AllBelow.{all-below, not-below, each-below}
 use Rattle.theory.specs.Cover.{rooted, unrooted}
 use Rattle.theory.specs.CoverBytes.{treesIn, startIn}
 use Rattle.theory.specs.CheckCover.{startsRight, startsBelow}
 
 module _ (b : List ℕ) where
-  module _ (roots : List ℕ) where
-    pub other-count : (treesIn b ≡ length roots → ⊥) → startsRight (rooted roots) b ≡ false
-    unfolding startsRight
-    other-count d = rw (ne-eqb (treesIn b) (length roots) d)
+  module _ (k : ℕ) where
+    -- The roots are the first k vertices.
+    root-is : (j : ℕ) → j < k → getD (below k) j 0 ≡ j
+    root-is j h = ap (λ l. getD l j 0) (sym (map-id (below k))) ∙ getD-map-below (λ x. x) 0 k j h
 
-    module _ (q : treesIn b ≡ length roots) where
-      pub other-start : (j : ℕ) → j < treesIn b → (startIn b j ≡ getD roots j 0 → ⊥) → startsRight (rooted roots) b ≡ false
+    pub other-count : (treesIn b ≡ k → ⊥) → startsRight (rooted (below k)) b ≡ false
+    unfolding startsRight
+    other-count d = rw (length-below k, ne-eqb (treesIn b) k d)
+
+    module _ (q : treesIn b ≡ k) where
+      count-right : eqb (treesIn b) (length (below k)) ≡ true
+      count-right = rw (length-below k) (eq-eqb (treesIn b) k q)
+
+      pub other-start : (j : ℕ) → j < treesIn b → (startIn b j ≡ j → ⊥) → startsRight (rooted (below k)) b ≡ false
       unfolding startsRight
       other-start j h d =
-          rw (eq-eqb (treesIn b) (length roots) q)
-          (not-below (λ k. eqb (startIn b k) (getD roots k 0)) (treesIn b) j h (ne-eqb (startIn b j) (getD roots j 0) d))
+          rw count-right
+          (not-below (λ i. eqb (startIn b i) (getD (below k) i 0)) (treesIn b) j h
+          (rw (root-is j (omega arith)) (ne-eqb (startIn b j) j d)))
 
-      pub same-starts : ((j : ℕ) → j < treesIn b → startIn b j ≡ getD roots j 0) → startsRight (rooted roots) b ≡ true
+      pub same-starts : ((j : ℕ) → j < treesIn b → startIn b j ≡ j) → startsRight (rooted (below k)) b ≡ true
       unfolding startsRight
       same-starts h =
-          rw (eq-eqb (treesIn b) (length roots) q)
-          (all-below (λ k. eqb (startIn b k) (getD roots k 0)) (treesIn b) (λ j l. eq-eqb (startIn b j) (getD roots j 0) (h j l)))
+          rw count-right
+          (all-below (λ i. eqb (startIn b i) (getD (below k) i 0)) (treesIn b)
+          (λ j l. rw (root-is j (omega arith)) (eq-eqb (startIn b j) j (h j l))))
 
-  module _ (k : ℕ) where
     pub no-trees : treesIn b < 1 → startsRight (unrooted k) b ≡ false
     unfolding startsRight
     no-trees h = rw (lt-leb 1 (treesIn b) h)
@@ -44,6 +55,11 @@ module _ (b : List ℕ) where
     pub start-above : (j : ℕ) → j < treesIn b → n ≤ startIn b j → startsBelow n b ≡ false
     unfolding startsBelow
     start-above j h l = not-below (λ k. ltb (startIn b k) n) (treesIn b) j h (le-ltb (startIn b j) n l)
+
+    -- Where all starts pass, each is below n.
+    pub start-passed : startsBelow n b ≡ true → (j : ℕ) → j < treesIn b → startIn b j < n
+    unfolding startsBelow
+    start-passed t j h = ltb-true (startIn b j) n (each-below (λ k. ltb (startIn b k) n) (treesIn b) t j h)
 
     pub all-starts : ((j : ℕ) → j < treesIn b → startIn b j < n) → startsBelow n b ≡ true
     unfolding startsBelow

@@ -3,3 +3,11 @@
 pub mod Written
 -- trees held in three arrays
 pub mod Held
+-- runs of entries
+pub mod Runs
+-- one tree and its run of entries
+pub mod Trees
+-- marked vertices
+pub mod Vertices
+-- what the check promises
+pub mod Promise

@@ -1,7 +1,11 @@
 // The bytes of a cover: reading and writing them, and the check of a filed cover (31 to 35).
 // The words of the contracts stand in specs/ and in the definitions of `theory`.
+pub mod check;
 pub mod entries;
+pub mod heaviest;
 pub mod read;
 pub mod starts;
+pub mod trees;
+pub mod vertices;
 mod wide;
 pub mod write;

@@ -1,24 +1,22 @@
 // The starts of a filed cover (32): as many as the crews may have, each where its crew begins, each a vertex.
 use crate::read::start_in;
 use crate::read::trees_in;
-use crate::wide::wide;
 ghost use mathlib.Core.Path.{_≡_};
-ghost use mathlib.Core.List.{List};
-ghost use Rattle.graph.specs.Graph.{Graph};
+ghost use Rattle.lists.specs.Count.{below};
 ghost use Rattle.theory.specs.Cover.{rooted, unrooted};
 ghost use Rattle.theory.specs.CheckCover.{startsRight, startsBelow};
 
-// There are as many trees as roots, and tree j starts at the j-th root.
-pub fn starts_at_roots(c: &[u8], roots: &[u16]) -> bool
-    ensures { λ r. ⌜ r ≡ startsRight (rooted (now (roots .entry))) (now (c .entry)) ⌝ }
+// There are k trees, and tree j starts at its root, which is vertex j.
+pub fn starts_at_roots(c: &[u8], k: usize) -> bool
+    ensures { λ r. ⌜ r ≡ startsRight (rooted (below k)) (now (c .entry)) ⌝ }
 {
     let t = trees_in(c);
-    if t != roots.len() {
+    if t != k {
         return false;
     }
     let mut j = 0;
     while j < t {
-        if start_in(c, j) != wide(roots[j]) {
+        if start_in(c, j) != j {
             return false;
         }
         j += 1;

@@ -9,26 +9,17 @@ use mathlib.Core.Option.{some, none}
 use native.Mathlib.Omega.{arith}
 use Rattle.graph.specs.Graph.{Graph}
 use Rattle.graph.specs.Bytes.{graphOf}
-use Rattle.graph.specs.Valid.{IsGraph}
 use Rattle.theory.specs.Fault.{Fault, firstFault, refusedOr}
-use Rattle.theory.specs.Cover.{Tree, Crews, IsCover, heaviest}
-use Rattle.theory.specs.CoverBytes.{encode, decode}
+use Rattle.theory.specs.Cover.{Crews, heaviest}
+use Rattle.theory.specs.CoverBytes.{decode}
 use Rattle.theory.specs.CheckCover.{coverFault}
 use Rattle.theory.specs.Reply.{Verdict, number}
 use Rattle.theory.specs.Questions.{sheetFault, crewFault, askCheck}
+use Rattle.theory.specs.Filed.{Filed}
 use Rattle.theory.proofs.Fields.{Bytes}
 use Rattle.theory.proofs.Faults.{quiet-each, first-quiet, none-quiet}
 use Rattle.theory.proofs.SheetRight.{sheet-right}
 use Rattle.covers.proofs.CheckedCovers.{heaviest-read, checked-covers}
-
--- The sheet is a graph's, the crews are in order, and the bytes are those of a cover by the crews whose heaviest tree weighs h.
-pub record Filed (sheet : List ℕ) (crews : Crews) (b : List ℕ) (h : ℕ) : Type 0 where
-  pub is-graph : IsGraph sheet
-  pub crews-right : crewFault crews (graphOf sheet .vertices) ≡ none
-  pub trees : List Tree
-  pub cover : IsCover (graphOf sheet) crews trees
-  pub bytes : b ≡ encode trees
-  pub weighs : h ≡ heaviest (graphOf sheet) trees
 
 -- An answer of yes says that nothing is refused, and what it says.
 yes-says : (f : Fault) (h k : ℕ) → refusedOr number f (Verdict.yes k) ≡ Verdict.yes h → (f ≡ none) × (h ≡ k)

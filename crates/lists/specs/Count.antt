@@ -1,8 +1,8 @@
 -- The numbers below a bound, and how many of them pass a test.
 -- Assumes nothing.
 use Prim.Native.Nat.{ℕ, zero, suc, _+_}
-use mathlib.Core.Bool.{Bool, true, false, cond, _||_}
-use mathlib.Core.List.{List, [], _∷_, _++_}
+use mathlib.Core.Bool.{Bool, false, cond, _||_}
+use mathlib.Core.List.{List, [], _∷_}
 
 -- how many numbers below n pass the test
 unfoldable pub count : ℕ → (ℕ → Bool) → ℕ

@@ -1,7 +1,7 @@
 -- Walks can be turned round and joined, so that being linked is an equivalence, and more edges link no less.
 -- Assumes nothing.
-use Prim.Native.Nat.{ℕ, _+_}
-use mathlib.Core.Path.{_≡_, refl, sym, ap, _∙_}
+use Prim.Native.Nat.{ℕ}
+use mathlib.Core.Path.{_≡_, refl, sym, _∙_}
 use mathlib.Core.List.{List, [], _∷_, _++_, List·Memᴰ·head, List·Memᴰ·tail, List·Memᴰ·not-nil, List·Memᴰ·append-cases, List·Memᴰ·eq-of-singleton, Memᴰ·cast}
 use mathlib.Core.Logic.{_⊎_, inl, inr}
 use Rattle.lists.specs.Member.{_∈_}

@@ -1,8 +1,8 @@
 -- The check of a filed cover (document 01, "The filer of a cover": 31 to 35, tried in that order).
 -- Assumes nothing.
-use Prim.Native.Nat.{ℕ, _+_, _-_}
-use mathlib.Core.Bool.{Bool, true, false, cond, not, _&&_, _||_}
-use mathlib.Core.List.{List, [], _∷_, map}
+use Prim.Native.Nat.{ℕ, _-_}
+use mathlib.Core.Bool.{Bool, true, not, _&&_, _||_}
+use mathlib.Core.List.{List, [], _∷_}
 use lib.ListN.{length, getD}
 use lib.Dec.{leb, ltb, eqb}
 use Rattle.lists.specs.Count.{below}
@@ -46,13 +46,21 @@ loopFree g label (e ∷ es) = not (endsJoined g label e) && loopFree g (mergeEdg
 unfoldable pub allJoined : Graph → Tree → Bool
 allJoined g t = all (λ e. joined (mergeAll g apart (t .edges)) (t .start) (oneEnd g e)) (t .edges)
 
--- 34: no tree has a loop or an edge not joined to its start.
+-- 34: the tree has no loop and no edge that is not joined to its start.
+abbrev pub treeRight : Graph → Tree → Bool
+treeRight g t = loopFree g apart (t .edges) && allJoined g t
+
+-- 34: every tree is so.
 unfoldable pub treesRight : Graph → List Tree → Bool
-treesRight g trees = all (λ t. loopFree g apart (t .edges) && allJoined g t) trees
+treesRight g trees = all (λ t. treeRight g t) trees
+
+-- 35: some tree covers the vertex.
+abbrev pub vertexCovered : Graph → List Tree → ℕ → Bool
+vertexCovered g trees v = any (λ t. member v (treeVertices g t)) trees
 
 -- 35: every vertex is covered.
 unfoldable pub verticesCovered : Graph → List Tree → Bool
-verticesCovered g trees = all (λ v. any (λ t. member v (treeVertices g t)) trees) (below (g .vertices))
+verticesCovered g trees = all (λ v. vertexCovered g trees v) (below (g .vertices))
 
 -- The first number that applies, for a graph and crews that are in order. 31 is "length below 4 or not 4 + 2t + 4q".
 unfoldable pub coverFault : Graph → Crews → List ℕ → Fault

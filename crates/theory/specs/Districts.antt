@@ -2,7 +2,6 @@
 -- Assumes nothing.
 use Prim.Native.Nat.{ℕ}
 use mathlib.Core.Path.{_≡_, refl}
-use mathlib.Core.Bool.{_&&_}
 use mathlib.Core.List.{List, [], _∷_, map, headD}
 use Rattle.theory.specs.Cover.{Tree, Crews, rooted, unrooted}
 use Rattle.theory.specs.RootedTrial.{Choices}

@@ -1,11 +1,9 @@
 -- The forest (document 01, step 2): edges are taken in order, and kept where their ends are not yet joined.
 -- Assumes nothing.
 use Prim.Native.Nat.{ℕ}
-use mathlib.Core.Bool.{Bool, cond, not}
+use mathlib.Core.Bool.{cond, not}
 use mathlib.Core.List.{List, [], _∷_, headD}
 use mathlib.Core.Option.{Option}
-use lib.ListN.{length}
-use lib.Dec.{eqb, ltb}
 use Rattle.lists.specs.Count.{below, anyBelow}
 use Rattle.lists.specs.Lists.{filter, firstThat}
 use Rattle.graph.specs.Graph.{Graph}

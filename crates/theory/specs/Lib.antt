@@ -34,5 +34,7 @@ pub mod Fault
 pub mod CheckCover
 -- the questions, from bytes to replies
 pub mod Questions
+-- what the check of a filed cover is to find out
+pub mod Filed
 -- "Small districts": the starred rows
 pub mod Districts

@@ -1,7 +1,7 @@
 -- The trial of an unrooted question at a limit (document 01, a "roving" trial, steps 2 to 4 and 7).
 -- Assumes nothing.
 use Prim.Native.Nat.{ℕ, _+_, _*_, _/_, min}
-use mathlib.Core.Bool.{Bool, true, false, cond, _&&_, _||_}
+use mathlib.Core.Bool.{Bool, cond, _&&_, _||_}
 use mathlib.Core.List.{List, [], _∷_, _++_, map, foldr}
 use lib.Dec.{leb, ltb, eqb}
 use Rattle.lists.specs.Lists.{flat, sumOf}
@@ -12,7 +12,7 @@ use Rattle.theory.specs.Cover.{Tree, heaviest}
 use Rattle.theory.specs.Labels.{apart}
 use Rattle.theory.specs.Forest.{forest, labelsAt, lowest}
 use Rattle.theory.specs.Grow.{Rooted, branchEdges, grow}
-use Rattle.theory.specs.Split.{Pieces, split, smallestEdge}
+use Rattle.theory.specs.Split.{split, smallestEdge}
 use Rattle.theory.specs.Distance.{treeVertices}
 use Rattle.theory.specs.Reply.{Reply, covered, too-low-needs}
 

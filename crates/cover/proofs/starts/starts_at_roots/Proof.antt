@@ -3,27 +3,25 @@
 use Prim.Native.Nat.{ℕ, _-_, _<_}
 use mathlib.Core.Path.{_≡_, sym, _∙_}
 use native.Mathlib.Omega.{arith}
-use lib.ListN.{length, getD}
 use borrow.Author.Count.{below-none, below-more}
-use borrow.Author.Needs.{needs}
 use Rattle.theory.specs.CoverBytes.{startIn}
 use Rattle.cover.proofs.StartTests.{other-count, other-start, same-starts}
 use Rattle.cover.proofs.starts.starts_at_roots.Statement.{statement}
 use Rattle.cover.proofs.starts.starts_at_roots.Tie as tie
 
 abbrev Inv-loop : tie.InvT-loop
-Inv-loop c roots t j₀ j = (t ≡ length roots) × ((k : ℕ) → k < j → startIn c k ≡ getD roots k 0)
+Inv-loop c k t j₀ j = (t ≡ k) × ((i : ℕ) → i < j → startIn c i ≡ i)
 
 abbrev μ-loop : tie.MeasureT-loop
-μ-loop c roots t j₀ j = t - j
+μ-loop c k t j₀ j = t - j
 
 trees-in-requires : tie.Need-trees-in-requires Inv-loop μ-loop
 trees-in-requires c κs = tt
 
 returns : tie.Need-returns Inv-loop μ-loop
 returns c =
-    let g = c .before .before .before .before .args in
-    sym (other-count (g .c .now) (g .roots .now) (omega arith))
+    let g = c .before .before .before .args in
+    sym (other-count (g .c .now) (g .k) (omega arith))
 
 loop-holds : tie.Need-loop-holds Inv-loop μ-loop
 loop-holds c = (omega arith, below-none _)
@@ -31,19 +29,10 @@ loop-holds c = (omega arith, below-none _)
 start-in-requires : tie.Need-start-in-requires Inv-loop μ-loop
 start-in-requires c κs = tt
 
-mul-wide : tie.Need-mul-wide Inv-loop μ-loop
-mul-wide c = search needs
-
-shared-slice-read-wide : tie.Need-shared-slice-read-wide Inv-loop μ-loop
-shared-slice-read-wide c = omega arith
-
-wide-requires : tie.Need-wide-requires Inv-loop μ-loop
-wide-requires c κs = tt
-
 returns-2 : tie.Need-returns-2 Inv-loop μ-loop
 returns-2 c =
-    let g = c .before .before .before .before .before .before .before .before .before .before .args in
-    sym (other-start (g .c .now) (g .roots .now) (omega arith) (c .before .before .before .before .before .loop .j) (omega arith) (omega arith))
+    let g = c .before .before .before .before .before .before .before .args in
+    sym (other-start (g .c .now) (g .k) (omega arith) (c .before .before .before .loop .j) (omega arith) (omega arith))
 
 add-j : tie.Need-add-j Inv-loop μ-loop
 add-j c = omega arith
@@ -53,12 +42,12 @@ loop-less c = omega arith
 
 loop-again : tie.Need-loop-again Inv-loop μ-loop
 loop-again c =
-    (omega arith, below-more _ (c .before .before .before .before .before .loop .j) (c .before .before .before .before .before .loop .inv .1) (sym (c .before .before .before .start-in .ensures .is) ∙ c .if2 .left ∙ c .before .wide .ensures))
+    (omega arith, below-more _ (c .before .before .before .loop .j) (c .before .before .before .loop .inv .1) (sym (c .before .start-in .ensures .is) ∙ c .if2 .left))
 
 returns-3 : tie.Need-returns-3 Inv-loop μ-loop
 returns-3 c =
-    let g = c .before .before .before .before .before .before .args in
-    sym (same-starts (g .c .now) (g .roots .now) (omega arith) (λ k h. c .before .loop .inv .1 k (omega arith)))
+    let g = c .before .before .before .before .before .args in
+    sym (same-starts (g .c .now) (g .k) (omega arith) (λ k h. c .before .loop .inv .1 k (omega arith)))
 
 pub starts-at-roots-spec : {M : Type 1} → statement M
 starts-at-roots-spec =
@@ -70,9 +59,6 @@ starts-at-roots-spec =
     returns
     loop-holds
     start-in-requires
-    mul-wide
-    shared-slice-read-wide
-    wide-requires
     returns-2
     add-j
     loop-less

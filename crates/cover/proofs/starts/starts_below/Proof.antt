@@ -1,7 +1,7 @@
 -- `cover::starts::starts_below` meets its contract. The loop's invariant: every start before j is below n. The measure is how many are left.
 -- Assumes nothing.
 use Prim.Native.Nat.{ℕ, _-_, _<_}
-use mathlib.Core.Path.{_≡_, sym, _∙_}
+use mathlib.Core.Path.{sym}
 use native.Mathlib.Omega.{arith}
 use borrow.Author.Count.{below-none, below-more}
 use Rattle.theory.specs.CoverBytes.{startIn}

@@ -1,0 +1,165 @@
+-- The check test by test, in the order of document 01: what each test that fails, and each that passes, makes of the answer.
+-- Assumes nothing.
+use Prim.Native.Nat.{ℕ, _≤_, _<_}
+use mathlib.Core.Path.{_≡_, refl, sym, ap, _∙_}
+use mathlib.Core.Bool.{true, false, _&&_, false≢true, true≢false}
+use mathlib.Core.List.{List, [], _∷_}
+use mathlib.Core.Option.{some, none}
+use native.Mathlib.Omega.{arith}
+use lib.Dec.{leb}
+use lib.ListN.{length}
+use borrow.Author.Tests.{lt-ltb, le-ltb, le-leb, lt-leb, eq-eqb, ne-eqb, leb-true, leb-false}
+use Rattle.lists.proofs.Runs.{length-below}
+use Rattle.graph.specs.Graph.{Graph, edgeCount}
+use Rattle.graph.specs.Bytes.{graphOf}
+use Rattle.graph.specs.Check as sheet
+use Rattle.theory.specs.Fault.{Fault, faultIf, faultUnless, firstFault, refusedOr}
+use Rattle.theory.specs.Cover.{Crews, heaviest}
+use Rattle.theory.specs.CoverBytes.{coverLength, decode}
+use Rattle.theory.specs.CheckCover.{startsRight, startsBelow, entriesRight, treesRight, verticesCovered, coverFault}
+use Rattle.theory.specs.Reply as reply
+use Rattle.theory.specs.Questions.{numberIn, sheetFault, crewCount, tooManyRoots, crewFault, askCheck}
+use Rattle.theory.proofs.Fields.{Bytes}
+use Rattle.covers.proofs.CheckQuestion.{yes-exactly-covers}
+use Rattle.cover.specs.declared.check.Kind.{Kind}
+use Rattle.cover.specs.declared.check.Kind.the-variants.{Rooted, Unrooted}
+use Rattle.cover.specs.declared.check.Verdict.{Verdict}
+use Rattle.cover.specs.declared.check.Verdict.the-variants as verdict
+use Rattle.cover.specs.Promise.{crewsOf, says, answer, treesFault, CrewsTested, CheckPromise}
+
+-- There are as many crews as k says.
+crew-count : (kind : Kind) (k : ℕ) → crewCount (crewsOf kind k) ≡ k
+unfolding crewCount
+crew-count Rooted k = length-below k
+crew-count Unrooted k = refl
+
+module _ (kind : Kind) (k n : ℕ) where
+  -- The test of the crews says no, with 21.
+  refused-crews : crewFault (crewsOf kind k) n ≡ some 21 → CrewsTested (crewsOf kind k) n false
+  refused-crews q = record { right = λ t. absurd (false≢true t); wrong = λ t. q }
+
+  pub no-crews : k < 1 → CrewsTested (crewsOf kind k) n false
+  unfolding crewFault faultIf
+  no-crews h = refused-crews (rw (crew-count kind k, lt-ltb k 1 h))
+
+  pub many-crews : 32 < k → CrewsTested (crewsOf kind k) n false
+  unfolding crewFault faultIf
+  many-crews h = refused-crews (rw (crew-count kind k, le-ltb k 1 (omega arith), lt-ltb 32 k h))
+
+  -- There are 1 to 32 crews: only the roots may be too many.
+  few-crews : 1 ≤ k → k ≤ 32 → crewFault (crewsOf kind k) n ≡ faultIf (tooManyRoots (crewsOf kind k) n) 21
+  unfolding crewFault
+  few-crews h l = rw (crew-count kind k, le-ltb k 1 h, le-ltb 32 k l)
+
+module _ (k n : ℕ) (h : 1 ≤ k) (l : k ≤ 32) where
+  pub rooted-crews : CrewsTested (crewsOf Rooted k) n (leb k n)
+  unfolding tooManyRoots faultIf
+  rooted-crews =
+      record {
+        right = λ t. few-crews Rooted k n h l ∙ rw (length-below k, le-ltb n k (leb-true k n t));
+        wrong = λ t. few-crews Rooted k n h l ∙ rw (length-below k, lt-ltb n k (leb-false k n t));
+      }
+
+  pub unrooted-crews : CrewsTested (crewsOf Unrooted k) n true
+  unfolding tooManyRoots faultIf
+  unrooted-crews = record { right = λ t. few-crews Unrooted k n h l; wrong = λ t. absurd (true≢false t) }
+
+-- The cover's bytes, for a graph and crews.
+module _ (g : Graph) (crews : Crews) (c : List ℕ) where
+  -- 31
+  pub short-cover : length c < 4 → reply.number 31 ≡ answer g c (coverFault g crews c)
+  unfolding coverFault firstFault faultUnless refusedOr
+  short-cover h = rw (lt-leb 4 (length c) h)
+
+  module _ (h : 4 ≤ length c) where
+    pub other-length : (length c ≡ coverLength c → ⊥) → reply.number 31 ≡ answer g c (coverFault g crews c)
+    unfolding coverFault firstFault faultUnless refusedOr
+    other-length d = rw (le-leb 4 (length c) h, ne-eqb (length c) (coverLength c) d)
+
+    module _ (q : length c ≡ coverLength c) where
+      -- What is tried after the length.
+      sized : answer g c (firstFault (faultUnless (startsRight crews c && startsBelow (g .vertices) c) 32
+          ∷ faultUnless (entriesRight (edgeCount g) c) 33 ∷ faultUnless (treesRight g (decode c)) 34 ∷ faultUnless (verticesCovered g (decode c)) 35 ∷ []))
+          ≡ answer g c (coverFault g crews c)
+      unfolding coverFault firstFault faultUnless refusedOr
+      sized = rw (le-leb 4 (length c) h, eq-eqb (length c) (coverLength c) q)
+
+      -- 32
+      pub other-starts : startsRight crews c ≡ false → reply.number 32 ≡ answer g c (coverFault g crews c)
+      unfolding firstFault faultUnless refusedOr
+      other-starts s = rw s at sized
+
+      module _ (s : startsRight crews c ≡ true) where
+        pub starts-above : startsBelow (g .vertices) c ≡ false → reply.number 32 ≡ answer g c (coverFault g crews c)
+        unfolding firstFault faultUnless refusedOr
+        starts-above b = rw (s, b) at sized
+
+        module _ (b : startsBelow (g .vertices) c ≡ true) where
+          -- 33
+          pub entries-wrong : entriesRight (edgeCount g) c ≡ false → reply.number 33 ≡ answer g c (coverFault g crews c)
+          unfolding firstFault faultUnless refusedOr
+          entries-wrong t = rw (s, b, t) at sized
+
+          -- The trees and the vertices decide.
+          pub entries-pass : entriesRight (edgeCount g) c ≡ true → answer g c (treesFault g c) ≡ answer g c (coverFault g crews c)
+          unfolding treesFault firstFault faultUnless refusedOr
+          entries-pass t = rw (s, b, t) at sized
+
+-- 34 and 35
+module _ (g : Graph) (c : List ℕ) where
+  pub trees-wrong : treesRight g (decode c) ≡ false → reply.number 34 ≡ answer g c (treesFault g c)
+  unfolding treesFault firstFault faultUnless refusedOr
+  trees-wrong t = rw t
+
+  module _ (t : treesRight g (decode c) ≡ true) where
+    pub vertex-uncovered : verticesCovered g (decode c) ≡ false → reply.number 35 ≡ answer g c (treesFault g c)
+    unfolding treesFault firstFault faultUnless refusedOr
+    vertex-uncovered u = rw (t, u)
+
+    pub all-pass : verticesCovered g (decode c) ≡ true → reply.yes (heaviest g (decode c)) ≡ answer g c (treesFault g c)
+    unfolding treesFault firstFault faultUnless refusedOr
+    all-pass u = rw (t, u)
+
+-- The question: the graph's bytes and the crews come first.
+module _ (b : List ℕ) (crews : Crews) (c : List ℕ) where
+  pub sheet-refused : {k : ℕ} → sheet.checkOf b ≡ sheet.number k → reply.number k ≡ askCheck b crews c
+  unfolding askCheck sheetFault numberIn firstFault refusedOr
+  sheet-refused q = rw q
+
+  module _ {n m : ℕ} (q : sheet.checkOf b ≡ sheet.yes n m) where
+    pub crews-refused : crewFault crews (graphOf b .vertices) ≡ some 21 → reply.number 21 ≡ askCheck b crews c
+    unfolding askCheck sheetFault numberIn firstFault refusedOr
+    crews-refused t = rw (q, t)
+
+    one-fault : (f : Fault) → firstFault (f ∷ []) ≡ f
+    unfolding firstFault
+    one-fault none = refl
+    one-fault (some k) = refl
+
+    pub cover-decides : crewFault crews (graphOf b .vertices) ≡ none → answer (graphOf b) c (coverFault (graphOf b) crews c) ≡ askCheck b crews c
+    unfolding askCheck sheetFault numberIn firstFault
+    cover-decides t = rw (q, t) (ap (answer (graphOf b) c) (sym (one-fault (coverFault (graphOf b) crews c))))
+
+-- Yes is no number.
+not-number : {h k : ℕ} → reply.yes h ≡ reply.number k → ⊥
+not-number q = let z : _≡_ {A = ℕ} 0 1 = cc in omega arith
+
+-- Only one answer says yes.
+says-yes : (r : Verdict) (h : ℕ) → says r ≡ reply.yes h → r ≡ verdict.Yes h
+says-yes (verdict.Yes k) h q = cc
+says-yes (verdict.Sheet f) h q = absurd (not-number (sym q))
+says-yes verdict.Crews h q = absurd (not-number (sym q))
+says-yes verdict.Length h q = absurd (not-number (sym q))
+says-yes verdict.Starts h q = absurd (not-number (sym q))
+says-yes verdict.Entries h q = absurd (not-number (sym q))
+says-yes verdict.Trees h q = absurd (not-number (sym q))
+says-yes verdict.Vertices h q = absurd (not-number (sym q))
+
+-- An answer by the rules is yes exactly to covers.
+pub promised : (kind : Kind) (k : ℕ) (b c : List ℕ) (r : Verdict) → Bytes c → says r ≡ askCheck b (crewsOf kind k) c → CheckPromise kind k b c r
+promised kind k b c r bytes q =
+    let exactly = yes-exactly-covers b (crewsOf kind k) c bytes in
+    record {
+      rule = q;
+      exactly = λ h. (λ e. exactly h .0 (sym q ∙ ap says e), λ f. says-yes r h (q ∙ exactly h .1 f));
+    }

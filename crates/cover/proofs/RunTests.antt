@@ -1,0 +1,116 @@
+-- A run of entries taken edge by edge: what is known of its loops and its labels after each edge.
+-- Assumes nothing.
+use Prim.Native.Nat.{ℕ, suc, _+_, _-_, _≤_, _<_}
+use mathlib.Core.Path.{_≡_, refl, sym, ap, _∙_}
+use mathlib.Core.Bool.{Bool, true, false, _&&_}
+use mathlib.Core.List.{List, [], _∷_, _++_, map, map-append}
+use native.Mathlib.Numerals.{add-one}
+use native.Mathlib.Omega.{arith}
+use lib.ListN.{length}
+use Rattle.lists.specs.Count as Count
+use Rattle.graph.specs.Graph.{Graph}
+use Rattle.theory.specs.Labels.{Labels, mergeEdge, mergeAll}
+use Rattle.theory.specs.CoverBytes.{entryEdge}
+use Rattle.theory.specs.CheckCover.{loopFree}
+use Rattle.forests.proofs.Merging.{merged-append}
+use Rattle.forest.specs.Arrays.{Agrees}
+use Rattle.forest.specs.Labelled.{Joined}
+use Rattle.cover.specs.Runs.{runEdges}
+use Rattle.cover.specs.Trees.{RunTaken}
+use Rattle.cover.proofs.TreeRuns.{from-split}
+
+module _ (c : List ℕ) where
+  -- An empty run.
+  pub run-none : (from to : ℕ) → to ≤ from → runEdges c from to ≡ []
+  unfolding Count.from
+  run-none from to h =
+      let none : to - from ≡ 0 = omega arith in
+      rw none
+
+  -- A run begins with its first entry.
+  pub run-first : (i to : ℕ) → i < to → runEdges c i to ≡ entryEdge c i ∷ runEdges c (i + 1) to
+  unfolding Count.from
+  run-first i to h =
+      let some : to - i ≡ suc (to - suc i) = omega arith in
+      rw (add-one, some)
+
+  -- A run up to the next entry ends with this one.
+  pub run-last : (from i : ℕ) → from ≤ i → runEdges c from (i + 1) ≡ runEdges c from i ++ (entryEdge c i ∷ [])
+  unfolding Count.from
+  run-last from i h =
+      let more : i + 1 - from ≡ (i - from) + 1 = omega arith in
+      let there : from + (i - from) ≡ i = omega arith in
+      ap (λ n. map (entryEdge c) (Count.from from n)) more
+      ∙ ap (map (entryEdge c)) (from-split from (i - from) 1)
+      ∙ map-append (entryEdge c) (Count.from from (i - from)) (Count.from (from + (i - from)) 1)
+      ∙ ap (λ k. runEdges c from i ++ (entryEdge c k ∷ [])) there
+
+-- What is known after the entries before i: the rest decides about loops, from the labels that those before have made.
+pub record RunSoFar (g : Graph) (c : List ℕ) (from to i : ℕ) (label₀ label₁ : List ℕ) : Type 0 where
+  pub past : from ≤ i
+  pub within : i ≤ to
+  pub free : (label : Labels) → Agrees (g .vertices) label₀ label
+      → loopFree g label (runEdges c from to) ≡ loopFree g (mergeAll g label (runEdges c from i)) (runEdges c i to)
+  pub labels : (label : Labels) → Agrees (g .vertices) label₀ label → Agrees (g .vertices) label₁ (mergeAll g label (runEdges c from i))
+  pub as-long : length label₁ ≡ length label₀
+
+module _ (g : Graph) (c : List ℕ) (from to : ℕ) where
+  pub run-start : from ≤ to → (label : List ℕ) → RunSoFar g c from to from label label
+  unfolding mergeAll
+  run-start h label =
+      let none = run-none c from from (omega arith) in
+      record {
+        past = omega arith;
+        within = h;
+        free = λ P a. rw none refl;
+        labels = λ P a. rw none a;
+        as-long = refl;
+      }
+
+  module _ {i : ℕ} {label₀ label₁ label₂ : List ℕ} {r : Bool} (s : RunSoFar g c from to i label₀ label₁) (more : i < to)
+      (j : Joined g (entryEdge c i) label₁ label₂ r) where
+    -- The next edge's ends are joined already: the run closes a loop.
+    pub run-loop : r ≡ false → RunTaken g c from to label₀ label₂ false
+    unfolding loopFree
+    run-loop q =
+        record {
+          free = λ P a.
+              sym (s .free P a
+              ∙ ap (loopFree g (mergeAll g P (runEdges c from i))) (run-first c i to more)
+              ∙ ap (λ t. t && loopFree g (mergeEdge g (mergeAll g P (runEdges c from i)) (entryEdge c i)) (runEdges c (i + 1) to))
+              (sym (j .new (mergeAll g P (runEdges c from i)) (s .labels P a)) ∙ q));
+          labels = λ P a t. absurd (mathlib.Core.Bool.false≢true t);
+        }
+
+    labels-next : (P : Labels) → mergeAll g P (runEdges c from (i + 1)) ≡ mergeEdge g (mergeAll g P (runEdges c from i)) (entryEdge c i)
+    unfolding mergeAll
+    labels-next P =
+        ap (mergeAll g P) (run-last c from i (s .past))
+        ∙ merged-append g P (runEdges c from i) (entryEdge c i ∷ [])
+
+    -- They were not: the rest decides.
+    pub run-next : length label₂ ≡ length label₁ → r ≡ true → RunSoFar g c from to (i + 1) label₀ label₂
+    unfolding loopFree
+    run-next l q =
+        record {
+          past = omega (arith, s .past);
+          within = omega arith;
+          free = λ P a.
+              s .free P a
+              ∙ ap (loopFree g (mergeAll g P (runEdges c from i))) (run-first c i to more)
+              ∙ ap (λ t. t && loopFree g (mergeEdge g (mergeAll g P (runEdges c from i)) (entryEdge c i)) (runEdges c (i + 1) to))
+              (sym (j .new (mergeAll g P (runEdges c from i)) (s .labels P a)) ∙ q)
+              ∙ ap (λ L. loopFree g L (runEdges c (i + 1) to)) (sym (labels-next P));
+          labels = λ P a. rw (labels-next P) (j .labels (mergeAll g P (runEdges c from i)) (s .labels P a));
+          as-long = l ∙ s .as-long;
+        }
+
+  -- The whole run is taken.
+  pub run-done : {i : ℕ} {label₀ label₁ : List ℕ} → RunSoFar g c from to i label₀ label₁ → to ≤ i → RunTaken g c from to label₀ label₁ true
+  unfolding loopFree
+  run-done {i} s h =
+      let end : i ≡ to = omega (arith, s .within) in
+      record {
+        free = λ P a. sym (s .free P a ∙ ap (loopFree g (mergeAll g P (runEdges c from i))) (run-none c i to h));
+        labels = λ P a t. rw end at (s .labels P a);
+      }

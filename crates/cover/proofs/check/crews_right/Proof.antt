@@ -1,0 +1,31 @@
+-- `cover::check::crews_right` meets its contract. Assumes nothing.
+use native.Mathlib.Omega.{arith}
+use Rattle.cover.proofs.CheckSteps.{no-crews, many-crews, rooted-crews, unrooted-crews}
+use borrow.Author.Needs.{needs}
+use Rattle.cover.proofs.check.crews_right.Statement.{statement}
+use Rattle.cover.proofs.check.crews_right.Tie as tie
+
+returns : tie.Need-returns
+returns c = let s = c .before .args in no-crews (s .kind) (s .k) (s .n) (omega arith)
+
+returns-2 : tie.Need-returns-2
+returns-2 c = let s = c .before .before .args in many-crews (s .kind) (s .k) (s .n) (omega arith)
+
+enum-told : tie.Need-enum-told
+enum-told c = search needs
+
+enum-told-2 : tie.Need-enum-told-2
+enum-told-2 c = search needs
+
+returns-3 : tie.Need-returns-3
+returns-3 c =
+    let s = c .before .before .before .before .args in
+    rw (c .enum-told .given .1) (rooted-crews (s .k) (s .n) (omega arith) (omega arith))
+
+returns-4 : tie.Need-returns-4
+returns-4 c =
+    let s = c .before .before .before .before .args in
+    rw (c .enum-told2 .given .1) (unrooted-crews (s .k) (s .n) (omega arith) (omega arith))
+
+pub crews-right-spec : {M : Type 1} → statement M
+crews-right-spec = tie.close (tie.spec returns returns-2 enum-told enum-told-2 returns-3 returns-4)

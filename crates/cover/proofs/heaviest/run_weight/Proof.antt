@@ -1,0 +1,72 @@
+-- `cover::heaviest::run_weight` meets its contract. The loop's invariant: the sum is the weight of the entries before i, less than 2^32 for each.
+-- The measure is how many entries are left. Assumes nothing.
+use Prim.Native.Nat.{_*_, _-_, _≤_}
+use mathlib.Core.Path.{_≡_, ap, _∙_}
+use native.Mathlib.Omega.{arith}
+use Rattle.graph.specs.Graph.{weightOf}
+use Rattle.graph.specs.Bytes.{graphOf}
+use Rattle.theory.specs.Walk.{totalWeight}
+use Rattle.cover.specs.Runs.{runEdges}
+use Rattle.cover.proofs.Weights.{weight-none, weight-next}
+use Rattle.cover.proofs.heaviest.run_weight.Statement.{statement}
+use Rattle.cover.proofs.heaviest.run_weight.Tie as tie
+
+abbrev Inv-loop : tie.InvT-loop
+Inv-loop b c from to sum₀ i₀ sum i =
+    (from ≤ i) × (i ≤ to) × (sum ≤ 4294967296 * i) × (sum ≡ totalWeight (graphOf b) (runEdges c from i))
+
+abbrev μ-loop : tie.MeasureT-loop
+μ-loop b c from to sum₀ i₀ sum i = to - i
+
+loop-holds : tie.Need-loop-holds Inv-loop μ-loop
+loop-holds c =
+    let s = c .before .before in
+    (omega arith, omega (arith, s .pre .forward), omega arith, weight-none (graphOf (s .args .b .now)) (s .args .c .now) (s .args .from))
+
+entry-edge-requires : tie.Need-entry-edge-requires Inv-loop μ-loop
+entry-edge-requires c κs = tt
+
+weight-requires : tie.Need-weight-requires Inv-loop μ-loop
+weight-requires c κs = tt
+
+add-sum : tie.Need-add-sum Inv-loop μ-loop
+add-sum c = omega arith
+
+add-i : tie.Need-add-i Inv-loop μ-loop
+add-i c = omega arith
+
+loop-less : tie.Need-loop-less Inv-loop μ-loop
+loop-less c = omega arith
+
+loop-again : tie.Need-loop-again Inv-loop μ-loop
+loop-again c =
+    let l = c .before .before .before .loop in
+    let s = c .before .before .before .before .before .before .args in
+    let g = graphOf (s .b .now) in (
+      omega arith,
+      omega arith,
+      omega arith,
+      omega (arith, weight-next g (s .c .now) (s .from) (l .i) (omega arith), c .weight .ensures .is, ap (weightOf g) (c .before .entry-edge .ensures .is), l .inv .3),
+    )
+
+returns : tie.Need-returns Inv-loop μ-loop
+returns c =
+    let l = c .before .loop in
+    let s = c .before .before .before .before in
+    let end : l .i ≡ s .args .to = omega arith in
+    l .inv .3 ∙ ap (λ k. totalWeight (graphOf (s .args .b .now)) (runEdges (s .args .c .now) (s .args .from) k)) end
+
+pub run-weight-spec : {M : Type 1} → statement M
+run-weight-spec =
+    tie.close
+    (tie.spec
+    Inv-loop
+    μ-loop
+    loop-holds
+    entry-edge-requires
+    weight-requires
+    add-sum
+    add-i
+    loop-less
+    loop-again
+    returns)

@@ -1,0 +1,68 @@
+-- `cover::trees::tree_right` meets its contract: the labels start apart, the run's edges are taken, and each is held against the start.
+-- Assumes nothing.
+use native.Mathlib.Omega.{arith}
+use borrow.Author.Tests.{not-true, not-false}
+use Rattle.graph.specs.Bytes.{graphOf}
+use Rattle.cover.proofs.TreeTests.{tree-loop, tree-joined}
+use borrow.Author.Needs.{needs}
+use Rattle.cover.proofs.trees.tree_right.Statement.{statement}
+use Rattle.cover.proofs.trees.tree_right.Tie as tie
+
+slice-aggregate-start-labels : tie.Need-slice-aggregate-start-labels
+slice-aggregate-start-labels c = search needs
+
+vertex-count-requires : tie.Need-vertex-count-requires
+vertex-count-requires c κs = search needs
+
+start-labels-requires : tie.Need-start-labels-requires
+start-labels-requires c κs = search needs
+
+run-loop-free-requires : tie.Need-run-loop-free-requires
+run-loop-free-requires c κs = search needs
+
+same-length : tie.Need-same-length
+same-length c = search needs
+
+returns : tie.Need-returns
+returns c =
+    let t = c .before .before .before in
+    let l = t .before .before .before .before in
+    let s = l .before .before .before .before .before .before .before .args in
+    tree-loop (graphOf (s .b .now)) (s .c .now) (s .j) (s .from) (s .to)
+    (rw (l .before .before .vertex-count .ensures .is) at (l .start-labels .ensures .labels)) (t .run-loop-free .ensures) (not-true (t .run-loop-free .result) (c .if1 .taken))
+
+start-in-requires : tie.Need-start-in-requires
+start-in-requires c κs = search needs
+
+run-joined-requires : tie.Need-run-joined-requires
+run-joined-requires c κs =
+    let p = c .before .before .before .before .before .before .before .before .before .before .before .before .before .before .before .before .pre in
+    (omega (arith, c .before .start-in .ensures .is, p .start), record { graph = p .labelable .graph; room = omega arith })
+
+same-length-2 : tie.Need-same-length-2
+same-length-2 c = search needs
+
+returns-2 : tie.Need-returns-2
+returns-2 c =
+    let e = c .before .before .before in
+    let t = e .before .before .before in
+    let l = t .before .before .before .before in
+    let s = l .before .before .before .before .before .before .before .args in
+    tree-joined (graphOf (s .b .now)) (s .c .now) (s .j) (s .from) (s .to)
+    (rw (l .before .before .vertex-count .ensures .is) at (l .start-labels .ensures .labels)) (t .run-loop-free .ensures) (not-false (t .run-loop-free .result) (e .if1 .left))
+    (rw (c .before .before .start-in .ensures .is) at (c .run-joined .ensures))
+
+pub tree-right-spec : {M : Type 1} → statement M
+tree-right-spec =
+    tie.close
+    (tie.spec
+    slice-aggregate-start-labels
+    vertex-count-requires
+    start-labels-requires
+    run-loop-free-requires
+    same-length
+    returns
+    start-in-requires
+    run-joined-requires
+    same-length-2
+    returns-2)

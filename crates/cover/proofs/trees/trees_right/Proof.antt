@@ -1,0 +1,112 @@
+-- `cover::trees::trees_right` meets its contract. The loop's invariant: every tree before j is right, and the entries of tree j begin at `from`.
+-- The measure is how many trees are left. Assumes nothing.
+use Prim.Native.Nat.{ℕ, _-_, _<_}
+use mathlib.Core.Path.{_≡_, sym, ap, _∙_}
+use mathlib.Core.Bool.{true}
+use native.Mathlib.Omega.{arith}
+use lib.ListN.{length}
+use borrow.Author.Count.{below-none, below-more}
+use borrow.Author.Tests.{not-true, not-false}
+use Rattle.graph.specs.Graph.{edgeCount}
+use Rattle.graph.specs.Bytes.{graphOf}
+use Rattle.theory.specs.Cover.{Tree}
+use Rattle.theory.specs.CoverBytes.{treeIn}
+use Rattle.theory.specs.CheckCover.{treeRight}
+use Rattle.cover.specs.Runs.{BeginsAt}
+use Rattle.cover.proofs.StartTests.{start-passed}
+use Rattle.cover.proofs.TreeRuns.{begins-first, begins-next, tree-is-run}
+use Rattle.cover.proofs.TreeTests.{tree-wrong, all-trees}
+use Rattle.cover.proofs.trees.trees_right.Statement.{statement}
+use Rattle.cover.proofs.trees.trees_right.Tie as tie
+
+abbrev Inv-loop : tie.InvT-loop
+Inv-loop b c label₀ t from₀ j₀ label from j =
+    (length label ≡ length label₀) × BeginsAt c j from × ((k : ℕ) → k < j → treeRight (graphOf b) (treeIn c k) ≡ true)
+
+abbrev μ-loop : tie.MeasureT-loop
+μ-loop b c label₀ t from₀ j₀ label from j = t - j
+
+-- In a turn, tree j was tested: the answer is that of the tree of the bytes.
+module _ (t : tie.After-tree-right Inv-loop μ-loop) where
+  tested : t .tree-right .result
+      ≡ treeRight (graphOf (t .before .before .before .before .before .before .before .before .before .args .b .now))
+      (treeIn (t .before .before .before .before .before .before .before .before .before .args .c .now) (t .before .before .before .before .loop .j))
+  tested =
+      let s = t .before .before .before .before .before .before .before .before .before in
+      let g = graphOf (s .args .b .now) in
+      t .tree-right .ensures
+      ∙ ap (λ (x : Tree). treeRight g x)
+      (sym (tree-is-run (s .args .c .now) (edgeCount g) (s .pre .cover .entries) (t .before .before .before .before .loop .inv .1) (t .before .before .run-end .ensures)))
+
+trees-in-requires : tie.Need-trees-in-requires Inv-loop μ-loop
+trees-in-requires c κs = tt
+
+loop-holds : tie.Need-loop-holds Inv-loop μ-loop
+loop-holds c =
+    let s = c .before .before .before .before in
+    (omega arith, begins-first (s .args .c .now) (edgeCount (graphOf (s .args .b .now))) (s .pre .cover .entries), below-none _)
+
+run-end-requires : tie.Need-run-end-requires Inv-loop μ-loop
+run-end-requires c κs = c .before .loop .inv .1 .inside
+
+tree-right-requires : tie.Need-tree-right-requires Inv-loop μ-loop
+tree-right-requires c κs =
+    let l = c .before .before .before .loop in
+    let s = c .before .before .before .before .before .before .before .before in
+    record {
+      labelable = record { graph = s .pre .cover .graph; room = omega (arith, l .inv .0, s .pre .room) };
+      start = start-passed (s .args .c .now) (graphOf (s .args .b .now) .vertices) (s .pre .cover .starts) (l .j) (omega arith);
+      forward = c .before .run-end .ensures .run .forward;
+    }
+
+same-length : tie.Need-same-length Inv-loop μ-loop
+same-length c = omega (arith, c .before .before .before .tree-right .kept .1 .1 .1 .1 .1 .0, c .before .before .before .before .before .before .before .loop .inv .0)
+
+returns : tie.Need-returns Inv-loop μ-loop
+returns c =
+    let t = c .before .before .before in
+    let s = t .before .before .before .before .before .before .before .before .before .args in
+    sym (tree-wrong (graphOf (s .b .now)) (s .c .now) (t .before .before .before .before .loop .j) (omega arith)
+    (sym (tested t) ∙ not-true (t .tree-right .result) (c .if1 .taken)))
+
+add-j : tie.Need-add-j Inv-loop μ-loop
+add-j c = omega arith
+
+loop-less : tie.Need-loop-less Inv-loop μ-loop
+loop-less c = omega arith
+
+loop-again : tie.Need-loop-again Inv-loop μ-loop
+loop-again c =
+    let t = c .before .before .before in
+    let l = t .before .before .before .before .loop in
+    let s = t .before .before .before .before .before .before .before .before .before in (
+      omega (arith, t .tree-right .kept .1 .1 .1 .1 .1 .0, l .inv .0),
+      begins-next (s .args .c .now) (edgeCount (graphOf (s .args .b .now))) (s .pre .cover .entries) (l .inv .1) (t .before .before .run-end .ensures),
+      below-more _ (l .j) (l .inv .2) (sym (tested t) ∙ not-false (t .tree-right .result) (c .if1 .left)),
+    )
+
+same-length-2 : tie.Need-same-length-2 Inv-loop μ-loop
+same-length-2 c = c .before .loop .inv .0
+
+returns-2 : tie.Need-returns-2 Inv-loop μ-loop
+returns-2 c =
+    let s = c .before .before .before .before .before .before .args in
+    sym (all-trees (graphOf (s .b .now)) (s .c .now) (λ k h. c .before .loop .inv .2 k (omega arith)))
+
+pub trees-right-spec : {M : Type 1} → statement M
+trees-right-spec =
+    tie.close
+    (tie.spec
+    Inv-loop
+    μ-loop
+    trees-in-requires
+    loop-holds
+    run-end-requires
+    tree-right-requires
+    same-length
+    returns
+    add-j
+    loop-less
+    loop-again
+    same-length-2
+    returns-2)

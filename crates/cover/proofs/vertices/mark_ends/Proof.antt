@@ -1,0 +1,100 @@
+-- `cover::vertices::mark_ends` meets its contract. The loop's invariant: the ends of the edges of the entries before i are marked.
+-- The measure is how many entries are left. Assumes nothing.
+use Prim.Native.Nat.{ℕ, _-_, _<_}
+use mathlib.Core.Path.{_≡_, ap, _∙_}
+use native.Mathlib.Omega.{arith}
+use lib.ListN.{length}
+use lib.Seq.{lt-length-set}
+use Rattle.graph.specs.Graph.{Graph, oneEnd, otherEnd}
+use Rattle.graph.specs.Bytes.{graphOf}
+use Rattle.graph.proofs.Ranges.{one-end-below, other-end-below}
+use Rattle.theory.specs.CoverBytes.{entryEdge}
+use Rattle.cover.proofs.Marking.{EndsSoFar, ends-none, ends-read, ends-all}
+use Rattle.cover.proofs.vertices.mark_ends.Statement.{statement}
+use Rattle.cover.proofs.vertices.mark_ends.Tie as tie
+
+abbrev Inv-loop : tie.InvT-loop
+Inv-loop b c marks₀ q i₀ marks i = EndsSoFar (graphOf b) c i marks₀ marks
+
+abbrev μ-loop : tie.MeasureT-loop
+μ-loop b c marks₀ q i₀ marks i = q - i
+
+entries-in-requires : tie.Need-entries-in-requires Inv-loop μ-loop
+entries-in-requires c κs = tt
+
+loop-holds : tie.Need-loop-holds Inv-loop μ-loop
+loop-holds c = let s = c .before .before .before .before .args in ends-none (graphOf (s .b .now)) (s .c .now) (s .marks .now)
+
+entry-edge-requires : tie.Need-entry-edge-requires Inv-loop μ-loop
+entry-edge-requires c κs = tt
+
+one-end-requires : tie.Need-one-end-requires Inv-loop μ-loop
+one-end-requires c κs = tt
+
+other-end-requires : tie.Need-other-end-requires Inv-loop μ-loop
+other-end-requires c κs = tt
+
+-- In a turn, both ends of the entry's edge were read: they are that edge's, and places of the marks.
+module _ (t : tie.After-other-end Inv-loop μ-loop) where
+  abbrev s : tie.Start Inv-loop μ-loop
+  s = t .before .before .before .before .before .before .before .before .before
+
+  abbrev g : Graph
+  g = graphOf (s .args .b .now)
+
+  abbrev e : ℕ
+  e = entryEdge (s .args .c .now) (t .before .before .before .before .loop .i)
+
+  one-read : t .before .one-end .result ≡ oneEnd g e
+  one-read = t .before .one-end .ensures .is ∙ ap (oneEnd g) (t .before .before .entry-edge .ensures .is)
+
+  other-read : t .other-end .result ≡ otherEnd g e
+  other-read = t .other-end .ensures .is ∙ ap (otherEnd g) (t .before .before .entry-edge .ensures .is)
+
+  one-place : oneEnd g e < length (s .args .marks .now)
+  one-place = omega (arith, one-end-below (s .pre .graph .valid) e, s .pre .room)
+
+  other-place : otherEnd g e < length (s .args .marks .now)
+  other-place = omega (arith, other-end-below (s .pre .graph .valid) e, s .pre .room)
+
+slice-write-marks : tie.Need-slice-write-marks Inv-loop μ-loop
+slice-write-marks c = omega (arith, one-place c, one-read c, c .before .before .before .before .loop .inv .as-long)
+
+slice-write-marks-2 : tie.Need-slice-write-marks-2 Inv-loop μ-loop
+slice-write-marks-2 c = lt-length-set (c .before .before .before .before .loop .marks) (c .before .one-end .result) 1 (omega (arith, other-place c, other-read c, c .before .before .before .before .loop .inv .as-long))
+
+add-i : tie.Need-add-i Inv-loop μ-loop
+add-i c = omega arith
+
+loop-less : tie.Need-loop-less Inv-loop μ-loop
+loop-less c = omega arith
+
+loop-again : tie.Need-loop-again Inv-loop μ-loop
+loop-again c =
+    ends-read (c .before .before .before .before .loop .inv) (one-read c) (other-read c) (omega arith)
+    (omega (arith, one-read c, one-place c)) (omega (arith, other-read c, other-place c))
+
+same-length : tie.Need-same-length Inv-loop μ-loop
+same-length c = c .before .loop .inv .as-long
+
+returns : tie.Need-returns Inv-loop μ-loop
+returns c = ends-all (c .before .loop .inv) (omega arith)
+
+pub mark-ends-spec : {M : Type 1} → statement M
+mark-ends-spec =
+    tie.close
+    (tie.spec
+    Inv-loop
+    μ-loop
+    entries-in-requires
+    loop-holds
+    entry-edge-requires
+    one-end-requires
+    other-end-requires
+    slice-write-marks
+    slice-write-marks-2
+    add-i
+    loop-less
+    loop-again
+    same-length
+    returns)

@@ -1,0 +1,58 @@
+-- What the check of a filed cover promises on every input.
+-- Assumes nothing.
+use Prim.Native.Nat.{ℕ}
+use mathlib.Core.Path.{_≡_}
+use mathlib.Core.Logic.{_↔_}
+use mathlib.Core.Bool.{Bool, true, false}
+use mathlib.Core.List.{List, [], _∷_}
+use mathlib.Core.Option.{some, none}
+use Rattle.lists.specs.Count.{below}
+use Rattle.graph.specs.Graph.{Graph}
+use Rattle.graph.specs.Check.{numberOf}
+use Rattle.theory.specs.Fault.{Fault, faultUnless, firstFault, refusedOr}
+use Rattle.theory.specs.Cover as cover
+use Rattle.theory.specs.CoverBytes.{decode}
+use Rattle.theory.specs.CheckCover.{treesRight, verticesCovered}
+use Rattle.theory.specs.Reply as reply
+use Rattle.theory.specs.Questions.{crewFault, askCheck}
+use Rattle.theory.specs.Filed.{Filed}
+use Rattle.cover.specs.declared.check.Kind.{Kind}
+use Rattle.cover.specs.declared.check.Kind.the-variants.{Rooted, Unrooted}
+use Rattle.cover.specs.declared.check.Verdict.{Verdict}
+use Rattle.cover.specs.declared.check.Verdict.the-variants.{Yes, Sheet, Crews, Length, Starts, Entries, Trees, Vertices}
+
+-- Whom the cover is for. "The yards are stops 0 to k - 1", or "there are none".
+abbrev pub crewsOf : Kind → ℕ → cover.Crews
+crewsOf Rooted k = cover.rooted (below k)
+crewsOf Unrooted k = cover.unrooted k
+
+-- Document 01's value or number of each answer.
+abbrev pub says : Verdict → reply.Verdict
+says (Yes h) = reply.yes h
+says (Sheet f) = reply.number (numberOf f)
+says Crews = reply.number 21
+says Length = reply.number 31
+says Starts = reply.number 32
+says Entries = reply.number 33
+says Trees = reply.number 34
+says Vertices = reply.number 35
+
+-- The number where there is one, and otherwise yes with the weight of the heaviest tree.
+abbrev pub answer : Graph → List ℕ → Fault → reply.Verdict
+answer g c fault = refusedOr reply.number fault (reply.yes (cover.heaviest g (decode c)))
+
+-- The last two numbers.
+unfoldable pub treesFault : Graph → List ℕ → Fault
+treesFault g c =
+    let trees = decode c in
+    firstFault (faultUnless (treesRight g trees) 34 ∷ faultUnless (verticesCovered g trees) 35 ∷ [])
+
+-- r says whether the crews are not refused.
+pub record CrewsTested (crews : cover.Crews) (n : ℕ) (r : Bool) : Type 0 where
+  pub right : r ≡ true → crewFault crews n ≡ none
+  pub wrong : r ≡ false → crewFault crews n ≡ some 21
+
+-- The answer is that of document 01's rules, and it is yes exactly where the bytes are those of a cover by the crews, with its heaviest weight.
+pub record CheckPromise (kind : Kind) (k : ℕ) (b c : List ℕ) (r : Verdict) : Type 0 where
+  pub rule : says r ≡ askCheck b (crewsOf kind k) c
+  pub exactly : (h : ℕ) → (r ≡ Yes h) ↔ Filed b (crewsOf kind k) c h

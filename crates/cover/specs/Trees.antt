@@ -1,0 +1,43 @@
+-- What the functions over one tree's run of entries say of it.
+-- Assumes nothing.
+use Prim.Native.Nat.{ℕ, _≤_, _<_}
+use mathlib.Core.Path.{_≡_}
+use mathlib.Core.Bool.{Bool, true}
+use mathlib.Core.List.{List}
+use lib.ListN.{length}
+use Rattle.lists.specs.Lists.{all}
+use Rattle.graph.specs.Graph.{Graph, edgeCount, oneEnd}
+use Rattle.graph.specs.Bytes.{graphOf}
+use Rattle.graph.specs.Valid.{IsGraph}
+use Rattle.theory.specs.Labels.{Labels, joined, mergeAll}
+use Rattle.theory.specs.CoverBytes.{startIn}
+use Rattle.theory.specs.CheckCover.{startsBelow, entriesRight, loopFree}
+use Rattle.forest.specs.Arrays.{Agrees}
+use Rattle.forest.specs.Keeping.{Labelable}
+use Rattle.cover.specs.Runs.{runEdges}
+
+-- Whatever labels the array held: r says whether the run's edges close no loop, and where they close none all their ends are joined.
+pub record RunTaken (g : Graph) (c : List ℕ) (from to : ℕ) (label₀ label₁ : List ℕ) (r : Bool) : Type 0 where
+  pub free : (label : Labels) → Agrees (g .vertices) label₀ label → r ≡ loopFree g label (runEdges c from to)
+  pub labels : (label : Labels) → Agrees (g .vertices) label₀ label → r ≡ true → Agrees (g .vertices) label₁ (mergeAll g label (runEdges c from to))
+
+-- r says whether each edge of the run is joined to the start.
+pub record RunJoined (g : Graph) (c : List ℕ) (from to start : ℕ) (array : List ℕ) (r : Bool) : Type 0 where
+  pub is : (label : Labels) → Agrees (g .vertices) array label → r ≡ all (λ e. joined label start (oneEnd g e)) (runEdges c from to)
+
+-- The graph's bytes with a place for each vertex's label, a start that is a vertex, and a run that does not end before it begins.
+pub record TreeGiven (b c : List ℕ) (j from to : ℕ) (label : List ℕ) : Type 0 where
+  pub labelable : Labelable b label
+  pub start : startIn c j < graphOf b .vertices
+  pub forward : from ≤ to
+
+-- The graph's bytes, and a cover whose starts and entries passed their tests.
+pub record CoverGiven (b c : List ℕ) : Type 0 where
+  pub graph : IsGraph b
+  pub starts : startsBelow (graphOf b .vertices) c ≡ true
+  pub entries : entriesRight (edgeCount (graphOf b)) c ≡ true
+
+-- The same, with a place for each vertex's label.
+pub record TreesGiven (b c label : List ℕ) : Type 0 where
+  pub cover : CoverGiven b c
+  pub room : graphOf b .vertices ≤ length label

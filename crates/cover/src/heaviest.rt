@@ -1,0 +1,51 @@
+// The heaviest tree of a filed cover. The entries of one tree stand side by side, so that one walk through the entries serves all trees.
+use crate::read::entry_edge;
+use crate::read::trees_in;
+use crate::trees::run_end;
+ghost use mathlib.Core.Path.{_≡_};
+ghost use Prim.Native.Nat.{max};
+ghost use Rattle.graph.specs.Bytes.{graphOf};
+ghost use Rattle.theory.specs.Walk.{totalWeight};
+ghost use Rattle.theory.specs.Cover.{heaviest};
+ghost use Rattle.theory.specs.CoverBytes.{decode};
+ghost use Rattle.cover.specs.Runs.{runEdges, InEntries};
+ghost use Rattle.cover.specs.Trees.{CoverGiven};
+
+// The weight of the edges of a run of entries.
+fn run_weight(b: &[u8], c: &[u8], from: usize, to: usize) -> u64
+    requires { ⌜ InEntries (now c) from to ⌝ }
+    ensures { λ r. ⌜ r ≡ totalWeight (graphOf (now (b .entry))) (runEdges (now (c .entry)) from to) ⌝ }
+{
+    let mut sum: u64 = 0;
+    let mut i = from;
+    while i < to {
+        sum += graph::weight(b, entry_edge(c, i));
+        i += 1;
+    }
+    sum
+}
+
+// The larger of two weights.
+fn larger(x: u64, y: u64) -> u64
+    ensures { λ r. ⌜ r ≡ max x y ⌝ }
+{
+    if x < y { y } else { x }
+}
+
+// The weight of the heaviest tree.
+pub fn heaviest_tree(b: &[u8], c: &[u8]) -> u64
+    requires { ⌜ CoverGiven (now b) (now c) ⌝ }
+    ensures { λ r. ⌜ r ≡ heaviest (graphOf (now (b .entry))) (decode (now (c .entry))) ⌝ }
+{
+    let t = trees_in(c);
+    let mut most: u64 = 0;
+    let mut from = 0;
+    let mut j = 0;
+    while j < t {
+        let to = run_end(c, j, from);
+        most = larger(most, run_weight(b, c, from, to));
+        from = to;
+        j += 1;
+    }
+    most
+}

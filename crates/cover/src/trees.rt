@@ -1,0 +1,95 @@
+// The trees of a filed cover (34): no tree has a loop, or an edge that is not joined to its start. The entries of one tree stand side by
+// side, so that one walk through the entries serves all trees.
+use crate::read::entries_in;
+use crate::read::entry_edge;
+use crate::read::entry_tree;
+use crate::read::start_in;
+use crate::read::trees_in;
+use forest::keep::join_ends;
+use forest::labels::start_labels;
+ghost use mathlib.Core.Path.{_≡_};
+ghost use Prim.Native.Nat.{_≤_, _<_};
+ghost use Rattle.graph.specs.Bytes.{graphOf};
+ghost use Rattle.theory.specs.CoverBytes.{entriesIn, startIn, decode};
+ghost use Rattle.theory.specs.CheckCover.{treeRight, treesRight};
+ghost use Rattle.forest.specs.Keeping.{Labelable};
+ghost use Rattle.cover.specs.Runs.{RunOf, runEdges};
+ghost use Rattle.cover.specs.Trees.{RunTaken, RunJoined, TreeGiven, TreesGiven};
+
+// Where the entries of tree j end that begin at an entry.
+pub fn run_end(c: &[u8], j: usize, from: usize) -> usize
+    requires { ⌜ from ≤ entriesIn (now c) ⌝ }
+    ensures { λ r. ⌜ RunOf (now (c .entry)) j from r ⌝ }
+{
+    let q = entries_in(c);
+    let mut i = from;
+    while i < q {
+        if entry_tree(c, i) != j {
+            return i;
+        }
+        i += 1;
+    }
+    i
+}
+
+// Joins the ends of the edges of a run of entries, one edge after the other, as long as they are not yet joined. Says whether none were.
+fn run_loop_free(b: &[u8], c: &[u8], from: usize, to: usize, label: &mut [u16]) -> bool
+    requires { ⌜ (from ≤ to) × Labelable (now b) (now label) ⌝ }
+    ensures { λ r. ⌜ RunTaken (graphOf (now (b .entry))) (now (c .entry)) from to (now (label .entry)) (now (label .exit)) r ⌝ }
+{
+    let mut i = from;
+    while i < to {
+        if !join_ends(b, entry_edge(c, i), label) {
+            return false;
+        }
+        i += 1;
+    }
+    true
+}
+
+// Says whether each edge of a run of entries is joined to the start.
+fn run_joined(b: &[u8], c: &[u8], from: usize, to: usize, start: usize, label: &[u16]) -> bool
+    requires { ⌜ (start < graphOf (now b) .vertices) × Labelable (now b) (now label) ⌝ }
+    ensures { λ r. ⌜ RunJoined (graphOf (now (b .entry))) (now (c .entry)) from to start (now (label .entry)) r ⌝ }
+{
+    let mut i = from;
+    while i < to {
+        let u = graph::one_end(b, entry_edge(c, i));
+        if label[start] != label[u] {
+            return false;
+        }
+        i += 1;
+    }
+    true
+}
+
+// Says whether tree j, whose entries are the run, has no loop and no edge that is not joined to its start.
+fn tree_right(b: &[u8], c: &[u8], j: usize, from: usize, to: usize, label: &mut [u16]) -> bool
+    requires { ⌜ TreeGiven (now b) (now c) j from to (now label) ⌝ }
+    ensures { λ r. ⌜ r ≡ treeRight (graphOf (now (b .entry))) (record { start = startIn (now (c .entry)) j; edges = runEdges (now (c .entry)) from to }) ⌝ }
+{
+    start_labels(&[], graph::vertex_count(b), label);
+    if !run_loop_free(b, c, from, to, label) {
+        return false;
+    }
+    run_joined(b, c, from, to, start_in(c, j), label)
+}
+
+// Says whether every tree is so. The labels are scratch.
+pub fn trees_right(b: &[u8], c: &[u8], label: &mut [u16]) -> bool
+    requires { ⌜ TreesGiven (now b) (now c) (now label) ⌝ }
+    ensures { λ r. ⌜ r ≡ treesRight (graphOf (now (b .entry))) (decode (now (c .entry))) ⌝ }
+{
+    let t = trees_in(c);
+    let mut from = 0;
+    let mut j = 0;
+    while j < t {
+        let to = run_end(c, j, from);
+        if !tree_right(b, c, j, from, to, label) {
+            return false;
+        }
+        from = to;
+        j += 1;
+    }
+    true
+}

@@ -1,0 +1,94 @@
+-- `filed_covers::answer_one` is safe: a field of two bytes is no more than a buffer is long. Assumes nothing.
+use mathlib.Core.Path.{sym}
+use native.Mathlib.Omega.{arith}
+use lib.Seq.{length-take-le}
+use borrow.Author.Needs.{needs}
+use Rattle.filed_covers.proofs.answer_one.Statement.{statement}
+use Rattle.filed_covers.proofs.answer_one.Tie as tie
+
+slice-aggregate-read-full : tie.Need-slice-aggregate-read-full
+slice-aggregate-read-full c = search needs
+
+read-full-requires : tie.Need-read-full-requires
+read-full-requires c κs = search needs
+
+returns : tie.Need-returns
+returns c = search needs
+
+slice-aggregate-u16-at : tie.Need-slice-aggregate-u16-at
+slice-aggregate-u16-at c = search needs
+
+u16-at-requires : tie.Need-u16-at-requires
+u16-at-requires c κs = search needs
+
+kind-of-requires : tie.Need-kind-of-requires
+kind-of-requires c κs = search needs
+
+slice-aggregate-u16-at-2 : tie.Need-slice-aggregate-u16-at-2
+slice-aggregate-u16-at-2 c = search needs
+
+u16-at-requires-2 : tie.Need-u16-at-requires-2
+u16-at-requires-2 c κs = search needs
+
+slice-aggregate-u16-at-3 : tie.Need-slice-aggregate-u16-at-3
+slice-aggregate-u16-at-3 c = search needs
+
+u16-at-requires-3 : tie.Need-u16-at-requires-3
+u16-at-requires-3 c κs = search needs
+
+slice-aggregate-u16-at-4 : tie.Need-slice-aggregate-u16-at-4
+slice-aggregate-u16-at-4 c = search needs
+
+u16-at-requires-4 : tie.Need-u16-at-requires-4
+u16-at-requires-4 c κs = search needs
+
+large-buffer-requires : tie.Need-large-buffer-requires
+large-buffer-requires c κs = search needs
+
+large-buffer-requires-2 : tie.Need-large-buffer-requires-2
+large-buffer-requires-2 c κs = search needs
+
+array-borrow-prefix-sheet : tie.Need-array-borrow-prefix-sheet
+array-borrow-prefix-sheet c = search needs
+
+slice-aggregate-answer-filed : tie.Need-slice-aggregate-answer-filed
+slice-aggregate-answer-filed c =
+    sym (length-take-le (c .before .before .before .before .before .u16-at3 .result) (c .before .before .large-buffer .result) (omega arith))
+
+array-borrow-prefix-filed : tie.Need-array-borrow-prefix-filed
+array-borrow-prefix-filed c = search needs
+
+slice-aggregate-answer-filed-2 : tie.Need-slice-aggregate-answer-filed-2
+slice-aggregate-answer-filed-2 c =
+    sym (length-take-le (c .before .before .before .before .u16-at4 .result) (c .before .before .large-buffer2 .result) (omega arith))
+
+answer-filed-requires : tie.Need-answer-filed-requires
+answer-filed-requires c κs = search needs
+
+returns-2 : tie.Need-returns-2
+returns-2 c = search needs
+
+pub answer-one-spec : {M : Type 1} → statement M
+answer-one-spec =
+    tie.close
+    (tie.spec
+    slice-aggregate-read-full
+    read-full-requires
+    returns
+    slice-aggregate-u16-at
+    u16-at-requires
+    kind-of-requires
+    slice-aggregate-u16-at-2
+    u16-at-requires-2
+    slice-aggregate-u16-at-3
+    u16-at-requires-3
+    slice-aggregate-u16-at-4
+    u16-at-requires-4
+    large-buffer-requires
+    large-buffer-requires-2
+    array-borrow-prefix-sheet
+    slice-aggregate-answer-filed
+    array-borrow-prefix-filed
+    slice-aggregate-answer-filed-2
+    answer-filed-requires
+    returns-2)

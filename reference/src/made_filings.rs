@@ -1,0 +1,158 @@
+//! Made filings for the check: good covers, and each kind of damage at each field of a cover.
+
+use crate::best;
+use crate::bytes::{put_two, two};
+use crate::check::check;
+use crate::cover::{encode, Tree};
+use crate::graph::{sheet, Graph};
+use crate::question::Kind;
+use crate::random::Random;
+
+/// One question of the check: kind, number of trees, sheet bytes and cover bytes.
+pub struct Filing {
+    pub kind: Kind,
+    pub k: usize,
+    pub sheet: Vec<u8>,
+    pub cover: Vec<u8>,
+}
+
+/// The filing as a record: kind (1 rooted, 2 unrooted), k, both lengths (2 bytes each), sheet, cover.
+pub fn record(filing: &Filing) -> Vec<u8> {
+    let mut out = Vec::new();
+    put_two(&mut out, if filing.kind == Kind::Rooted { 1 } else { 2 });
+    put_two(&mut out, filing.k);
+    put_two(&mut out, filing.sheet.len());
+    put_two(&mut out, filing.cover.len());
+    out.extend_from_slice(&filing.sheet);
+    out.extend_from_slice(&filing.cover);
+    out
+}
+
+/// The answer of the check as a line: `yes` with the heaviest weight, or the number.
+pub fn line(filing: &Filing) -> String {
+    match check(filing.kind, &filing.sheet, filing.k as u64, &filing.cover) {
+        Ok(heaviest) => format!("yes {heaviest}\n"),
+        Err(number) => format!("{number}\n"),
+    }
+}
+
+/// All made filings: random ones with their damages, refused sheets and counts, and full-size ones.
+pub fn filings() -> Vec<Filing> {
+    let mut random = Random::new(35);
+    let mut all = Vec::new();
+    while all.len() < 2_400 {
+        all.extend(around_a_cover(&mut random));
+    }
+    all.extend(refused_before_the_cover());
+    all.extend(full_size(&mut random));
+    all
+}
+
+/// A good cover of a random graph, if one exists, and that cover damaged in every way.
+fn around_a_cover(random: &mut Random) -> Vec<Filing> {
+    let n = random.between(1, 6);
+    let m = random.between(0, 8);
+    let graph = random.graph(n, m, 9);
+    let kind = if random.below(2) == 0 { Kind::Rooted } else { Kind::Unrooted };
+    let k = random.between(1, n.min(3));
+    let Some((_, trees)) = best::search(kind, &graph, k) else {
+        return Vec::new();
+    };
+    let good = encode(&trees);
+    let mut covers = vec![good.clone()];
+    covers.extend(changed_fields(random, &good));
+    covers.extend(changed_lengths(&good));
+    covers.extend(changed_trees(random, &graph, &trees));
+    let sheet = graph.to_sheet();
+    let file = |cover| Filing { kind, k, sheet: sheet.clone(), cover };
+    covers.into_iter().map(file).collect()
+}
+
+/// The cover with each of its fields changed: one more, one less, and to any number.
+fn changed_fields(random: &mut Random, good: &[u8]) -> Vec<Vec<u8>> {
+    let mut out = Vec::new();
+    for at in (0..good.len()).step_by(2) {
+        let value = two(good, at);
+        for other in [value + 1, value.wrapping_sub(1) % 65_536, random.below(12)] {
+            let mut cover = good.to_vec();
+            cover[at] = (other % 256) as u8;
+            cover[at + 1] = (other / 256 % 256) as u8;
+            out.push(cover);
+        }
+    }
+    out
+}
+
+/// The cover cut short at every place, and longer by one byte and by two.
+fn changed_lengths(good: &[u8]) -> Vec<Vec<u8>> {
+    let mut out: Vec<Vec<u8>> = (0..good.len()).map(|end| good[..end].to_vec()).collect();
+    out.push([good, &[0]].concat());
+    out.push([good, &[0, 0]].concat());
+    out
+}
+
+/// The trees with an edge taken away, with one added anywhere, with two trees exchanged, and with one tree more or less.
+fn changed_trees(random: &mut Random, graph: &Graph, trees: &[Tree]) -> Vec<Vec<u8>> {
+    let mut out = Vec::new();
+    for j in 0..trees.len() {
+        for e in 0..graph.edges.len() {
+            let mut other = trees.to_vec();
+            match other[j].edges.iter().position(|&f| f == e) {
+                Some(place) => drop(other[j].edges.remove(place)),
+                None => other[j] = Tree::new(trees[j].start, [&trees[j].edges[..], &[e]].concat()),
+            }
+            out.push(encode(&other));
+        }
+    }
+    let mut exchanged = trees.to_vec();
+    let last = exchanged.len() - 1;
+    exchanged.swap(0, last);
+    out.push(encode(&exchanged));
+    out.push(encode(&trees[..last]));
+    let alone = Tree::new(random.below(graph.n), Vec::new());
+    out.push(encode(&[trees, &[alone]].concat()));
+    out
+}
+
+/// Questions refused for the sheet (11 to 16) or the number of trees (21), with a cover that would do.
+fn refused_before_the_cover() -> Vec<Filing> {
+    let line = [(0, 1, 1)];
+    let short = sheet(2, &line);
+    let mut sheets = vec![vec![], vec![2, 0, 1], short[..11].to_vec(), [&short[..], &[0]].concat()];
+    sheets.push(sheet(0, &[]));
+    sheets.push(sheet(257, &[]));
+    sheets.push(sheet(2, &vec![(0, 1, 1); 2_049]));
+    for bad in [(2, 1, 1), (0, 2, 1), (1, 1, 1), (0, 1, 0), (0, 1, 1_000_001)] {
+        sheets.push(sheet(2, &[bad]));
+        sheets.push(sheet(2, &[(0, 1, 1), bad]));
+    }
+    let cover = encode(&[Tree::new(0, vec![0])]);
+    let mut all = Vec::new();
+    for kind in [Kind::Rooted, Kind::Unrooted] {
+        for sheet in &sheets {
+            all.push(Filing { kind, k: 1, sheet: sheet.clone(), cover: cover.clone() });
+        }
+        for k in [0, 1, 2, 3, 32, 33, 65_535] {
+            all.push(Filing { kind, k, sheet: short.clone(), cover: cover.clone() });
+        }
+    }
+    all
+}
+
+/// Covers of full size: 32 trees of 255 edges on 256 vertices, good and damaged at the last entry.
+fn full_size(random: &mut Random) -> Vec<Filing> {
+    let path: Vec<(usize, usize, u64)> = (1..256).map(|v| (random.below(v), v, 1_000_000)).collect();
+    let graph = Graph::new(256, &path);
+    let mut all = Vec::new();
+    for kind in [Kind::Rooted, Kind::Unrooted] {
+        let trees: Vec<Tree> = (0..32).map(|j| Tree::new(j, (0..255).collect())).collect();
+        let good = encode(&trees);
+        let mut last = good.clone();
+        let end = last.len() - 2;
+        last[end] = 255;
+        for cover in [good, last] {
+            all.push(Filing { kind, k: 32, sheet: graph.to_sheet(), cover });
+        }
+    }
+    all
+}
