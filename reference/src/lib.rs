@@ -16,6 +16,8 @@ pub mod judge_parts;
 pub mod judge_text;
 pub mod judge_tree;
 pub mod made_filings;
+pub mod made_forests;
+pub mod made_graphs;
 pub mod optimum;
 pub mod question;
 pub mod random;

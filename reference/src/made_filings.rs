@@ -141,7 +141,8 @@ fn refused_before_the_cover() -> Vec<Filing> {
 
 /// Covers of full size: 32 trees of 255 edges on 256 vertices, good and damaged at the last entry.
 fn full_size(random: &mut Random) -> Vec<Filing> {
-    let path: Vec<(usize, usize, u64)> = (1..256).map(|v| (random.below(v), v, 1_000_000)).collect();
+    let path: Vec<(usize, usize, u64)> =
+        (1..256).map(|v| (random.below(v), v, 1_000_000)).collect();
     let graph = Graph::new(256, &path);
     let mut all = Vec::new();
     for kind in [Kind::Rooted, Kind::Unrooted] {

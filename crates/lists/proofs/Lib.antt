@@ -11,6 +11,8 @@ pub mod Filters
 pub mod First
 -- the list without a number
 pub mod Without
+-- the sum without a number
+pub mod SumWithout
 -- an element in the middle of a list
 pub mod Middle
 -- sorting keeps the elements and the sum, and puts them in order

@@ -1,7 +1,7 @@
 -- `cover::trees::run_joined` meets its contract. The loop's invariant: the edges of the entries before i are joined to the start.
 -- The measure is how many entries are left. Assumes nothing.
 use Prim.Native.Nat.{ℕ, _-_, _≤_, _<_}
-use mathlib.Core.Path.{_≡_, ap, _∙_}
+use mathlib.Core.Path.{_≡_, sym, ap, _∙_}
 use native.Mathlib.Omega.{arith}
 use lib.ListN.{getD}
 use borrow.Author.Count.{below-more}
@@ -21,10 +21,17 @@ Inv-loop b c from to start label i₀ i =
 abbrev μ-loop : tie.MeasureT-loop
 μ-loop b c from to start label i₀ i = to - i
 
--- In a turn, one end of the entry's edge was read: it is that edge's, and a vertex.
+-- In a turn, one end of the entry's edge was read: the label there is that of the edge's end.
 module _ (t : tie.After-one-end Inv-loop μ-loop) where
-  read-end : t .one-end .result ≡ oneEnd (graphOf (t .before .before .before .before .before .before .before .args .b .now)) (entryEdge (t .before .before .before .before .before .before .before .args .c .now) (t .before .before .before .loop .i))
-  read-end = t .one-end .ensures .is ∙ ap (oneEnd (graphOf (t .before .before .before .before .before .before .before .args .b .now))) (t .before .entry-edge .ensures .is)
+  abbrev s : tie.Start Inv-loop μ-loop
+  s = t .before .before .before .before .before .before .before
+
+  abbrev e : ℕ
+  e = entryEdge (s .args .c .now) (t .before .before .before .loop .i)
+
+  read-label : getD (s .args .label .now) (t .one-end .result) 0 ≡ getD (s .args .label .now) (oneEnd (graphOf (s .args .b .now)) e) 0
+  read-label =
+      ap (λ u. getD (s .args .label .now) u 0) (t .one-end .ensures .is ∙ ap (oneEnd (graphOf (s .args .b .now))) (t .before .entry-edge .ensures .is))
 
 loop-holds : tie.Need-loop-holds Inv-loop μ-loop
 loop-holds c = (omega arith, λ k h l. absurd (omega arith))
@@ -47,15 +54,14 @@ mul-if1-2 c = search needs
 shared-slice-read-if1-2 : tie.Need-shared-slice-read-if1-2 Inv-loop μ-loop
 shared-slice-read-if1-2 c =
     let t = c .before .before in
-    let s = t .before .before .before .before .before .before .before in
-    omega (arith, one-end-below (s .pre .1 .graph .valid) (t .before .entry-edge .result), t .one-end .ensures .is)
+    omega (arith, one-end-below (s t .pre .1 .graph .valid) (t .before .entry-edge .result), t .one-end .ensures .is)
 
 returns : tie.Need-returns Inv-loop μ-loop
 returns c =
     let t = c .before .before .before in
-    let s = t .before .before .before .before .before .before .before in
-    run-apart (s .pre .1 .graph) (s .args .c .now) (s .args .from) (s .args .to) (s .args .start) (s .args .label .now) (s .pre .0)
-    (t .before .before .before .loop .i) (omega arith) (omega arith) (rw (read-end t) at (c .if1 .taken))
+    let b = s t in
+    run-apart (b .pre .1 .graph) (b .args .c .now) (b .args .from) (b .args .to) (b .args .start) (b .args .label .now) (b .pre .0)
+    (t .before .before .before .loop .i) (omega arith) (omega arith) (λ q. c .if1 .taken (q ∙ sym (read-label t)))
 
 add-i : tie.Need-add-i Inv-loop μ-loop
 add-i c = omega arith
@@ -66,13 +72,13 @@ loop-less c = omega arith
 loop-again : tie.Need-loop-again Inv-loop μ-loop
 loop-again c =
     let t = c .before .before .before in
-    let s = t .before .before .before .loop in
-    (omega arith, below-more _ (s .i) (s .inv .1) (λ l. rw (read-end t) at (c .if1 .left)))
+    let l = t .before .before .before .loop in
+    (omega arith, below-more _ (l .i) (l .inv .1) (λ _. c .if1 .left ∙ read-label t))
 
 returns-2 : tie.Need-returns-2 Inv-loop μ-loop
 returns-2 c =
-    let s = c .before .before .before .before .before in
-    run-together (s .pre .1 .graph) (s .args .c .now) (s .args .from) (s .args .to) (s .args .start) (s .args .label .now) (s .pre .0)
+    let b = c .before .before .before .before .before in
+    run-together (b .pre .1 .graph) (b .args .c .now) (b .args .from) (b .args .to) (b .args .start) (b .args .label .now) (b .pre .0)
     (λ k h l. c .before .loop .inv .1 k (omega arith) h)
 
 pub run-joined-spec : {M : Type 1} → statement M

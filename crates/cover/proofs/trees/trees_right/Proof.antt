@@ -7,7 +7,7 @@ use native.Mathlib.Omega.{arith}
 use lib.ListN.{length}
 use borrow.Author.Count.{below-none, below-more}
 use borrow.Author.Tests.{not-true, not-false}
-use Rattle.graph.specs.Graph.{edgeCount}
+use Rattle.graph.specs.Graph.{Graph, edgeCount}
 use Rattle.graph.specs.Bytes.{graphOf}
 use Rattle.theory.specs.Cover.{Tree}
 use Rattle.theory.specs.CoverBytes.{treeIn}
@@ -28,15 +28,18 @@ abbrev μ-loop : tie.MeasureT-loop
 
 -- In a turn, tree j was tested: the answer is that of the tree of the bytes.
 module _ (t : tie.After-tree-right Inv-loop μ-loop) where
-  tested : t .tree-right .result
-      ≡ treeRight (graphOf (t .before .before .before .before .before .before .before .before .before .args .b .now))
-      (treeIn (t .before .before .before .before .before .before .before .before .before .args .c .now) (t .before .before .before .before .loop .j))
+  abbrev s : tie.Start Inv-loop μ-loop
+  s = t .before .before .before .before .before .before .before .before .before
+
+  abbrev g : Graph
+  g = graphOf (s .args .b .now)
+
+  tested : t .tree-right .result ≡ treeRight g (treeIn (s .args .c .now) (t .before .before .before .before .loop .j))
   tested =
-      let s = t .before .before .before .before .before .before .before .before .before in
-      let g = graphOf (s .args .b .now) in
+      let l = t .before .before .before .before .loop in
       t .tree-right .ensures
       ∙ ap (λ (x : Tree). treeRight g x)
-      (sym (tree-is-run (s .args .c .now) (edgeCount g) (s .pre .cover .entries) (t .before .before .before .before .loop .inv .1) (t .before .before .run-end .ensures)))
+      (sym (tree-is-run (s .args .c .now) (edgeCount g) (s .pre .cover .entries) (l .inv .1) (t .before .before .run-end .ensures)))
 
 trees-in-requires : tie.Need-trees-in-requires Inv-loop μ-loop
 trees-in-requires c κs = tt
@@ -65,8 +68,7 @@ same-length c = omega (arith, c .before .before .before .tree-right .kept .1 .1 
 returns : tie.Need-returns Inv-loop μ-loop
 returns c =
     let t = c .before .before .before in
-    let s = t .before .before .before .before .before .before .before .before .before .args in
-    sym (tree-wrong (graphOf (s .b .now)) (s .c .now) (t .before .before .before .before .loop .j) (omega arith)
+    sym (tree-wrong (g t) (s t .args .c .now) (t .before .before .before .before .loop .j) (omega arith)
     (sym (tested t) ∙ not-true (t .tree-right .result) (c .if1 .taken)))
 
 add-j : tie.Need-add-j Inv-loop μ-loop
@@ -78,10 +80,9 @@ loop-less c = omega arith
 loop-again : tie.Need-loop-again Inv-loop μ-loop
 loop-again c =
     let t = c .before .before .before in
-    let l = t .before .before .before .before .loop in
-    let s = t .before .before .before .before .before .before .before .before .before in (
+    let l = t .before .before .before .before .loop in (
       omega (arith, t .tree-right .kept .1 .1 .1 .1 .1 .0, l .inv .0),
-      begins-next (s .args .c .now) (edgeCount (graphOf (s .args .b .now))) (s .pre .cover .entries) (l .inv .1) (t .before .before .run-end .ensures),
+      begins-next (s t .args .c .now) (edgeCount (g t)) (s t .pre .cover .entries) (l .inv .1) (t .before .before .run-end .ensures),
       below-more _ (l .j) (l .inv .2) (sym (tested t) ∙ not-false (t .tree-right .result) (c .if1 .left)),
     )
 

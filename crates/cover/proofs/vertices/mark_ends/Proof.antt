@@ -61,7 +61,9 @@ slice-write-marks : tie.Need-slice-write-marks Inv-loop μ-loop
 slice-write-marks c = omega (arith, one-place c, one-read c, c .before .before .before .before .loop .inv .as-long)
 
 slice-write-marks-2 : tie.Need-slice-write-marks-2 Inv-loop μ-loop
-slice-write-marks-2 c = lt-length-set (c .before .before .before .before .loop .marks) (c .before .one-end .result) 1 (omega (arith, other-place c, other-read c, c .before .before .before .before .loop .inv .as-long))
+slice-write-marks-2 c =
+    let l = c .before .before .before .before .loop in
+    lt-length-set (l .marks) (c .before .one-end .result) 1 (omega (arith, other-place c, other-read c, l .inv .as-long))
 
 add-i : tie.Need-add-i Inv-loop μ-loop
 add-i c = omega arith

@@ -1,0 +1,116 @@
+-- `made_forests::pieces::print_trees` is safe and ends: the bounds rise within the edges. The measure is what is left of the starts.
+-- Assumes nothing.
+use Prim.Native.Nat.{_+_, _-_, _≤_}
+use mathlib.Core.Path.{_≡_, _∙_}
+use native.Mathlib.Omega.{arith}
+use lib.ListN.{length, length-take, length-drop}
+use borrow.Rule.Slice.PartMut.{same-len-mid}
+use borrow.Author.Needs.{needs}
+use Rattle.made_forests.proofs.pieces.print_trees.Statement.{statement}
+use Rattle.made_forests.proofs.pieces.print_trees.Tie as tie
+
+abbrev Inv-loop : tie.InvT-loop
+Inv-loop word starts bounds edges₀ i₀ edges i = (i ≤ length starts) × (length edges ≡ length edges₀)
+
+abbrev μ-loop : tie.MeasureT-loop
+μ-loop word starts bounds edges₀ i₀ edges i = length starts - i
+
+-- Both bounds are read: they rise, and lie within the edges.
+module _ (c : tie.After-wide2 Inv-loop μ-loop) where
+  between : (c .before .before .wide .result ≤ c .wide2 .result) × (c .wide2 .result ≤ length (c .before .before .before .before .before .loop .edges))
+  between =
+      let s = c .before .before .before .before .before .before .before .before .before .before .pre in
+      let i = c .before .before .before .before .before .loop .i in
+      omega (arith, c .before .before .wide .ensures, c .wide2 .ensures, s .bounded .rising i (omega arith), s .bounded .within (i + 1) (omega arith), s .fits)
+
+loop-holds : tie.Need-loop-holds Inv-loop μ-loop
+loop-holds c = search needs
+
+mul-wide : tie.Need-mul-wide Inv-loop μ-loop
+mul-wide c = search needs
+
+shared-slice-read-wide : tie.Need-shared-slice-read-wide Inv-loop μ-loop
+shared-slice-read-wide c = search needs
+
+wide-requires : tie.Need-wide-requires Inv-loop μ-loop
+wide-requires c κs = search needs
+
+add-wide : tie.Need-add-wide Inv-loop μ-loop
+add-wide c = search needs
+
+mul-wide-2 : tie.Need-mul-wide-2 Inv-loop μ-loop
+mul-wide-2 c = search needs
+
+shared-slice-read-wide-2 : tie.Need-shared-slice-read-wide-2 Inv-loop μ-loop
+shared-slice-read-wide-2 c = search needs
+
+wide-requires-2 : tie.Need-wide-requires-2 Inv-loop μ-loop
+wide-requires-2 c κs = search needs
+
+mul-print-rising : tie.Need-mul-print-rising Inv-loop μ-loop
+mul-print-rising c = search needs
+
+shared-slice-read-print-rising : tie.Need-shared-slice-read-print-rising Inv-loop μ-loop
+shared-slice-read-print-rising c = search needs
+
+mul-print-rising-2 : tie.Need-mul-print-rising-2 Inv-loop μ-loop
+mul-print-rising-2 c = omega (arith, between (c .before))
+
+sub-print-rising : tie.Need-sub-print-rising Inv-loop μ-loop
+sub-print-rising c = omega (arith, between (c .before))
+
+part-print-rising-start : tie.Need-part-print-rising-start Inv-loop μ-loop
+part-print-rising-start c = omega (arith, between (c .before))
+
+part-print-rising-end : tie.Need-part-print-rising-end Inv-loop μ-loop
+part-print-rising-end c = omega (arith, between (c .before))
+
+print-rising-requires : tie.Need-print-rising-requires Inv-loop μ-loop
+print-rising-requires c κs = simp (length-take, length-drop) (omega (arith, between (c .before .before), c .before .before .before .before .before .before .before .loop .inv, c .before .before .before .before .before .before .before .before .before .before .before .before .pre .small))
+
+add-i : tie.Need-add-i Inv-loop μ-loop
+add-i c = search needs
+
+loop-less : tie.Need-loop-less Inv-loop μ-loop
+loop-less c = search needs
+
+loop-again : tie.Need-loop-again Inv-loop μ-loop
+loop-again c =
+    let from = c .before .before .before .before .before .before .before .wide .result in
+    let to = c .before .before .before .before .before .wide2 .result in
+    let at = c .before .before .before .before .before .before .before .before .before .before .loop in
+    let p = c .before .before .print-rising in
+    (omega arith, same-len-mid from (to - from) (at .edges) (p .last .1 .1 .0) (p .kept .1 .1 .0) ∙ at .inv .1)
+
+same-length : tie.Need-same-length Inv-loop μ-loop
+same-length c = search needs
+
+returns : tie.Need-returns Inv-loop μ-loop
+returns c = search needs
+
+pub print-trees-spec : {M : Type 1} → statement M
+print-trees-spec =
+    tie.close
+    (tie.spec
+    Inv-loop
+    μ-loop
+    loop-holds
+    mul-wide
+    shared-slice-read-wide
+    wide-requires
+    add-wide
+    mul-wide-2
+    shared-slice-read-wide-2
+    wide-requires-2
+    mul-print-rising
+    shared-slice-read-print-rising
+    mul-print-rising-2
+    sub-print-rising
+    part-print-rising-start
+    part-print-rising-end
+    print-rising-requires
+    add-i
+    loop-less
+    loop-again
+    same-length
+    returns)

@@ -1,0 +1,108 @@
+-- `made_forests::pieces::print_unrooted` is safe: the roots are the lowest vertices of the components. Assumes nothing.
+use Prim.Native.Nat.{ℕ, _≤_}
+use mathlib.Core.Path.{sym}
+use native.Mathlib.Omega.{arith}
+use lib.ListN.{length, length-replicate}
+use lib.Seq.{length-take-le}
+use borrow.Author.Needs.{needs}
+use Rattle.graph.specs.Bytes.{graphOf}
+use Rattle.made_forests.proofs.Roots.{components-inside}
+use Rattle.made_forests.proofs.pieces.print_unrooted.Statement.{statement}
+use Rattle.made_forests.proofs.pieces.print_unrooted.Tie as tie
+
+-- There are no more components than vertices, and there is room for them.
+module _ (c : tie.After-lowest-of-each) where
+  few-roots : c .lowest-of-each .result ≤ 256
+  few-roots = let s = c .before .before .before .before .before .before .before .before .before .before .pre in omega (arith, c .lowest-of-each .ensures .few, s .vertices-are, s .graph .valid .vertices-most)
+
+  roots-room : c .lowest-of-each .result ≤ length (c .lowest-of-each .last .1 .1 .0)
+  roots-room = omega (arith, few-roots, c .lowest-of-each .kept .1 .1 .0, length-replicate {A = ℕ} 256 0)
+
+array-share-prefix-roots : tie.Need-array-share-prefix-roots
+array-share-prefix-roots c = search needs
+
+slice-aggregate-print-forest : tie.Need-slice-aggregate-print-forest
+slice-aggregate-print-forest c = search needs
+
+slice-aggregate-print-forest-2 : tie.Need-slice-aggregate-print-forest-2
+slice-aggregate-print-forest-2 c = search needs
+
+slice-aggregate-print-forest-3 : tie.Need-slice-aggregate-print-forest-3
+slice-aggregate-print-forest-3 c = search needs
+
+print-forest-requires : tie.Need-print-forest-requires
+print-forest-requires c κs = search needs
+
+slice-aggregate-lowest-of-each : tie.Need-slice-aggregate-lowest-of-each
+slice-aggregate-lowest-of-each c = search needs
+
+slice-aggregate-lowest-of-each-2 : tie.Need-slice-aggregate-lowest-of-each-2
+slice-aggregate-lowest-of-each-2 c = search needs
+
+lowest-of-each-requires : tie.Need-lowest-of-each-requires
+lowest-of-each-requires c κs = search needs
+
+slice-aggregate-print-list : tie.Need-slice-aggregate-print-list
+slice-aggregate-print-list c = search needs
+
+array-share-prefix-roots-2 : tie.Need-array-share-prefix-roots-2
+array-share-prefix-roots-2 c = search needs
+
+slice-aggregate-print-list-2 : tie.Need-slice-aggregate-print-list-2
+slice-aggregate-print-list-2 c = sym (length-take-le _ _ (roots-room (c .before .before .before)))
+
+print-list-requires : tie.Need-print-list-requires
+print-list-requires c κs = search needs
+
+array-share-prefix-kept : tie.Need-array-share-prefix-kept
+array-share-prefix-kept c = search needs
+
+slice-aggregate-print-pieces : tie.Need-slice-aggregate-print-pieces
+slice-aggregate-print-pieces c = sym (length-take-le _ _ (omega arith))
+
+array-share-prefix-roots-3 : tie.Need-array-share-prefix-roots-3
+array-share-prefix-roots-3 c = search needs
+
+slice-aggregate-print-pieces-2 : tie.Need-slice-aggregate-print-pieces-2
+slice-aggregate-print-pieces-2 c = sym (length-take-le _ _ (roots-room (c .before .before .before .before .before .before)))
+
+mul-print-pieces : tie.Need-mul-print-pieces
+mul-print-pieces c = search needs
+
+print-pieces-requires : tie.Need-print-pieces-requires
+print-pieces-requires c κs =
+    let k = c .before .before .before .before .before .before in
+    let s = c .before .before .before .before .before .before .before .before .before .before .before .before .before .before .before .before in
+    let o = k .lowest-of-each in
+    record {
+      graph = s .pre .graph;
+      few = omega (arith, length-take-le (o .result) (o .last .1 .1 .0) (roots-room k), few-roots k);
+      inside = components-inside (graphOf (s .args .b .now)) (o .ensures) (sym (s .pre .vertices-are));
+    }
+
+returns : tie.Need-returns
+returns c = search needs
+
+pub print-unrooted-spec : {M : Type 1} → statement M
+print-unrooted-spec =
+    tie.close
+    (tie.spec
+    array-share-prefix-roots
+    slice-aggregate-print-forest
+    slice-aggregate-print-forest-2
+    slice-aggregate-print-forest-3
+    print-forest-requires
+    slice-aggregate-lowest-of-each
+    slice-aggregate-lowest-of-each-2
+    lowest-of-each-requires
+    slice-aggregate-print-list
+    array-share-prefix-roots-2
+    slice-aggregate-print-list-2
+    print-list-requires
+    array-share-prefix-kept
+    slice-aggregate-print-pieces
+    array-share-prefix-roots-3
+    slice-aggregate-print-pieces-2
+    mul-print-pieces
+    print-pieces-requires
+    returns)

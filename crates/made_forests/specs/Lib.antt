@@ -1,0 +1,2 @@
+-- What the functions of this program ask of each other.
+pub mod Asked
