@@ -21,6 +21,8 @@ pub mod Sorting
 pub mod Below
 -- lists written place by place along a run of numbers
 pub mod Runs
+-- what holds after one store
+pub mod AfterStore
 -- what holds after a store; numbers sent apart to others are no more than these
 pub mod Pigeonhole
 -- a test that passes fewer numbers counts less

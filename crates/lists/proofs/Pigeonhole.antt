@@ -1,29 +1,16 @@
 -- Counting by sending: where numbers that pass one test are sent, all apart, to numbers that pass another, the first are
--- no more than the second, and fewer where one of the second is missed. Before that, how a fact of each number is shown
--- by the one number where it is new: so after a store.
+-- no more than the second, and fewer where one of the second is missed.
 -- Assumes nothing.
 use Prim.Native.Nat.{ℕ, zero, suc, _≤_, _<_}
 use mathlib.Core.Path.{_≡_, _∙_, refl, sym}
-use mathlib.Core.Logic.{dite, ⊎-elim}
+use mathlib.Core.Logic.{⊎-elim}
 use mathlib.Core.Bool.{Bool, true, false, not, _&&_, and-true, and-false}
-use mathlib.Core.List.{List}
 use native.Mathlib.Omega.{arith}
-use native.Mathlib.Decide.{ℕ-discrete}
 use lib.Dec.{eqb}
-use lib.ListN.{length, getD, set}
-use lib.Seq.{getD-set-same, getD-set-other}
 use borrow.Author.Tests.{ne-eqb, eq-eqb}
 use Rattle.lists.specs.Count.{count}
 use Rattle.lists.proofs.Member.{either}
-
--- What holds of j, and of every k that is not j, holds of every k.
-pub at-or-not : (P : ℕ → Type 0) (j k : ℕ) → P j → ((k ≡ j → ⊥) → P k) → P k
-at-or-not P j k at other = dite (ℕ-discrete k j) (λ e. rw e at) other
-
--- After a store at i, what holds of i and the value stored, and elsewhere of what was there, holds of what is there.
-pub after-store : (P : ℕ → ℕ → Type 0) (l : List ℕ) (i v k : ℕ) → i < length l → P i v → ((k ≡ i → ⊥) → P k (getD l k 0)) → P k (getD (set l i v) k 0)
-after-store P l i v k within at other =
-    at-or-not (λ x. P x (getD (set l i v) x 0)) i k (rw (getD-set-same l i v 0 within) at) (λ away. rw (getD-set-other l i k v 0 away) (other away))
+use Rattle.lists.proofs.AfterStore.{at-or-not}
 
 -- The test f, passed by no k that is z.
 unfoldable pub but : ℕ → (ℕ → Bool) → ℕ → Bool

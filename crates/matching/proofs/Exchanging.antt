@@ -9,7 +9,7 @@ use native.Mathlib.Omega.{arith}
 use native.Mathlib.Nat.{le-refl}
 use lib.ListN.{length, getD, set, drop, length-set}
 use lib.Seq.{getD-set-same, getD-set-other, drop-set-lt}
-use Rattle.lists.proofs.Pigeonhole.{after-store}
+use Rattle.lists.proofs.AfterStore.{after-store}
 use Rattle.matching.specs.State.{none, Place, Places, Exchangeable, HadOrReached, Exchanged}
 
 -- The state between two turns: `root` is vacant, and was reached from `place`.

@@ -13,7 +13,8 @@ use borrow.Author.Tests.{eqb-true, eq-eqb}
 use Rattle.lists.specs.Count.{count, anyBelow}
 use Rattle.lists.proofs.Every.{first-true, second-true}
 use Rattle.lists.proofs.AnyBelow.{any-below-found}
-use Rattle.lists.proofs.Pigeonhole.{at-or-not, count-into-missing}
+use Rattle.lists.proofs.AfterStore.{at-or-not}
+use Rattle.lists.proofs.Pigeonhole.{count-into-missing}
 use Rattle.matching.specs.Assignment.{IsAssignment, IsDeficient, marked}
 use Rattle.matching.specs.Marks.{Marks}
 use Rattle.matching.specs.State.{none, Mirror, May, Edges, Closed, Exchanged}

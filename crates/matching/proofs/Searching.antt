@@ -13,7 +13,8 @@ use lib.Seq.{getD-set-same, getD-set-other}
 use borrow.Author.Tests.{eq-eqb, ne-eqb, eqb-false, not-true}
 use Rattle.lists.specs.Count.{count}
 use Rattle.lists.proofs.Fewer.{count-bounded, count-fewer}
-use Rattle.lists.proofs.Pigeonhole.{at-or-not, after-store, count-all}
+use Rattle.lists.proofs.AfterStore.{at-or-not, after-store}
+use Rattle.lists.proofs.Pigeonhole.{count-all}
 use Rattle.matching.specs.State.{none, Place, Edges, Searchable, Reached, Closed}
 
 -- Some part has reached the root.

@@ -19,37 +19,34 @@ use Rattle.theory.specs.Walk.{totalWeight}
 use Rattle.theory.specs.Cover.{Tree}
 use Rattle.theory.specs.Grow.{Branches, none, branch, branchEdges}
 use Rattle.theory.specs.Split.{Pieces, partAt, settle, splitAt}
+use Rattle.theory.specs.CoverBytes.{entryEdges}
 use Rattle.splitting.proofs.Rules.{settle-cases}
 
--- The edges of all parts, one part after the other.
-unfoldable pub partEdges : List Tree → List ℕ
-partEdges parts = flat (map (λ (t : Tree). t .edges) parts)
-
 -- An edge of a part is one of them, and the other way round.
-pub in-part-edges : {e : ℕ} {t : Tree} {parts : List Tree} → t ∈ parts → e ∈ t .edges → e ∈ partEdges parts
-unfolding partEdges
+pub in-part-edges : {e : ℕ} {t : Tree} {parts : List Tree} → t ∈ parts → e ∈ t .edges → e ∈ entryEdges parts
+unfolding entryEdges
 in-part-edges m n = in-flat-map (λ (t : Tree). t .edges) m n
 
-pub of-part-edges : {e : ℕ} (parts : List Tree) → e ∈ partEdges parts → (t : Tree) × (t ∈ parts) × (e ∈ t .edges)
-unfolding partEdges
+pub of-part-edges : {e : ℕ} (parts : List Tree) → e ∈ entryEdges parts → (t : Tree) × (t ∈ parts) × (e ∈ t .edges)
+unfolding entryEdges
 of-part-edges parts m = of-flat-map (λ (t : Tree). t .edges) parts m
 
 module _ (f : ℕ → ℕ) where
   -- The sum over all parts, and over pieces.
-  part-edges-append : (xs ys : List Tree) → sumOf f (partEdges (xs ++ ys)) ≡ sumOf f (partEdges xs) + sumOf f (partEdges ys)
-  unfolding partEdges flat sumOf
+  part-edges-append : (xs ys : List Tree) → sumOf f (entryEdges (xs ++ ys)) ≡ sumOf f (entryEdges xs) + sumOf f (entryEdges ys)
+  unfolding entryEdges flat sumOf
   part-edges-append [] ys = omega arith
-  part-edges-append (t ∷ xs) ys = omega (arith, part-edges-append xs ys, sum-append f (t .edges) (partEdges (xs ++ ys)), sum-append f (t .edges) (partEdges xs))
+  part-edges-append (t ∷ xs) ys = omega (arith, part-edges-append xs ys, sum-append f (t .edges) (entryEdges (xs ++ ys)), sum-append f (t .edges) (entryEdges xs))
 
   both : Pieces → ℕ
-  both s = sumOf f (partEdges (s .parts)) + sumOf f (s .left)
+  both s = sumOf f (entryEdges (s .parts)) + sumOf f (s .left)
 
   one-part : (v : ℕ) (edges left : List ℕ) → both (record { parts = partAt v edges ∷ []; left = left }) ≡ sumOf f edges + sumOf f left
-  unfolding both partEdges flat partAt sumOf
+  unfolding both entryEdges flat partAt sumOf
   one-part v edges left = rw (append-nil, sum-rise)
 
   settle-sum : (g : Graph) (H v : ℕ) (bunch piece : List ℕ) → both (settle g H v bunch piece) ≡ sumOf f bunch + sumOf f piece
-  unfolding sumOf both partEdges flat
+  unfolding sumOf both entryEdges flat
   settle-sum g H v bunch piece =
       settle-cases g H v bunch piece (λ s. both s ≡ sumOf f bunch + sumOf f piece)
       (λ _. omega (arith, one-part v piece bunch))
@@ -57,7 +54,7 @@ module _ (f : ℕ → ℕ) where
       (λ _ _. omega (arith, sum-append f bunch piece))
 
   pieces-sum : (g : Graph) (H v : ℕ) (bunch : List ℕ) (b : Branches) → both (splitAt g H v bunch b) ≡ sumOf f bunch + sumOf f (branchEdges b)
-  unfolding splitAt branchEdges sumOf partEdges flat both
+  unfolding splitAt branchEdges sumOf entryEdges flat both
   pieces-sum g H v bunch none = omega arith
   pieces-sum g H v bunch (branch e child under later) =
       let inner = splitAt g H child [] under in
@@ -74,23 +71,23 @@ module _ (f : ℕ → ℕ) where
       )
 
 -- An edge stands in joined lists of parts as often as in the one and the other.
-pub times-part-edges : (e : ℕ) (xs ys : List Tree) → times e (partEdges (xs ++ ys)) ≡ times e (partEdges xs) + times e (partEdges ys)
+pub times-part-edges : (e : ℕ) (xs ys : List Tree) → times e (entryEdges (xs ++ ys)) ≡ times e (entryEdges xs) + times e (entryEdges ys)
 unfolding times
 times-part-edges e xs ys = part-edges-append (λ x. cond (eqb e x) 1 0) xs ys
 
 module _ (g : Graph) (H v : ℕ) (bunch : List ℕ) (b : Branches) where
   -- The sum of any value over the edges of the parts and those left is that over the bunch and the branches.
-  pub split-sum : (f : ℕ → ℕ) → sumOf f (partEdges (splitAt g H v bunch b .parts)) + sumOf f (splitAt g H v bunch b .left) ≡ sumOf f bunch + sumOf f (branchEdges b)
+  pub split-sum : (f : ℕ → ℕ) → sumOf f (entryEdges (splitAt g H v bunch b .parts)) + sumOf f (splitAt g H v bunch b .left) ≡ sumOf f bunch + sumOf f (branchEdges b)
   unfolding both
   split-sum f = pieces-sum f g H v bunch b
 
   -- So is the weight.
-  pub split-weight : totalWeight g (partEdges (splitAt g H v bunch b .parts)) + totalWeight g (splitAt g H v bunch b .left) ≡ totalWeight g bunch + totalWeight g (branchEdges b)
+  pub split-weight : totalWeight g (entryEdges (splitAt g H v bunch b .parts)) + totalWeight g (splitAt g H v bunch b .left) ≡ totalWeight g bunch + totalWeight g (branchEdges b)
   unfolding totalWeight
   split-weight = split-sum (weightOf g)
 
   -- Each edge stands in the parts and among those left as often as in the bunch and the branches.
-  pub split-exact : (e : ℕ) → times e (partEdges (splitAt g H v bunch b .parts)) + times e (splitAt g H v bunch b .left) ≡ times e bunch + times e (branchEdges b)
+  pub split-exact : (e : ℕ) → times e (entryEdges (splitAt g H v bunch b .parts)) + times e (splitAt g H v bunch b .left) ≡ times e bunch + times e (branchEdges b)
   unfolding times
   split-exact e = split-sum (λ x. cond (eqb e x) 1 0)
 
@@ -103,11 +100,11 @@ module _ (g : Graph) (H v : ℕ) (bunch : List ℕ) (b : Branches) where
 
   -- and each of those stands in a part or is left.
   pub edge-kept : {e : ℕ} → e ∈ (bunch ++ branchEdges b) → ((t : Tree) × (t ∈ splitAt g H v bunch b .parts) × (e ∈ t .edges)) ⊎ (e ∈ splitAt g H v bunch b .left)
-  edge-kept {e} m = go (times e (partEdges parts)) refl
+  edge-kept {e} m = go (times e (entryEdges parts)) refl
     where
       parts : List Tree
       parts = splitAt g H v bunch b .parts
 
-      go : (n : ℕ) → times e (partEdges parts) ≡ n → ((t : Tree) × (t ∈ parts) × (e ∈ t .edges)) ⊎ (e ∈ splitAt g H v bunch b .left)
+      go : (n : ℕ) → times e (entryEdges parts) ≡ n → ((t : Tree) × (t ∈ parts) × (e ∈ t .edges)) ⊎ (e ∈ splitAt g H v bunch b .left)
       go zero q = inr (times-in e (splitAt g H v bunch b .left) (omega (arith, in-times m, split-exact e, times-append e bunch (branchEdges b))))
-      go (suc n) q = inl (of-part-edges parts (times-in e (partEdges parts) (omega arith)))
+      go (suc n) q = inl (of-part-edges parts (times-in e (entryEdges parts) (omega arith)))

@@ -15,15 +15,16 @@ use Rattle.theory.specs.Cover.{Tree, treeWeight}
 use Rattle.theory.specs.Grow.{Branches, Rooted, branchEdges}
 use Rattle.theory.specs.Split.{splitAt, split}
 use Rattle.theory.specs.UnrootedTrial.{needs, leftovers, fromLowest, componentTrees}
-use Rattle.splitting.proofs.Exact.{partEdges, split-weight}
+use Rattle.theory.specs.CoverBytes.{entryEdges}
+use Rattle.splitting.proofs.Exact.{split-weight}
 use Rattle.splitting.proofs.Weights.{weight-append, weight-none, part-heavy, no-parts}
 
 -- Trees that weigh at least H each weigh together at least H times their number.
-pub heavy-together : (g : Graph) (H : ℕ) (trees : List Tree) → ((t : Tree) → t ∈ trees → H ≤ treeWeight g t) → length trees * H ≤ totalWeight g (partEdges trees)
-unfolding partEdges flat treeWeight
+pub heavy-together : (g : Graph) (H : ℕ) (trees : List Tree) → ((t : Tree) → t ∈ trees → H ≤ treeWeight g t) → length trees * H ≤ totalWeight g (entryEdges trees)
+unfolding entryEdges flat treeWeight
 heavy-together g H [] each = omega arith
 heavy-together g H (t ∷ ts) each =
-    omega (arith, suc-mul (length ts) H, weight-append g (t .edges) (partEdges ts), each t (List·Memᴰ·head refl), heavy-together g H ts (λ u m. each u (List·Memᴰ·tail m)))
+    omega (arith, suc-mul (length ts) H, weight-append g (t .edges) (entryEdges ts), each t (List·Memᴰ·head refl), heavy-together g H ts (λ u m. each u (List·Memᴰ·tail m)))
 
 -- H times the number of parts is at most the weight of the bunch and the branches.
 pub parts-few : (g : Graph) (H v : ℕ) (bunch : List ℕ) (b : Branches) → length (splitAt g H v bunch b .parts) * H ≤ totalWeight g bunch + totalWeight g (branchEdges b)

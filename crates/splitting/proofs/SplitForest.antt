@@ -14,7 +14,8 @@ use Rattle.graph.specs.Graph.{Graph}
 use Rattle.theory.specs.Cover.{Tree}
 use Rattle.theory.specs.Grow.{Rooted, branchEdges, grow}
 use Rattle.theory.specs.Split.{Pieces, split, allParts}
-use Rattle.splitting.proofs.Exact.{partEdges, times-part-edges}
+use Rattle.theory.specs.CoverBytes.{entryEdges}
+use Rattle.splitting.proofs.Exact.{times-part-edges}
 use Rattle.splitting.proofs.SplitTree.{tree-exact}
 use Rattle.splitting.proofs.Trees.{allEdges}
 use Rattle.splitting.proofs.Once.{edge-at-most-once}
@@ -55,8 +56,8 @@ module _ (g : Graph) (H : ℕ) where
 
 -- Each edge stands in the parts and among those left of all trees as often as in the trees.
 pub trees-exact : (g : Graph) (H : ℕ) (trees : List Rooted) (e : ℕ)
-    → times e (partEdges (allParts (map (split g H) trees))) + times e (allLeft (map (split g H) trees)) ≡ times e (allEdges trees)
-unfolding allParts allLeft allEdges flat partEdges
+    → times e (entryEdges (allParts (map (split g H) trees))) + times e (allLeft (map (split g H) trees)) ≡ times e (allEdges trees)
+unfolding allParts allLeft allEdges flat entryEdges
 trees-exact g H [] e = omega (arith, times-none e)
 trees-exact g H (t ∷ ts) e =
     let rest = map (split g H) ts in
@@ -72,5 +73,5 @@ trees-exact g H (t ∷ ts) e =
 
 -- So it stands there at most once.
 pub forest-split-once : (g : Graph) (H : ℕ) (edges roots : List ℕ) (e : ℕ)
-    → times e (partEdges (allParts (map (split g H) (grow g edges roots)))) + times e (allLeft (map (split g H) (grow g edges roots))) ≤ 1
+    → times e (entryEdges (allParts (map (split g H) (grow g edges roots)))) + times e (allLeft (map (split g H) (grow g edges roots))) ≤ 1
 forest-split-once g H edges roots e = omega (arith, trees-exact g H (grow g edges roots) e, edge-at-most-once g edges roots e)

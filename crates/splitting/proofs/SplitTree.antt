@@ -12,21 +12,22 @@ use Rattle.theory.specs.Walk.{totalWeight}
 use Rattle.theory.specs.Cover.{Tree, treeWeight}
 use Rattle.theory.specs.Grow.{Branches, Rooted, branchEdges}
 use Rattle.theory.specs.Split.{Pieces, split}
+use Rattle.theory.specs.CoverBytes.{entryEdges}
 use Rattle.splitting.proofs.Along.{Hangs, children}
-use Rattle.splitting.proofs.Exact.{partEdges, split-exact, split-weight, edge-kept, part-edge-from, left-edge-from}
+use Rattle.splitting.proofs.Exact.{split-exact, split-weight, edge-kept, part-edge-from, left-edge-from}
 use Rattle.splitting.proofs.Weights.{weight-none, part-heavy, part-light, left-light}
 use Rattle.splitting.proofs.Connected.{JoinedTo, Connected, parts-connected, left-connected}
 
 -- Each edge stands in the parts and among those left as often as in the tree.
-pub tree-exact : (g : Graph) (H : ℕ) (t : Rooted) (e : ℕ) → times e (partEdges (split g H t .parts)) + times e (split g H t .left) ≡ times e (branchEdges (t .branches))
+pub tree-exact : (g : Graph) (H : ℕ) (t : Rooted) (e : ℕ) → times e (entryEdges (split g H t .parts)) + times e (split g H t .left) ≡ times e (branchEdges (t .branches))
 unfolding split
 tree-exact g H t e = omega (arith, split-exact g H (t .root) [] (t .branches) e, times-none e)
 
 -- What splitting a rooted tree gives.
 pub record IsSplit (g : Graph) (H : ℕ) (t : Rooted) (pieces : Pieces) : Type 0 where
   -- every edge of the tree stands in the parts and among those left as often as in the tree, so that together they weigh what it weighs
-  pub exact : (e : ℕ) → times e (partEdges (pieces .parts)) + times e (pieces .left) ≡ times e (branchEdges (t .branches))
-  pub weight : totalWeight g (partEdges (pieces .parts)) + totalWeight g (pieces .left) ≡ totalWeight g (branchEdges (t .branches))
+  pub exact : (e : ℕ) → times e (entryEdges (pieces .parts)) + times e (pieces .left) ≡ times e (branchEdges (t .branches))
+  pub weight : totalWeight g (entryEdges (pieces .parts)) + totalWeight g (pieces .left) ≡ totalWeight g (branchEdges (t .branches))
   pub kept : {e : ℕ} → e ∈ branchEdges (t .branches) → ((p : Tree) × (p ∈ pieces .parts) × (e ∈ p .edges)) ⊎ (e ∈ pieces .left)
   pub part-edges : {e : ℕ} {p : Tree} → p ∈ pieces .parts → e ∈ p .edges → e ∈ branchEdges (t .branches)
   pub left-edges : {e : ℕ} → e ∈ pieces .left → e ∈ branchEdges (t .branches)

@@ -18,10 +18,11 @@ use Rattle.theory.specs.Walk.{totalWeight}
 use Rattle.theory.specs.Cover.{Tree, treeWeight}
 use Rattle.theory.specs.Grow.{Branches, branchEdges}
 use Rattle.theory.specs.Split.{reaches, partAt, splitAt}
+use Rattle.theory.specs.CoverBytes.{entryEdges}
 use Rattle.forests.proofs.Thinning.{rise-weight}
 use Rattle.splitting.proofs.Along.{along-edges}
 use Rattle.splitting.proofs.Rules.{Rules, split-holds}
-use Rattle.splitting.proofs.Exact.{partEdges, split-exact}
+use Rattle.splitting.proofs.Exact.{split-exact}
 
 module _ (g : Graph) where
   -- The weight of joined lists, of no edges, and of one more.
@@ -100,5 +101,5 @@ no-parts g v bunch b = empty-list (splitAt g 0 v bunch b .parts) (λ t m. omega 
 
 -- and every edge is left.
 pub all-left : (g : Graph) (v : ℕ) (bunch : List ℕ) (b : Branches) (e : ℕ) → times e (splitAt g 0 v bunch b .left) ≡ times e (bunch ++ branchEdges b)
-unfolding times partEdges flat sumOf
+unfolding times entryEdges flat sumOf
 all-left g v bunch b e = omega (arith, rw (no-parts g v bunch b) at (split-exact g 0 v bunch b e), times-append e bunch (branchEdges b))

@@ -27,11 +27,11 @@ use Rattle.theory.specs.Forest.{forest, labelsAt, unjoined, lowest}
 use Rattle.theory.specs.Grow.{Rooted, grow}
 use Rattle.theory.specs.Split.{Pieces, split, allParts}
 use Rattle.theory.specs.RootedTrial.{unjoinedAt}
+use Rattle.theory.specs.CoverBytes.{entryEdges}
 use Rattle.theory.proofs.Linked.{linked-more}
 use Rattle.forests.proofs.Roots.{Reached, some-head, together-joins}
 use Rattle.forests.proofs.Forest.{forest-light, forest-once, forest-apart, root-label-is-reached}
 use Rattle.splitting.proofs.Along.{child-branch}
-use Rattle.splitting.proofs.Exact.{partEdges}
 use Rattle.splitting.proofs.Deep.{Inside}
 use Rattle.splitting.proofs.Trees.{allChildren, of-all-children, tree-hangs}
 use Rattle.splitting.proofs.Reached.{all-reached}
@@ -62,13 +62,13 @@ piecesFrom g H roots edges = map (split g H) (grow g edges roots)
 -- Splitting leaves nothing out: each number stands in the parts and the leftovers together as often as among the edges, so each edge once,
 -- and each vertex is held.
 pub record SplitWhole (g : Graph) (H : ℕ) (roots edges : List ℕ) : Type 0 where
-  pub exact : (e : ℕ) → times e (partEdges (allParts (piecesFrom g H roots edges))) + times e (allLeft (piecesFrom g H roots edges)) ≡ times e edges
-  pub edge-once : {e : ℕ} → e ∈ edges → times e (partEdges (allParts (piecesFrom g H roots edges))) + times e (allLeft (piecesFrom g H roots edges)) ≡ 1
+  pub exact : (e : ℕ) → times e (entryEdges (allParts (piecesFrom g H roots edges))) + times e (allLeft (piecesFrom g H roots edges)) ≡ times e edges
+  pub edge-once : {e : ℕ} → e ∈ edges → times e (entryEdges (allParts (piecesFrom g H roots edges))) + times e (allLeft (piecesFrom g H roots edges)) ≡ 1
   pub held : (v : ℕ) → v < g .vertices → Held g H roots (grow g edges roots) v
 
 module _ {g : Graph} {roots edges : List ℕ} (f : ForestFrom g roots edges) (H : ℕ) where
   -- The pieces hold each number as often as the edges do,
-  pieces-exact : (e : ℕ) → times e (partEdges (allParts (piecesFrom g H roots edges))) + times e (allLeft (piecesFrom g H roots edges)) ≡ times e edges
+  pieces-exact : (e : ℕ) → times e (entryEdges (allParts (piecesFrom g H roots edges))) + times e (allLeft (piecesFrom g H roots edges)) ≡ times e edges
   pieces-exact e = trees-exact g H (grow g edges roots) e ∙ edges-same g edges roots (f .inside) (f .roots-inside) (f .untied) (f .once) (λ d m. f .reached (oneEnd g d) (f .inside d m .0)) e
 
   -- and every vertex.

@@ -5,7 +5,7 @@ use mathlib.Core.Path.{_≡_, _∙_, refl}
 use native.Mathlib.Omega.{arith}
 use lib.ListN.{length, getD, drop, length-set}
 use lib.Seq.{drop-set-lt}
-use Rattle.lists.proofs.Pigeonhole.{after-store}
+use Rattle.lists.proofs.AfterStore.{after-store}
 use Rattle.matching.proofs.deficient.clear.Statement.{statement}
 use Rattle.matching.proofs.deficient.clear.Tie as tie
 

@@ -6,7 +6,7 @@ use mathlib.Core.List.{List}
 use native.Mathlib.Omega.{arith}
 use lib.ListN.{length, getD, set, length-set}
 use lib.Seq.{drop-set-lt}
-use Rattle.lists.proofs.Pigeonhole.{at-or-not, after-store}
+use Rattle.lists.proofs.AfterStore.{at-or-not, after-store}
 use Rattle.matching.specs.Marks.{Cleared, Marks}
 use Rattle.matching.proofs.deficient.mark.Statement.{statement}
 use Rattle.matching.proofs.deficient.mark.Tie as tie
