@@ -13,14 +13,14 @@ use Rattle.lists.proofs.Runs.{length-below}
 use Rattle.graph.specs.Graph.{Graph, edgeCount}
 use Rattle.graph.specs.Bytes.{graphOf}
 use Rattle.graph.specs.Check as sheet
-use Rattle.theory.specs.Fault.{Fault, faultIf, faultUnless, firstFault, refusedOr}
-use Rattle.theory.specs.Cover.{Crews, heaviest}
-use Rattle.theory.specs.CoverBytes.{coverLength, decode}
-use Rattle.theory.specs.CheckCover.{startsRight, startsBelow, entriesRight, treesRight, verticesCovered, coverFault}
-use Rattle.theory.specs.Reply as reply
-use Rattle.theory.specs.Questions.{numberIn, sheetFault, crewCount, tooManyRoots, crewFault, askCheck}
-use Rattle.theory.proofs.Fields.{Bytes}
-use Rattle.covers.proofs.CheckQuestion.{yes-exactly-covers}
+use Rattle.rules.specs.Fault.{Fault, faultIf, faultUnless, firstFault, refusedOr}
+use Rattle.rules.specs.Cover.{Crews, heaviest}
+use Rattle.rules.specs.CoverBytes.{coverLength, decode}
+use Rattle.rules.specs.CheckCover.{startsRight, startsBelow, entriesRight, treesRight, verticesCovered, coverFault}
+use Rattle.rules.specs.Reply as reply
+use Rattle.rules.specs.Questions.{numberIn, sheetFault, crewCount, tooManyRoots, crewFault, askCheck}
+use Rattle.rules.proofs.Fields.{Bytes}
+use Rattle.cover_laws.proofs.CheckQuestion.{yes-exactly-covers}
 use Rattle.cover.specs.declared.check.Kind.{Kind}
 use Rattle.cover.specs.declared.check.Kind.the-variants.{Rooted, Unrooted}
 use Rattle.cover.specs.declared.check.Verdict.{Verdict}

@@ -8,8 +8,8 @@ use native.Mathlib.Omega.{arith}
 use lib.Dec.{eqb, ltb}
 use borrow.Author.Tests.{lt-ltb, le-ltb, eq-eqb, ne-eqb}
 use Rattle.lists.proofs.AllBelow.{all-below, not-below}
-use Rattle.theory.specs.CoverBytes.{treesIn, entriesIn, entryTree, entryEdge}
-use Rattle.theory.specs.CheckCover.{entryRises, entryRight, entriesRight}
+use Rattle.rules.specs.CoverBytes.{treesIn, entriesIn, entryTree, entryEdge}
+use Rattle.rules.specs.CheckCover.{entryRises, entryRight, entriesRight}
 
 module _ (b : List ℕ) (i : ℕ) where
   pub first-rises : i ≡ 0 → entryRises b i ≡ true

@@ -7,9 +7,9 @@ use native.Mathlib.Omega.{arith}
 use lib.ListN.{length, take, drop, replicate, length-append, length-replicate, take-append-drop, drop-of-length-le}
 use lib.Seq.{slice, length-slice, length-take-le, drop-append-le}
 use Rattle.lists.specs.Lists.{flat}
-use Rattle.theory.specs.Cover.{Tree}
-use Rattle.theory.specs.CoverBytes.{u16Bytes, u16List, entryTrees, entryEdges, encode}
-use Rattle.theory.proofs.Fields.{fields-length}
+use Rattle.rules.specs.Cover.{Tree}
+use Rattle.rules.specs.CoverBytes.{u16Bytes, u16List, entryTrees, entryEdges, encode}
+use Rattle.rules.proofs.Fields.{fields-length}
 use Rattle.cover.specs.Written.{Written, WrittenTo}
 use Rattle.cover.specs.Held.{heldFrom, held, EndsRise, done, next, numbersFrom, Holds, RoomFor}
 use Rattle.cover.proofs.Writing.{written-behind, field-to, written-length}

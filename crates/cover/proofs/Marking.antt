@@ -17,11 +17,11 @@ use Rattle.lists.specs.Member.{_∈_}
 use Rattle.lists.proofs.Below.{equal-or-not, of-below, in-below}
 use Rattle.lists.proofs.Member.{in-filter, of-filter, in-map, of-map}
 use Rattle.graph.specs.Graph.{Graph, oneEnd, otherEnd}
-use Rattle.theory.specs.Cover.{Covers, at-start, at-one-end, at-other-end}
-use Rattle.theory.specs.CoverBytes.{treesIn, entriesIn, startIn, entryTree, entryEdge, treeIn, decode}
-use Rattle.theory.specs.CheckCover.{verticesCovered}
+use Rattle.rules.specs.Cover.{Covers, at-start, at-one-end, at-other-end}
+use Rattle.rules.specs.CoverBytes.{treesIn, entriesIn, startIn, entryTree, entryEdge, treeIn, decode}
+use Rattle.rules.specs.CheckCover.{verticesCovered}
 use Rattle.forest.specs.Marks.{AllMarked}
-use Rattle.covers.proofs.VertexTest.{passed-covered, covered-passes}
+use Rattle.cover_laws.proofs.VertexTest.{passed-covered, covered-passes}
 use Rattle.cover.specs.Vertices.{Marked, Covered, OnlyCovered, StartsMarked, EndsMarked}
 
 -- One mark more.

@@ -7,8 +7,8 @@ use native.Mathlib.Numerals.{add-one}
 use native.Mathlib.Omega.{arith}
 use lib.ListN.{length, drop, getD, replicate, length-append, length-replicate, drop-of-length-le}
 use lib.Seq.{drop-cons}
-use Rattle.theory.specs.CoverBytes.{u16List}
-use Rattle.theory.proofs.Fields.{fields-length, fields-append}
+use Rattle.rules.specs.CoverBytes.{u16List}
+use Rattle.rules.proofs.Fields.{fields-length, fields-append}
 use Rattle.cover.specs.Written.{WrittenTo}
 use Rattle.cover.specs.Held.{EndsRise, done, next, numbersFrom, RoomFor}
 use Rattle.cover.proofs.Writing.{written-behind, written-length, no-fields}

@@ -9,10 +9,10 @@ use native.Mathlib.Omega.{arith}
 use lib.ListN.{length}
 use Rattle.lists.specs.Count as Count
 use Rattle.graph.specs.Graph.{Graph}
-use Rattle.theory.specs.Labels.{Labels, mergeEdge, mergeAll}
-use Rattle.theory.specs.CoverBytes.{entryEdge}
-use Rattle.theory.specs.CheckCover.{loopFree}
-use Rattle.forests.proofs.Merging.{merged-append}
+use Rattle.rules.specs.Labels.{Labels, mergeEdge, mergeAll}
+use Rattle.rules.specs.CoverBytes.{entryEdge}
+use Rattle.rules.specs.CheckCover.{loopFree}
+use Rattle.forest_laws.proofs.Merging.{merged-append}
 use Rattle.forest.specs.Arrays.{Agrees}
 use Rattle.forest.specs.Labelled.{Joined}
 use Rattle.cover.specs.Runs.{runEdges}

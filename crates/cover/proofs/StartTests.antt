@@ -11,9 +11,9 @@ use borrow.Author.Tests.{ltb-true, lt-ltb, le-ltb, le-leb, lt-leb, eq-eqb, ne-eq
 use Rattle.lists.specs.Count.{below}
 use Rattle.lists.proofs.Runs.{length-below, getD-map-below}
 use Rattle.lists.proofs.AllBelow.{all-below, not-below, each-below}
-use Rattle.theory.specs.Cover.{rooted, unrooted}
-use Rattle.theory.specs.CoverBytes.{treesIn, startIn}
-use Rattle.theory.specs.CheckCover.{startsRight, startsBelow}
+use Rattle.rules.specs.Cover.{rooted, unrooted}
+use Rattle.rules.specs.CoverBytes.{treesIn, startIn}
+use Rattle.rules.specs.CheckCover.{startsRight, startsBelow}
 
 module _ (b : List ℕ) where
   module _ (k : ℕ) where

@@ -15,8 +15,8 @@ use Rattle.lists.specs.Member.{_∈_}
 use Rattle.lists.proofs.Below.{of-from, in-below}
 use Rattle.lists.proofs.Every.{first-true, second-true, one-true, all-each}
 use Rattle.lists.proofs.Filters.{filter-none, filter-append}
-use Rattle.theory.specs.CoverBytes.{treesIn, entriesIn, startIn, entryTree, entryEdge, treeIn}
-use Rattle.theory.specs.CheckCover.{entryRises, entryRight, entriesRight}
+use Rattle.rules.specs.CoverBytes.{treesIn, entriesIn, startIn, entryTree, entryEdge, treeIn}
+use Rattle.rules.specs.CheckCover.{entryRises, entryRight, entriesRight}
 use Rattle.cover.specs.Runs.{runEdges, RunOf, BeginsAt}
 
 -- A run of numbers, cut in two.

@@ -16,10 +16,10 @@ use Rattle.graph.specs.Graph.{Graph, oneEnd}
 use Rattle.graph.specs.Bytes.{graphOf}
 use Rattle.graph.specs.Valid.{IsGraph}
 use Rattle.graph.proofs.Ranges.{one-end-below}
-use Rattle.theory.specs.Cover.{Tree}
-use Rattle.theory.specs.CoverBytes.{treesIn, startIn, entryEdge, treeIn, decode}
-use Rattle.theory.specs.Labels.{Labels, joined, apart, together, mergeAll}
-use Rattle.theory.specs.CheckCover.{allJoined, treeRight, treesRight}
+use Rattle.rules.specs.Cover.{Tree}
+use Rattle.rules.specs.CoverBytes.{treesIn, startIn, entryEdge, treeIn, decode}
+use Rattle.rules.specs.Labels.{Labels, joined, apart, together, mergeAll}
+use Rattle.rules.specs.CheckCover.{allJoined, treeRight, treesRight}
 use Rattle.forest.specs.Arrays.{Agrees}
 use Rattle.forest.proofs.Looking.{joined-yes, joined-no}
 use Rattle.cover.specs.Runs.{runEdges}

@@ -8,9 +8,9 @@ use Rattle.lists.specs.Count as Count
 use Rattle.lists.specs.Lists.{sumOf, largest}
 use Rattle.lists.proofs.Sums.{sum-append}
 use Rattle.graph.specs.Graph.{Graph, weightOf}
-use Rattle.theory.specs.Walk.{totalWeight}
-use Rattle.theory.specs.Cover.{Tree, treeWeight, heaviest}
-use Rattle.theory.specs.CoverBytes.{treesIn, startIn, entryEdge, treeIn, decode}
+use Rattle.rules.specs.Walk.{totalWeight}
+use Rattle.rules.specs.Cover.{Tree, treeWeight, heaviest}
+use Rattle.rules.specs.CoverBytes.{treesIn, startIn, entryEdge, treeIn, decode}
 use Rattle.cover.specs.Runs.{runEdges}
 use Rattle.cover.proofs.TreeRuns.{from-split}
 use Rattle.cover.proofs.RunTests.{run-none, run-last}

@@ -8,8 +8,8 @@ use native.Mathlib.Omega.{arith}
 use lib.ListN.{length, take, drop, set, replicate, replicate-append-replicate, length-append, length-drop, take-append-drop}
 use lib.Seq.{length-take-le, take-at, drop-drop, drop-append-add, sets-eq}
 use Rattle.lists.specs.Lists.{flat}
-use Rattle.theory.specs.CoverBytes.{u16Bytes, u16List}
-use Rattle.theory.proofs.Fields.{field-length, fields-length, fields-more}
+use Rattle.rules.specs.CoverBytes.{u16Bytes, u16List}
+use Rattle.rules.proofs.Fields.{field-length, fields-length, fields-more}
 use Rattle.cover.specs.Written.{Written, WrittenTo}
 
 -- A buffer of which nothing was written.

@@ -5,7 +5,7 @@ use mathlib.Core.Path.{_≡_}
 use mathlib.Core.List.{List, [], _∷_, _++_}
 use lib.ListN.{length, replicate}
 use lib.Seq.{slice}
-use Rattle.theory.specs.Cover.{Tree}
+use Rattle.rules.specs.Cover.{Tree}
 
 -- The trees, the first tree's edges beginning at the place.
 unfoldable pub heldFrom : ℕ → List ℕ → List ℕ → List ℕ → List Tree

@@ -9,13 +9,13 @@ use mathlib.Core.Option.{some, none}
 use Rattle.lists.specs.Count.{below}
 use Rattle.graph.specs.Graph.{Graph}
 use Rattle.graph.specs.Check.{numberOf}
-use Rattle.theory.specs.Fault.{Fault, faultUnless, firstFault, refusedOr}
-use Rattle.theory.specs.Cover as cover
-use Rattle.theory.specs.CoverBytes.{decode}
-use Rattle.theory.specs.CheckCover.{treesRight, verticesCovered}
-use Rattle.theory.specs.Reply as reply
-use Rattle.theory.specs.Questions.{crewFault, askCheck}
-use Rattle.theory.specs.Filed.{Filed}
+use Rattle.rules.specs.Fault.{Fault, faultUnless, firstFault, refusedOr}
+use Rattle.rules.specs.Cover as cover
+use Rattle.rules.specs.CoverBytes.{decode}
+use Rattle.rules.specs.CheckCover.{treesRight, verticesCovered}
+use Rattle.rules.specs.Reply as reply
+use Rattle.rules.specs.Questions.{crewFault, askCheck}
+use Rattle.rules.specs.Filed.{Filed}
 use Rattle.cover.specs.declared.check.Kind.{Kind}
 use Rattle.cover.specs.declared.check.Kind.the-variants.{Rooted, Unrooted}
 use Rattle.cover.specs.declared.check.Verdict.{Verdict}

@@ -4,7 +4,7 @@ use Prim.Native.Nat.{ℕ, _-_, _≤_, _<_}
 use mathlib.Core.Path.{_≡_}
 use mathlib.Core.List.{List, map}
 use Rattle.lists.specs.Count as Count
-use Rattle.theory.specs.CoverBytes.{entriesIn, entryTree, entryEdge}
+use Rattle.rules.specs.CoverBytes.{entriesIn, entryTree, entryEdge}
 
 -- The edges of the entries from one place up to another.
 abbrev pub runEdges : List ℕ → ℕ → ℕ → List ℕ

@@ -9,9 +9,9 @@ use Rattle.lists.specs.Lists.{all}
 use Rattle.graph.specs.Graph.{Graph, edgeCount, oneEnd}
 use Rattle.graph.specs.Bytes.{graphOf}
 use Rattle.graph.specs.Valid.{IsGraph}
-use Rattle.theory.specs.Labels.{Labels, joined, mergeAll}
-use Rattle.theory.specs.CoverBytes.{startIn}
-use Rattle.theory.specs.CheckCover.{startsBelow, entriesRight, loopFree}
+use Rattle.rules.specs.Labels.{Labels, joined, mergeAll}
+use Rattle.rules.specs.CoverBytes.{startIn}
+use Rattle.rules.specs.CheckCover.{startsBelow, entriesRight, loopFree}
 use Rattle.forest.specs.Arrays.{Agrees}
 use Rattle.forest.specs.Keeping.{Labelable}
 use Rattle.cover.specs.Runs.{runEdges}

@@ -6,8 +6,8 @@ use mathlib.Core.List.{List}
 use lib.ListN.{getD}
 use Rattle.lists.specs.Member.{_∈_}
 use Rattle.graph.specs.Graph.{Graph, oneEnd, otherEnd}
-use Rattle.theory.specs.Cover.{Tree, Covers}
-use Rattle.theory.specs.CoverBytes.{treesIn, entriesIn, startIn, entryTree, entryEdge, decode}
+use Rattle.rules.specs.Cover.{Tree, Covers}
+use Rattle.rules.specs.CoverBytes.{treesIn, entriesIn, startIn, entryTree, entryEdge, decode}
 
 -- The vertex is marked.
 abbrev pub Marked : List ℕ → ℕ → Type 0

@@ -11,7 +11,7 @@ use graph::Checked;
 ghost use mathlib.Core.Path.{_≡_};
 ghost use Rattle.graph.specs.Bytes.{graphOf};
 ghost use Rattle.graph.specs.Valid.{IsGraph};
-ghost use Rattle.theory.specs.CheckCover.{startsRight, coverFault};
+ghost use Rattle.rules.specs.CheckCover.{startsRight, coverFault};
 ghost use Rattle.cover.specs.Trees.{CoverGiven};
 ghost use Rattle.cover.specs.Promise.{crewsOf, says, answer, treesFault, CrewsTested, CheckPromise};
 

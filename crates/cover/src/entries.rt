@@ -4,7 +4,7 @@ use crate::read::entry_edge;
 use crate::read::entry_tree;
 use crate::read::trees_in;
 ghost use mathlib.Core.Path.{_≡_};
-ghost use Rattle.theory.specs.CheckCover.{entryRises, entryRight, entriesRight};
+ghost use Rattle.rules.specs.CheckCover.{entryRises, entryRight, entriesRight};
 
 // Entry i comes strictly after the entry before it.
 fn entry_rises(c: &[u8], i: usize) -> bool

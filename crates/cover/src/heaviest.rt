@@ -5,9 +5,9 @@ use crate::trees::run_end;
 ghost use mathlib.Core.Path.{_≡_};
 ghost use Prim.Native.Nat.{max};
 ghost use Rattle.graph.specs.Bytes.{graphOf};
-ghost use Rattle.theory.specs.Walk.{totalWeight};
-ghost use Rattle.theory.specs.Cover.{heaviest};
-ghost use Rattle.theory.specs.CoverBytes.{decode};
+ghost use Rattle.rules.specs.Walk.{totalWeight};
+ghost use Rattle.rules.specs.Cover.{heaviest};
+ghost use Rattle.rules.specs.CoverBytes.{decode};
 ghost use Rattle.cover.specs.Runs.{runEdges, InEntries};
 ghost use Rattle.cover.specs.Trees.{CoverGiven};
 

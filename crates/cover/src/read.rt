@@ -1,7 +1,7 @@
 // Readers of a cover's bytes. Every one is total: past the last byte there are zeros.
 ghost use Prim.Native.Nat.{_+_, _*_, _^_, _<_, _≤_};
 ghost use Rattle.graph.specs.Bytes.{Reads, u16At};
-ghost use Rattle.theory.specs.CoverBytes.{treesIn, entriesIn, startIn, entryTree, entryEdge, coverLength};
+ghost use Rattle.rules.specs.CoverBytes.{treesIn, entriesIn, startIn, entryTree, entryEdge, coverLength};
 
 // How many trees the cover has.
 pub fn trees_in(c: &[u8]) -> usize

@@ -3,8 +3,8 @@ use crate::read::start_in;
 use crate::read::trees_in;
 ghost use mathlib.Core.Path.{_≡_};
 ghost use Rattle.lists.specs.Count.{below};
-ghost use Rattle.theory.specs.Cover.{rooted, unrooted};
-ghost use Rattle.theory.specs.CheckCover.{startsRight, startsBelow};
+ghost use Rattle.rules.specs.Cover.{rooted, unrooted};
+ghost use Rattle.rules.specs.CheckCover.{startsRight, startsBelow};
 
 // There are k trees, and tree j starts at its root, which is vertex j.
 pub fn starts_at_roots(c: &[u8], k: usize) -> bool

@@ -2,7 +2,7 @@
 use crate::wide::wide;
 ghost use Prim.Native.Nat.{_+_, _*_, _≤_, _<_};
 ghost use lib.ListN.{length, replicate};
-ghost use Rattle.theory.specs.CoverBytes.{u16Bytes, u16List, encode};
+ghost use Rattle.rules.specs.CoverBytes.{u16Bytes, u16List, encode};
 ghost use Rattle.cover.specs.Held.{held, numbersFrom, Holds, RoomFor};
 ghost use Rattle.cover.specs.Written.{Written, WrittenTo};
 

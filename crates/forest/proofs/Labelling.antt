@@ -11,7 +11,7 @@ use lib.Dec.{eqb}
 use borrow.Author.Count.{below-none, below-more}
 use borrow.Author.Tests.{eq-eqb, ne-eqb}
 use Rattle.lists.specs.Lists.{any, member}
-use Rattle.theory.specs.Labels.{Labels, merge, together}
+use Rattle.rules.specs.Labels.{Labels, merge, together}
 use Rattle.forest.specs.Arrays.{Agrees}
 use Rattle.forest.specs.Labelled.{Started, Merged}
 use Rattle.forest.proofs.Rest.{rest-next, rest-none}

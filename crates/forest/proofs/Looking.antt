@@ -10,8 +10,8 @@ use lib.ListN.{length, getD, set, length-set}
 use borrow.Author.Tests.{eq-eqb, ne-eqb}
 use Rattle.lists.specs.Count.{anyBelow}
 use Rattle.lists.specs.Lists.{filter, firstThat}
-use Rattle.theory.specs.Labels.{Labels, joined}
-use Rattle.theory.specs.Forest.{unjoined, lowest}
+use Rattle.rules.specs.Labels.{Labels, joined}
+use Rattle.rules.specs.Forest.{unjoined, lowest}
 use Rattle.forest.specs.Arrays.{Agrees}
 use Rattle.forest.specs.Lowest.{vertexIn, Unjoined, JoinedBelow, Components}
 use Rattle.forest.specs.declared.lowest.Found.{Found}

@@ -14,7 +14,7 @@ use Rattle.lists.specs.Member.{_∈_}
 use Rattle.lists.proofs.Filters.{filter-none}
 use Rattle.lists.proofs.InOrder.{first-before, rest-in-order}
 use Rattle.graph.specs.Graph.{Graph, weightOf}
-use Rattle.forests.proofs.Lightest.{ByWeight}
+use Rattle.forest_laws.proofs.Lightest.{ByWeight}
 use Rattle.forest.specs.Light.{lightOf, LightFront, LightWritten}
 use Rattle.forest.proofs.Rest.{rest-next, rest-none, filter-taken, filter-passed}
 use Rattle.forest.proofs.Writing.{Writing, writing-none, writing-same, writing-more, writing-all}

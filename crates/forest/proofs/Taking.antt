@@ -10,10 +10,10 @@ use borrow.Author.Tests.{not-true, not-false, eqb-true, eqb-false, eq-eqb, ne-eq
 use Rattle.graph.specs.Graph.{Graph, oneEnd, otherEnd}
 use Rattle.graph.specs.Valid.{Valid}
 use Rattle.graph.proofs.Ranges.{one-end-below, other-end-below}
-use Rattle.theory.specs.Labels.{Labels, joined, endsJoined, mergeEdge, mergeAll}
-use Rattle.theory.specs.Forest.{keep}
-use Rattle.forests.proofs.Merging.{edge-joined}
-use Rattle.forests.proofs.Keeping.{keep-joined, keep-apart}
+use Rattle.rules.specs.Labels.{Labels, joined, endsJoined, mergeEdge, mergeAll}
+use Rattle.rules.specs.Forest.{keep}
+use Rattle.forest_laws.proofs.Merging.{edge-joined}
+use Rattle.forest_laws.proofs.Keeping.{keep-joined, keep-apart}
 use Rattle.forest.specs.Arrays.{Agrees}
 use Rattle.forest.specs.Labelled.{Merged, Joined}
 use Rattle.forest.specs.Keeping.{Kept}

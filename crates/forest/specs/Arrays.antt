@@ -4,7 +4,7 @@ use Prim.Native.Nat.{ℕ, _<_}
 use mathlib.Core.Path.{_≡_}
 use mathlib.Core.List.{List, _++_}
 use lib.ListN.{length, getD, drop}
-use Rattle.theory.specs.Labels.{Labels}
+use Rattle.rules.specs.Labels.{Labels}
 
 -- The array has the label of each vertex below n. Whatever it holds, it has some labels: its own elements.
 abbrev pub Agrees : ℕ → List ℕ → Labels → Type 0

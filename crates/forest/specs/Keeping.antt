@@ -7,8 +7,8 @@ use lib.ListN.{length, drop}
 use Rattle.graph.specs.Graph.{Graph}
 use Rattle.graph.specs.Bytes.{graphOf}
 use Rattle.graph.specs.Valid.{IsGraph}
-use Rattle.theory.specs.Labels.{Labels, mergeAll}
-use Rattle.theory.specs.Forest.{keep}
+use Rattle.rules.specs.Labels.{Labels, mergeAll}
+use Rattle.rules.specs.Forest.{keep}
 use Rattle.forest.specs.Arrays.{Agrees, Wrote}
 
 -- The bytes are a graph's, and the array has a place for each vertex's label.

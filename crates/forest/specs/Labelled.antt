@@ -6,7 +6,7 @@ use mathlib.Core.Bool.{Bool, not}
 use mathlib.Core.List.{List}
 use lib.ListN.{drop}
 use Rattle.graph.specs.Graph.{Graph}
-use Rattle.theory.specs.Labels.{Labels, endsJoined, merge, mergeEdge, together}
+use Rattle.rules.specs.Labels.{Labels, endsJoined, merge, mergeEdge, together}
 use Rattle.forest.specs.Arrays.{Agrees}
 
 -- The labels at the start: the roots ("yards") are joined to each other, and no others.

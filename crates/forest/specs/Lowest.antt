@@ -7,8 +7,8 @@ use mathlib.Core.List.{List, headD}
 use mathlib.Core.Option.{Option, some, none}
 use Rattle.lists.specs.Count.{anyBelow}
 use Rattle.graph.specs.Graph.{Graph}
-use Rattle.theory.specs.Labels.{Labels, joined}
-use Rattle.theory.specs.Forest.{unjoined, lowest}
+use Rattle.rules.specs.Labels.{Labels, joined}
+use Rattle.rules.specs.Forest.{unjoined, lowest}
 use Rattle.forest.specs.Arrays.{Agrees, Wrote}
 use Rattle.forest.specs.declared.lowest.Found.{Found}
 use Rattle.forest.specs.declared.lowest.Found.the-variants.{At, Nothing}

@@ -6,7 +6,7 @@ ghost use Prim.Native.Nat.{_≤_, _<_};
 ghost use lib.ListN.{length};
 ghost use lib.Dec.{eqb};
 ghost use Rattle.lists.specs.Lists.{member};
-ghost use Rattle.theory.specs.Labels.{together};
+ghost use Rattle.rules.specs.Labels.{together};
 ghost use Rattle.forest.specs.Labelled.{Started, Merged};
 
 // Whether v stands in the list.

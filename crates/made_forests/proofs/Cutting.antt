@@ -8,7 +8,7 @@ use lib.ListN.{length, getD, take}
 use lib.Seq.{length-take-le}
 use Rattle.graph.specs.Graph.{Graph}
 use Rattle.graph.specs.Valid.{Valid}
-use Rattle.decompose.specs.Decomposed.{Lent, Decomposed}
+use Rattle.split.specs.Decomposed.{Lent, Decomposed}
 use Rattle.made_forests.specs.Asked.{Cut}
 
 module _ {g : Graph} {H : ℕ} {edges roots : List ℕ} {a z : Lent} {r : ℕ} where

@@ -14,8 +14,8 @@ use Rattle.lists.specs.Member.{_∈_}
 use Rattle.lists.proofs.Member.{of-filter}
 use Rattle.lists.proofs.Below.{of-below}
 use Rattle.graph.specs.Graph.{Graph}
-use Rattle.theory.specs.Labels.{Labels, joined}
-use Rattle.theory.specs.Forest.{lowest}
+use Rattle.rules.specs.Labels.{Labels, joined}
+use Rattle.rules.specs.Forest.{lowest}
 use Rattle.forest.specs.Lowest.{Components}
 use Rattle.forest.proofs.Writing.{wrote-front}
 use Rattle.made_forests.specs.Asked.{Numbered}

@@ -88,7 +88,7 @@ fn print_pieces(b: &[u8], edges: &[u16], roots: &[u16], h: u64)
     let mut flat = [0u16; 256];
     let mut firsts = [0u16; 257];
     let mut left = [0u16; 257];
-    let parts = decompose::split_forest(
+    let parts = split::split_forest(
         b,
         edges,
         roots,

@@ -5,8 +5,8 @@ use native.Mathlib.Omega.{arith}
 use borrow.Author.Tests.{not-true, not-false}
 use Rattle.graph.specs.Check as sheet
 use Rattle.graph.proofs.Exactly.{yes-graph}
-use Rattle.theory.proofs.Fields.{Bytes}
-use Rattle.theory.specs.Questions.{crewFault}
+use Rattle.rules.proofs.Fields.{Bytes}
+use Rattle.rules.specs.Questions.{crewFault}
 use Rattle.cover.specs.declared.check.Verdict.the-variants as verdict
 use Rattle.cover.specs.Promise.{crewsOf}
 use Rattle.cover.proofs.CheckSteps.{sheet-refused, crews-refused, cover-decides, promised}

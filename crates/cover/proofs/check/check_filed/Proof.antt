@@ -5,8 +5,8 @@ use native.Mathlib.Omega.{arith}
 use borrow.Author.Tests.{not-true, not-false}
 use Rattle.graph.specs.Graph.{Graph, edgeCount}
 use Rattle.graph.specs.Bytes.{graphOf}
-use Rattle.theory.specs.Cover.{Crews}
-use Rattle.theory.specs.CheckCover.{startsRight, startsBelow, entriesRight}
+use Rattle.rules.specs.Cover.{Crews}
+use Rattle.rules.specs.CheckCover.{startsRight, startsBelow, entriesRight}
 use Rattle.cover.specs.Promise.{crewsOf}
 use Rattle.cover.proofs.CheckSteps.{short-cover, other-length, other-starts, starts-above, entries-wrong, entries-pass}
 use borrow.Author.Needs.{needs}

@@ -3,9 +3,9 @@ use mathlib.Core.Path.{_≡_, sym, ap, _∙_}
 use mathlib.Core.Bool.{true}
 use borrow.Author.Tests.{not-true, not-false}
 use Rattle.graph.specs.Bytes.{graphOf}
-use Rattle.theory.specs.CoverBytes.{decode}
-use Rattle.theory.specs.CheckCover.{treesRight}
-use Rattle.theory.specs.Reply as reply
+use Rattle.rules.specs.CoverBytes.{decode}
+use Rattle.rules.specs.CheckCover.{treesRight}
+use Rattle.rules.specs.Reply as reply
 use Rattle.cover.proofs.CheckSteps.{trees-wrong, vertex-uncovered, all-pass}
 use borrow.Author.Needs.{needs}
 use Rattle.cover.proofs.check.check_trees.Statement.{statement}

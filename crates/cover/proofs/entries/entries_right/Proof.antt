@@ -6,7 +6,7 @@ use mathlib.Core.Bool.{true}
 use native.Mathlib.Omega.{arith}
 use borrow.Author.Count.{below-none, below-more}
 use borrow.Author.Tests.{not-true, not-false}
-use Rattle.theory.specs.CheckCover.{entryRight}
+use Rattle.rules.specs.CheckCover.{entryRight}
 use Rattle.cover.proofs.EntryTests.{entry-wrong, all-entries}
 use Rattle.cover.proofs.entries.entries_right.Statement.{statement}
 use Rattle.cover.proofs.entries.entries_right.Tie as tie

@@ -5,7 +5,7 @@ use mathlib.Core.Path.{_≡_, ap, _∙_}
 use native.Mathlib.Omega.{arith}
 use Rattle.graph.specs.Graph.{weightOf}
 use Rattle.graph.specs.Bytes.{graphOf}
-use Rattle.theory.specs.Walk.{totalWeight}
+use Rattle.rules.specs.Walk.{totalWeight}
 use Rattle.cover.specs.Runs.{runEdges}
 use Rattle.cover.proofs.Weights.{weight-none, weight-next}
 use Rattle.cover.proofs.heaviest.run_weight.Statement.{statement}

@@ -4,7 +4,7 @@ use Prim.Native.Nat.{ℕ, _-_, _<_}
 use mathlib.Core.Path.{_≡_, sym, _∙_}
 use native.Mathlib.Omega.{arith}
 use borrow.Author.Count.{below-none, below-more}
-use Rattle.theory.specs.CoverBytes.{startIn}
+use Rattle.rules.specs.CoverBytes.{startIn}
 use Rattle.cover.proofs.StartTests.{other-count, other-start, same-starts}
 use Rattle.cover.proofs.starts.starts_at_roots.Statement.{statement}
 use Rattle.cover.proofs.starts.starts_at_roots.Tie as tie

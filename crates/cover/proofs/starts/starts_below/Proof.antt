@@ -4,7 +4,7 @@ use Prim.Native.Nat.{ℕ, _-_, _<_}
 use mathlib.Core.Path.{sym}
 use native.Mathlib.Omega.{arith}
 use borrow.Author.Count.{below-none, below-more}
-use Rattle.theory.specs.CoverBytes.{startIn}
+use Rattle.rules.specs.CoverBytes.{startIn}
 use Rattle.cover.proofs.StartTests.{start-above, all-starts}
 use Rattle.cover.proofs.starts.starts_below.Statement.{statement}
 use Rattle.cover.proofs.starts.starts_below.Tie as tie

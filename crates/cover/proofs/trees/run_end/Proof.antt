@@ -4,7 +4,7 @@ use Prim.Native.Nat.{ℕ, _-_, _≤_, _<_}
 use mathlib.Core.Path.{_≡_, sym, _∙_}
 use native.Mathlib.Omega.{arith}
 use borrow.Author.Count.{below-more}
-use Rattle.theory.specs.CoverBytes.{entryTree}
+use Rattle.rules.specs.CoverBytes.{entryTree}
 use Rattle.cover.proofs.trees.run_end.Statement.{statement}
 use Rattle.cover.proofs.trees.run_end.Tie as tie
 

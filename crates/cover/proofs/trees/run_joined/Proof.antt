@@ -9,7 +9,7 @@ use borrow.Author.Needs.{needs}
 use Rattle.graph.specs.Graph.{oneEnd}
 use Rattle.graph.specs.Bytes.{graphOf}
 use Rattle.graph.proofs.Ranges.{one-end-below}
-use Rattle.theory.specs.CoverBytes.{entryEdge}
+use Rattle.rules.specs.CoverBytes.{entryEdge}
 use Rattle.cover.proofs.TreeTests.{run-apart, run-together}
 use Rattle.cover.proofs.trees.run_joined.Statement.{statement}
 use Rattle.cover.proofs.trees.run_joined.Tie as tie

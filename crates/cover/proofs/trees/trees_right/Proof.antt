@@ -9,9 +9,9 @@ use borrow.Author.Count.{below-none, below-more}
 use borrow.Author.Tests.{not-true, not-false}
 use Rattle.graph.specs.Graph.{Graph, edgeCount}
 use Rattle.graph.specs.Bytes.{graphOf}
-use Rattle.theory.specs.Cover.{Tree}
-use Rattle.theory.specs.CoverBytes.{treeIn}
-use Rattle.theory.specs.CheckCover.{treeRight}
+use Rattle.rules.specs.Cover.{Tree}
+use Rattle.rules.specs.CoverBytes.{treeIn}
+use Rattle.rules.specs.CheckCover.{treeRight}
 use Rattle.cover.specs.Runs.{BeginsAt}
 use Rattle.cover.proofs.StartTests.{start-passed}
 use Rattle.cover.proofs.TreeRuns.{begins-first, begins-next, tree-is-run}

@@ -8,7 +8,7 @@ use lib.Seq.{lt-length-set}
 use Rattle.graph.specs.Graph.{Graph, oneEnd, otherEnd}
 use Rattle.graph.specs.Bytes.{graphOf}
 use Rattle.graph.proofs.Ranges.{one-end-below, other-end-below}
-use Rattle.theory.specs.CoverBytes.{entryEdge}
+use Rattle.rules.specs.CoverBytes.{entryEdge}
 use Rattle.cover.proofs.Marking.{EndsSoFar, ends-none, ends-read, ends-all}
 use Rattle.cover.proofs.vertices.mark_ends.Statement.{statement}
 use Rattle.cover.proofs.vertices.mark_ends.Tie as tie

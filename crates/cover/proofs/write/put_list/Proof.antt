@@ -8,7 +8,7 @@ use native.Mathlib.Omega.{arith}
 use lib.ListN.{length, take, getD}
 use lib.Seq.{take-suc, take-length, length-take-le}
 use borrow.Author.Needs.{needs}
-use Rattle.theory.specs.CoverBytes.{u16List}
+use Rattle.rules.specs.CoverBytes.{u16List}
 use Rattle.cover.specs.Written.{WrittenTo}
 use Rattle.cover.proofs.Writing.{written-length, field-behind, room-left, no-fields}
 use Rattle.cover.proofs.write.put_list.Statement.{statement}

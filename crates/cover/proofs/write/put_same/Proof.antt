@@ -4,7 +4,7 @@ use Prim.Native.Nat.{_+_, _-_, _≤_}
 use mathlib.Core.Path.{_≡_}
 use native.Mathlib.Omega.{arith}
 use lib.ListN.{length, replicate, length-replicate}
-use Rattle.theory.specs.CoverBytes.{u16List}
+use Rattle.rules.specs.CoverBytes.{u16List}
 use Rattle.cover.specs.Written.{WrittenTo}
 use Rattle.cover.proofs.Writing.{written-length, field-behind, room-left, no-fields, replicate-more}
 use Rattle.cover.proofs.write.put_same.Statement.{statement}

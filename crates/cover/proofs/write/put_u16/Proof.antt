@@ -3,7 +3,7 @@
 use Prim.Native.Nat.{_/_, _%_}
 use native.Mathlib.Omega.{arith}
 use lib.ListN.{length-set}
-use Rattle.theory.specs.CoverBytes.{u16Bytes}
+use Rattle.rules.specs.CoverBytes.{u16Bytes}
 use Rattle.cover.proofs.Writing.{written-two}
 use borrow.Author.Needs.{needs}
 use Rattle.cover.proofs.write.put_u16.Statement.{statement}

@@ -8,7 +8,7 @@ use lib.Seq.{length-take-le}
 use borrow.Author.Needs.{needs}
 use Rattle.graph.specs.Bytes.{graphOf}
 use Rattle.forest.proofs.Writing.{wrote-front}
-use Rattle.forests.proofs.Ordering.{ordered-by-weight}
+use Rattle.forest_laws.proofs.Ordering.{ordered-by-weight}
 use Rattle.made_forests.proofs.pieces.order_light.Statement.{statement}
 use Rattle.made_forests.proofs.pieces.order_light.Tie as tie
 

@@ -1,0 +1,128 @@
+-- The starred rows of document 01's "Small districts", computed from the definitions.
+-- Assumes nothing.
+use Prim.Native.Nat.{ℕ}
+use mathlib.Core.Path.{_≡_, refl}
+use mathlib.Core.List.{List, [], _∷_, map, headD}
+use Rattle.rules.specs.Cover.{Tree, Crews, rooted, unrooted}
+use Rattle.rules.specs.RootedTrial.{Choices}
+use Rattle.rules.specs.Reply.{Reply, covered, too-low-stop, too-low-parts, too-low-needs, no-cover, Verdict, yes, number}
+use Rattle.rules.specs.Questions.{askTrial, askBest, askCheck}
+use Rattle.lists.specs.Count as Count
+use Rattle.lists.specs.Lists as Lists
+use Rattle.lists.specs.Sort as Sort
+use Rattle.graph.specs.Bytes as Bytes
+use Rattle.graph.specs.Check as Check
+use Rattle.matching.specs.Assignable as Assignable
+use Rattle.rules.specs.Walk as Walk
+use Rattle.rules.specs.Cover as Cover
+use Rattle.rules.specs.CoverBytes as CoverBytes
+use Rattle.rules.specs.Order as Order
+use Rattle.rules.specs.Labels as Labels
+use Rattle.rules.specs.Forest as Forest
+use Rattle.rules.specs.Grow as Grow
+use Rattle.rules.specs.Split as Split
+use Rattle.rules.specs.Distance as Distance
+use Rattle.rules.specs.RootedTrial as RootedTrial
+use Rattle.rules.specs.UnrootedTrial as UnrootedTrial
+use Rattle.rules.specs.Search as Search
+use Rattle.rules.specs.Fault as Fault
+use Rattle.rules.specs.CheckCover as CheckCover
+use Rattle.rules.specs.Questions as Questions
+
+-- "Sheet N: n = 4; line 0 joins 0-2 weight 3, line 1 joins 2-3 weight 3, line 2 joins 1-3 weight 5."
+unfoldable pub N : List ℕ
+N = 4 ∷ 0 ∷ 3 ∷ 0 ∷ 0 ∷ 0 ∷ 2 ∷ 0 ∷ 2 ∷ 0 ∷ 3 ∷ 0 ∷ 1 ∷ 0 ∷ 3 ∷ 0 ∷ 3 ∷ 0 ∷ 0 ∷ 0 ∷ 3 ∷ 0 ∷ 0 ∷ 0 ∷ 5 ∷ 0 ∷ 0 ∷ 0 ∷ []
+
+-- n vertices and no edge.
+unfoldable pub bare : ℕ → List ℕ
+bare n = n ∷ 0 ∷ 0 ∷ 0 ∷ []
+
+-- The crews of a question: k roots, the vertices below k; or k without roots.
+unfoldable pub roots : ℕ → Crews
+roots k = rooted (Count.below k)
+
+-- A tree by its start and its edges.
+unfoldable pub tree : ℕ → List ℕ → Tree
+tree v es = record { start = v; edges = es }
+
+-- The choices: none to make; the parts' roots, with paths of no edge; a set of parts.
+unfoldable pub nothing : Choices
+nothing = record { assignment = []; paths = []; marks = [] }
+
+unfoldable pub assigned : List ℕ → Choices
+assigned rs = record { assignment = rs; paths = []; marks = [] }
+
+unfoldable pub set : List ℕ → Choices
+set ms = record { assignment = []; paths = []; marks = ms }
+
+-- A question with the free choices made, and an answer.
+pub data Question : Type 0 where
+  trial : (sheet : List ℕ) (crews : Crews) (limit : ℕ) → Choices → Question
+  best : (sheet : List ℕ) (crews : Crews) → Choices → Question
+  check : (sheet : List ℕ) (crews : Crews) (cover : List ℕ) → Question
+
+pub data Answer : Type 0 where
+  reply : Reply → Answer
+  verdict : Verdict → Answer
+
+-- What the definitions answer, with a buffer that is just long enough. To unfold it is to unfold them all.
+unfoldable pub answer : Question → Answer
+unfolding headD
+    Count.count Count.anyBelow Count.from Count.below
+    Lists.filter Lists.any Lists.all Lists.firstThat Lists.flat Lists.sumOf Lists.largest Lists.member Lists.without
+    Sort.insertBy Sort.sortBy Sort.rise
+    Bytes.u16At Bytes.u32At Bytes.edgeIn Bytes.edgesHeld Bytes.graphOf Check.checkEdge Check.checkEdges Check.checkOf
+    Assignable.assignable
+    Walk.totalWeight Cover.treeWeight Cover.heaviest
+    CoverBytes.treeIn CoverBytes.decode
+    Order.comesBefore Order.ordered Order.light
+    Labels.joined Labels.endsJoined Labels.apart Labels.together Labels.merge Labels.mergeEdge Labels.mergeAll
+    Forest.keep Forest.forest Forest.labelsAt Forest.unjoined Forest.lowest
+    Grow.branchEdges Grow.farEnd Grow.leadsOn Grow.growChildren Grow.growNode Grow.growFrom Grow.grow
+    Split.reaches Split.partAt Split.smallestEdge Split.settle Split.splitAt Split.split Split.allParts
+    Distance.nearer Distance.further Distance.relaxed Distance.distancesIn Distance.distances Distance.isWithin Distance.treeVertices Distance.reachesPart
+    RootedTrial.unjoinedAt RootedTrial.rootedPieces RootedTrial.rootedParts RootedTrial.partOf RootedTrial.mayGo RootedTrial.isAssignable RootedTrial.unionTree RootedTrial.assignedEdges RootedTrial.leftAt RootedTrial.rootedCover RootedTrial.chosenParts RootedTrial.stopOr RootedTrial.rootedTrial
+    UnrootedTrial.components UnrootedTrial.needs UnrootedTrial.needed UnrootedTrial.leftovers UnrootedTrial.fromLowest UnrootedTrial.componentTrees UnrootedTrial.startsBefore UnrootedTrial.unrootedTrees UnrootedTrial.unrootedTrial
+    Search.nobody Search.accepts Search.trial Search.noCover Search.narrowed Search.searched Search.bestLimit Search.best
+    Fault.faultIf Fault.faultUnless Fault.firstFault Fault.refusedOr
+    CheckCover.startsRight CheckCover.startsBelow CheckCover.entryRises CheckCover.entryRight CheckCover.entriesRight CheckCover.loopFree CheckCover.allJoined CheckCover.treesRight CheckCover.verticesCovered CheckCover.coverFault
+    Questions.numberIn Questions.sheetFault Questions.crewCount Questions.tooManyRoots Questions.crewFault Questions.limitFault Questions.roomFault Questions.askTrial Questions.askBest Questions.askCheck
+answer (trial sheet crews limit c) = reply (askTrial sheet crews limit 32708 c)
+answer (best sheet crews c) = reply (askBest sheet crews 32708 c)
+answer (check sheet crews cover) = verdict (askCheck sheet crews cover)
+
+pub record Row : Type 0 where
+  pub asked : Question
+  pub expected : Answer
+
+unfoldable pub row : Question → Answer → Row
+row q a = record { asked = q; expected = a }
+
+-- The rows, in document 01's order.
+unfoldable pub rows : List Row
+rows =
+    row (trial N (roots 2) 0 nothing) (reply (too-low-stop 2))
+    ∷ row (trial N (roots 2) 2 nothing) (reply (too-low-stop 2))
+    ∷ row (trial N (roots 2) 3 (set (1 ∷ 1 ∷ []))) (reply (too-low-parts 2 1 (tree 0 (0 ∷ []) ∷ tree 2 (1 ∷ []) ∷ [])))
+    ∷ row (trial N (roots 2) 4 (assigned (0 ∷ []))) (reply (covered 4 6 (tree 0 (0 ∷ 1 ∷ []) ∷ tree 1 [] ∷ [])))
+    ∷ row (trial N (roots 2) 7 nothing) (reply (covered 7 6 (tree 0 (0 ∷ 1 ∷ []) ∷ tree 1 [] ∷ [])))
+    ∷ row (best N (roots 2) (assigned (0 ∷ []))) (reply (covered 4 6 (tree 0 (0 ∷ 1 ∷ []) ∷ tree 1 [] ∷ [])))
+    ∷ row (trial N (unrooted 2) 3 nothing) (reply (too-low-needs 3))
+    ∷ row (trial N (unrooted 3) 3 nothing) (reply (covered 3 6 (tree 0 (0 ∷ 1 ∷ []) ∷ tree 1 [] ∷ [])))
+    ∷ row (trial N (unrooted 1) 5 nothing) (reply (too-low-needs 2))
+    ∷ row (best N (unrooted 1) nothing) (reply (covered 6 11 (tree 0 (0 ∷ 1 ∷ 2 ∷ []) ∷ [])))
+    ∷ row (trial N (unrooted 3) 0 nothing) (reply (too-low-needs 4))
+    ∷ row (trial N (unrooted 4) 0 nothing) (reply (covered 0 0 (tree 0 [] ∷ tree 1 [] ∷ tree 2 [] ∷ tree 3 [] ∷ [])))
+    ∷ row (trial (bare 1) (roots 1) 0 nothing) (reply (covered 0 0 (tree 0 [] ∷ [])))
+    ∷ row (trial (bare 1) (unrooted 1) 0 nothing) (reply (covered 0 0 (tree 0 [] ∷ [])))
+    ∷ row (best (bare 2) (roots 1) nothing) (reply no-cover)
+    ∷ row (best (bare 2) (unrooted 1) nothing) (reply no-cover)
+    -- entries (tree, edge): (0,0)(0,1), then (0,0)(1,1)
+    ∷ row (check N (roots 2) (2 ∷ 0 ∷ 2 ∷ 0 ∷ 0 ∷ 0 ∷ 1 ∷ 0 ∷ 0 ∷ 0 ∷ 0 ∷ 0 ∷ 0 ∷ 0 ∷ 1 ∷ 0 ∷ [])) (verdict (yes 6))
+    ∷ row (check N (roots 2) (2 ∷ 0 ∷ 2 ∷ 0 ∷ 0 ∷ 0 ∷ 1 ∷ 0 ∷ 0 ∷ 0 ∷ 1 ∷ 0 ∷ 0 ∷ 0 ∷ 1 ∷ 0 ∷ [])) (verdict (number 34))
+    ∷ []
+
+-- Every row's question has the answer that document 01 gives.
+pub starred-rows : map (λ (r : Row). answer (r .asked)) rows ≡ map (λ (r : Row). r .expected) rows
+unfolding N bare roots tree nothing assigned set answer row rows
+starred-rows = refl
