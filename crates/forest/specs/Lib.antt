@@ -13,3 +13,5 @@ pub mod Light
 pub mod Order
 -- vertices marked
 pub mod Marks
+-- the edges around each vertex
+pub mod Around

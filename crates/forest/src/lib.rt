@@ -2,6 +2,7 @@
 // vertices ("stops") are joined, and the edges that are kept.
 // Index arrays are lent by the caller as slices of u16; the graph is read from its bytes.
 // The words of the contracts stand in specs/ and in the definitions of the crate `rules`.
+pub mod arc;
 mod index;
 pub mod keep;
 pub mod labels;

@@ -43,3 +43,7 @@ pub mod AnyBelow
 pub mod Numbered
 -- segments of a list, and runs of stores
 pub mod Stores
+-- a list put into an array, element by element and list behind list
+pub mod Put
+-- several lists in one array: one more bound adds one more list
+pub mod Segments

@@ -7,3 +7,7 @@ pub mod Lists
 pub mod Member
 -- sorting
 pub mod Sort
+-- a list put into an array, with everything else as it came
+pub mod Put
+-- several lists in one array, cut by bounds
+pub mod Segments

@@ -6,7 +6,7 @@ use mathlib.Core.List.{List}
 use lib.ListN.{length, getD}
 use Rattle.graph.specs.Bytes.{graphOf}
 use Rattle.graph.specs.Valid.{IsGraph}
-use Rattle.split.specs.Segments.{Bounded}
+use Rattle.lists.specs.Segments.{Bounded}
 
 -- The bytes of a graph of n vertices, and a limit that four bytes hold.
 pub record Asked (b : List ℕ) (n limit : ℕ) : Type 0 where

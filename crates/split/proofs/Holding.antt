@@ -15,7 +15,7 @@ use Rattle.rules.specs.Cover.{Tree}
 use Rattle.rules.specs.Split.{partAt}
 use Rattle.split.specs.Store.{Part, partIn, partsIn, asTree, Store, treesIn, Sound, Added}
 use Rattle.split.specs.PutPart.{withPart}
-use Rattle.split.proofs.Bounds.{segment-kept, segment-new, bounded-more}
+use Rattle.lists.proofs.Segments.{segment-kept, segment-new, bounded-more}
 
 -- Nothing is added.
 pub added-none : {n : ℕ} {s : Store} → Sound n s → Added n [] s s

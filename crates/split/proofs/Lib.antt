@@ -1,6 +1,4 @@
 -- Laws that belong to no one function, in reading order.
--- segments by bounds, one more at a time
-pub mod Bounds
 -- parts held, one more at a time
 pub mod Holding
 -- weights of lists of edges

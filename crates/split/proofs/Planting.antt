@@ -17,12 +17,12 @@ use Rattle.lists.proofs.Runs.{length-map-below}
 use Rattle.rules.specs.Cover.{Tree}
 use Rattle.rules.specs.Grow.{Rooted, growNode, growFrom, grow}
 use Rattle.rules.specs.Split.{Pieces, splitAt, split, allParts}
-use Rattle.split.specs.Segments.{segments, Bounded}
+use Rattle.lists.specs.Segments.{segments, Bounded}
 use Rattle.split.specs.Store.{partIn, partsIn, asTree, Store, treesIn, Added}
 use Rattle.split.specs.Grows.{unmarked, unvisited}
 use Rattle.split.specs.Walked.{State, passing, Ready, piecesAt, Walked}
 use Rattle.split.specs.Decomposed.{Lent, lent, Room, NoMarks, Decomposed}
-use Rattle.split.proofs.Bounds.{segments-more, bounded-more, bounded-last}
+use Rattle.lists.proofs.Segments.{segments-more, bounded-more, bounded-last}
 use Rattle.split.proofs.Holding.{added-none, added-on}
 use Rattle.split.proofs.Marks.{unvisited-below, unvisited-fewer, unvisited-most}
 use Rattle.split.proofs.Going.{SameLengths, lengths-on}

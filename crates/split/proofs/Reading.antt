@@ -11,7 +11,7 @@ use Rattle.lists.proofs.Runs.{length-map-below, getD-map-below}
 use Rattle.rules.specs.Cover.{Tree}
 use Rattle.rules.specs.Split.{Pieces, allParts}
 use Rattle.rules.specs.RootedTrial.{partOf, leftAt}
-use Rattle.split.specs.Segments.{segment, segments}
+use Rattle.lists.specs.Segments.{segment, segments}
 use Rattle.split.specs.Store.{partIn, partsIn, asTree}
 use Rattle.split.specs.Decomposed.{Lent, piecesOf, heldIn, Decomposed}
 

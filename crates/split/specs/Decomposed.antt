@@ -8,7 +8,7 @@ use Rattle.graph.specs.Graph.{Graph}
 use Rattle.rules.specs.Cover.{Tree}
 use Rattle.rules.specs.Grow.{grow}
 use Rattle.rules.specs.Split.{Pieces, split, allParts}
-use Rattle.split.specs.Segments.{segments, Bounded}
+use Rattle.lists.specs.Segments.{segments, Bounded}
 use Rattle.split.specs.Store.{partsIn, asTree}
 
 -- The arrays that are lent: the stack; the starts, the bounds and the edges of the parts; the bounds of each root's parts,

@@ -1,6 +1,4 @@
 -- What the contracts of this crate cite, in reading order.
--- segments of one array, by an array of bounds
-pub mod Segments
 -- the parts that arrays hold
 pub mod Store
 -- one part more

@@ -7,7 +7,7 @@ use lib.ListN.{length, getD}
 use Rattle.lists.specs.Count.{below}
 use Rattle.rules.specs.Cover.{Tree}
 use Rattle.rules.specs.Split.{partAt}
-use Rattle.split.specs.Segments.{segment, Bounded}
+use Rattle.lists.specs.Segments.{segment, Bounded}
 use Rattle.split.specs.declared.Progress.{Progress}
 
 -- A "part" as it is held: the vertex where it was split off, and its edges in the order in which they came.

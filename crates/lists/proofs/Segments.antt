@@ -8,9 +8,9 @@ use native.Mathlib.Decide.{ℕ-discrete}
 use native.Mathlib.Omega.{arith}
 use lib.ListN.{length, take, getD, set}
 use lib.Seq.{slice, getD-set-same, getD-set-other}
 use Rattle.lists.proofs.Numbered.{map-below-more}
 use Rattle.lists.proofs.Stores.{slice-same}
-use Rattle.split.specs.Segments.{segment, segments, Bounded}
+use Rattle.lists.specs.Segments.{segment, segments, Bounded}
 
 module _ {bounds : List ℕ} {k used : ℕ} (b : Bounded bounds k used) (last : ℕ) where
   -- the bound of a number that was there is as it was
