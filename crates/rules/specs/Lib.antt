@@ -6,6 +6,8 @@ pub mod Walk
 pub mod Cover
 -- the bytes of a cover
 pub mod CoverBytes
+-- trees as arrays hold them
+pub mod Held
 -- "A trial at limit B":
 -- steps 1 and 2: the order of the edges
 pub mod Order
