@@ -17,6 +17,8 @@ pub mod Replacing
 pub mod Loops
 -- the kept edges are fewer than the vertices
 pub mod FewEdges
+-- the kept edges are fewer than the starts to which their ends are joined
+pub mod FewKept
 -- all edges by weight, then number
 pub mod Ordering
 -- the edges within a limit, and which kept edges are among them

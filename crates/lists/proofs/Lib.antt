@@ -47,3 +47,15 @@ pub mod Stores
 pub mod Put
 -- several lists in one array: one more bound adds one more list
 pub mod Segments
+-- values against a bound, their largest and their sum
+pub mod Bounds
+-- sums and lengths compared value by value
+pub mod SumsAlike
+-- elements that each pass at most one of several tests
+pub mod Shares
+-- elements with different images
+pub mod Images
+-- the least of a list is one of it
+pub mod LeastOf
+-- tests that say the same
+pub mod SameTests
