@@ -3,6 +3,8 @@
 pub mod Member
 -- lists in which each element stands in a relation to all that follow: sorted, rising, without repeats
 pub mod InOrder
+-- in order by a relation that follows for elements of the list
+pub mod InOrderWithin
 -- sums over appended, filtered and contained lists
 pub mod Sums
 -- filters of a list that no element passes, of two lists, of a mapped list

@@ -4,3 +4,8 @@
 pub mod ComponentEdges
 -- what the components need, from the labels and the forest
 pub mod ComponentNeeds
+-- Unrooted, too low:
+-- a cover within the limit has in each component as many trees as it needs
+pub mod ComponentShare
+-- where the components need more than k trees, every cover by k has a tree above the limit
+pub mod UnrootedTooLow
