@@ -9,3 +9,12 @@ pub mod ComponentNeeds
 pub mod ComponentShare
 -- where the components need more than k trees, every cover by k has a tree above the limit
 pub mod UnrootedTooLow
+-- Unrooted, accepted:
+-- the trees of a component, and that they hold its edges
+pub mod ComponentTrees
+-- how many trees and edges the answer has
+pub mod UnrootedNumber
+-- a tree may start at its lowest vertex
+pub mod UnrootedStart
+-- the answer's trees are trees, of at most 4 B - 2
+pub mod UnrootedTrees
