@@ -3,7 +3,7 @@
 -- Assumes nothing.
 use Prim.Native.Nat.{ℕ, _≤_, _<_}
 use mathlib.Core.Path.{_≡_, refl, sym, ap, _∙_}
-use mathlib.Core.List.{List, _∷_, List·Memᴰ·head, List·Memᴰ·tail}
+use mathlib.Core.List.{List, List·Memᴰ·head, List·Memᴰ·tail}
 use mathlib.Core.Logic.{_⊎_, inl, inr}
 use native.Mathlib.Omega.{arith}
 use lib.ListN.{length}
@@ -14,7 +14,7 @@ use Rattle.lists.proofs.Below.{equal-or-not}
 use Rattle.graph.specs.Graph.{Graph, oneEnd, otherEnd}
 use Rattle.rules.specs.Labels.{Labels, mergeEdge}
 use Rattle.rules.specs.Forest.{keep}
-use Rattle.forest_laws.proofs.Merging.{JoinsEnds, edge-coarser, edge-joins}
+use Rattle.forest_laws.proofs.Merging.{edge-coarser, edge-joins}
 use Rattle.forest_laws.proofs.Keeping.{Kept, nothing, skipped, taken, kept}
 
 -- the labels join v to one of the starts
@@ -46,7 +46,7 @@ few {g} (taken {P = P} {e = e} {E = E} {K = K} p k) starts some each =
     let other : b ≡ a → ⊥ = λ d. p (sym q ∙ ap P (sym d) ∙ r) in
     let rest : 1 ≤ length (removed m) = omega (arith, length-removed (in-removed m n other)) in
     let ih : length K < length (removed m) =
-        few k (removed m) rest (λ f i. let (x, y) = each f (List·Memᴰ·tail i) in (without-one g P e q m r n other x, without-one g P e q m r n other y)) in
+    few k (removed m) rest (λ f i. let (x, y) = each f (List·Memᴰ·tail i) in (without-one g P e q m r n other x, without-one g P e q m r n other y)) in
     omega (arith, length-removed m)
 
 -- fewer edges are kept than there are starts

@@ -1,8 +1,8 @@
 -- Values against a bound: the largest value is above b exactly where one value is, a value is at most the sum, and values that are all at
 -- most b, or all at least b, sum to at most, or at least, b for each element.
 -- Assumes nothing.
-use Prim.Native.Nat.{ℕ, _+_, _*_, _≤_}
-use mathlib.Core.Path.{_≡_, refl, ap}
+use Prim.Native.Nat.{ℕ, _*_, _≤_}
+use mathlib.Core.Path.{refl, ap}
 use mathlib.Core.List.{List, [], _∷_, List·Memᴰ·head, List·Memᴰ·tail}
 use native.Mathlib.Omega.{arith}
 use native.Mathlib.Nat.{suc-mul}

@@ -1,7 +1,7 @@
 -- Elements with different images: where no image stands twice in a mapped list, elements with one image are one.
 -- Assumes nothing.
 use mathlib.Core.Path.{_≡_, sym, ap, _∙_}
-use mathlib.Core.List.{List, [], _∷_, map, List·Memᴰ·head, List·Memᴰ·tail}
+use mathlib.Core.List.{List, _∷_, map, List·Memᴰ·head, List·Memᴰ·tail}
 use Rattle.lists.specs.Member.{_∈_}
 use Rattle.lists.proofs.Member.{in-map}
 use Rattle.lists.proofs.InOrder.{Once, first-before, rest-in-order}

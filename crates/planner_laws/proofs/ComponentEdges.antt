@@ -2,13 +2,13 @@
 -- so it has the root's label; an edge of the forest stands in some tree, and trees whose roots have one label are one tree.
 -- Assumes nothing.
 use Prim.Native.Nat.{ℕ, zero, suc, _≤_}
-use mathlib.Core.Path.{_≡_, refl, sym, ap, _∙_, subst}
+use mathlib.Core.Path.{_≡_, refl, sym, _∙_, subst}
 use mathlib.Core.Bool.{cond}
 use mathlib.Core.List.{List, map}
 use native.Mathlib.Omega.{arith}
 use lib.Dec.{eqb}
 use borrow.Author.Tests.{eqb-true, eq-eqb}
-use Rattle.lists.specs.Lists.{filter, flat, sumOf}
+use Rattle.lists.specs.Lists.{filter, sumOf}
 use Rattle.lists.specs.Member.{_∈_}
 use Rattle.lists.specs.Sort.{rise}
 use Rattle.lists.proofs.Member.{in-filter, of-filter}
@@ -23,7 +23,7 @@ use Rattle.graph.specs.Graph.{Graph, oneEnd, weightOf}
 use Rattle.rules.specs.Walk.{totalWeight}
 use Rattle.rules.specs.Labels.{apart, joined}
 use Rattle.rules.specs.Forest.{forest, labelsAt, lowest}
-use Rattle.rules.specs.Grow.{Rooted, branchEdges, grow}
+use Rattle.rules.specs.Grow.{Rooted, branchEdges}
 use Rattle.rules.specs.UnrootedTrial.{components}
 use Rattle.rules.proofs.Linked.{linked-more}
 use Rattle.forest_laws.proofs.Forest.{forest-once, labels-are-linked}

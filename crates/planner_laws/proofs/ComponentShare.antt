@@ -3,21 +3,21 @@
 -- and the kept ones together could replace the component's forest edges, which therefore weigh at most K B + (K - 1) B.
 -- Assumes nothing.
 use Prim.Native.Nat.{ℕ, zero, suc, _+_, _*_, _/_, _≤_, _<_}
-use mathlib.Core.Path.{_≡_, refl, sym, ap, _∙_}
+use mathlib.Core.Path.{refl, sym, _∙_}
 use mathlib.Core.Bool.{not}
 use mathlib.Core.List.{List, _++_, map, Memᴰ·append-right, List·Memᴰ·append-cases}
 use mathlib.Core.Logic.{_⊎_, inl, inr}
 use native.Mathlib.Omega.{arith}
 use native.Mathlib.Nat.{suc-mul, mul-left-comm, mul-le-mul-right, div-lt-iff-lt-mul, div-zero}
 use lib.ListN.{length, length-map}
-use borrow.Author.Tests.{eq-eqb, eqb-true}
-use Rattle.lists.specs.Lists.{filter, sumOf}
+use borrow.Author.Tests.{eq-eqb}
+use Rattle.lists.specs.Lists.{filter}
 use Rattle.lists.specs.Member.{_∈_}
 use Rattle.lists.proofs.Member.{in-filter, of-filter, in-map}
 use Rattle.lists.proofs.Bounds.{sum-each, sum-most}
 use Rattle.lists.proofs.SumsAlike.{sum-flat-map, length-removed}
 use Rattle.graph.specs.Graph.{Graph, edgeCount, oneEnd, otherEnd, weightOf}
-use Rattle.rules.specs.Walk.{Linked, totalWeight}
+use Rattle.rules.specs.Walk.{totalWeight}
 use Rattle.rules.specs.Cover.{Tree, Covers, treeWeight, AllCovered}
 use Rattle.rules.specs.Labels.{Labels, apart, joined, mergeAll}
 use Rattle.rules.specs.Order.{light}

@@ -1,9 +1,9 @@
 -- The trees of a component: each is a part or what is left at the root, started anew at its lowest vertex; together they hold the edges of the
 -- component's tree, each as often as it stands there. A leftover is dropped only where it has no edges and there are parts.
 -- Assumes nothing.
-use Prim.Native.Nat.{ℕ, _+_, _*_}
-use mathlib.Core.Path.{_≡_, refl, sym, ap, _∙_}
-use mathlib.Core.List.{List, [], _∷_, _++_, map, List·Memᴰ·head, List·Memᴰ·not-nil, List·Memᴰ·eq-of-singleton, Memᴰ·append-left, Memᴰ·append-right, List·Memᴰ·append-cases}
+use Prim.Native.Nat.{ℕ, _*_}
+use mathlib.Core.Path.{_≡_, refl}
+use mathlib.Core.List.{List, [], _∷_, _++_, List·Memᴰ·head, List·Memᴰ·not-nil, List·Memᴰ·eq-of-singleton, Memᴰ·append-left, Memᴰ·append-right, List·Memᴰ·append-cases}
 use mathlib.Core.Logic.{_⊎_, inl, inr}
 use native.Mathlib.Omega.{arith}
 use Rattle.lists.specs.Lists.{sumOf}
@@ -11,7 +11,7 @@ use Rattle.lists.specs.Member.{_∈_}
 use Rattle.lists.specs.Sort.{rise}
 use Rattle.lists.proofs.Member.{in-map, of-map}
 use Rattle.lists.proofs.Sums.{sum-append}
-use Rattle.lists.proofs.SumsAlike.{sum-same, sum-of-map, sum-flat-map}
+use Rattle.lists.proofs.SumsAlike.{sum-of-map, sum-flat-map}
 use Rattle.lists.proofs.Sorting.{sum-rise}
 use Rattle.graph.specs.Graph.{Graph}
 use Rattle.rules.specs.Cover.{Tree}
@@ -54,6 +54,10 @@ componentParts g limit t = split g (2 * limit) t .parts
 abbrev pub componentLeftover : Graph → ℕ → Rooted → Tree
 componentLeftover g limit t = leftoverAt (t .root) (split g (2 * limit) t .left)
 
+-- The leftover is dropped: there is a part, and no edge is left.
+abbrev pub Dropped : Graph → ℕ → Rooted → Type 0
+Dropped g limit t = ((p : Tree) × (p ∈ componentParts g limit t)) × (split g (2 * limit) t .left ≡ [])
+
 module _ (g : Graph) (limit : ℕ) (t : Rooted) where
   rest : List Tree
   rest = leftovers (t .root) (componentParts g limit t) (split g (2 * limit) t .left)
@@ -63,8 +67,8 @@ module _ (g : Graph) (limit : ℕ) (t : Rooted) where
   unfolding componentTrees rest
   part-stands m = in-map (fromLowest g) (Memᴰ·append-left rest m)
 
-  -- so is what is left, or else there is a part and no edge is left;
-  pub leftover-stands : (fromLowest g (componentLeftover g limit t) ∈ componentTrees g limit t) ⊎ (((p : Tree) × (p ∈ componentParts g limit t)) × (split g (2 * limit) t .left ≡ []))
+  -- so is what is left, or else it is dropped;
+  pub leftover-stands : (fromLowest g (componentLeftover g limit t) ∈ componentTrees g limit t) ⊎ Dropped g limit t
   unfolding componentTrees
   leftover-stands = go (in-leftovers (t .root) (componentParts g limit t) (split g (2 * limit) t .left))
     where

@@ -18,3 +18,5 @@ pub mod UnrootedNumber
 pub mod UnrootedStart
 -- the answer's trees are trees, of at most 4 B - 2
 pub mod UnrootedTrees
+-- where the components need at most k trees, the answer is a cover by k, of at most 4 B - 2
+pub mod UnrootedCover

@@ -1,7 +1,7 @@
 -- How many trees and edges an unrooted answer has. It has at most as many trees as the components need. Its trees hold the forest's edges, each
 -- once, so that all of them together, and each alone, have fewer edges than the graph has vertices.
 -- Assumes nothing.
-use Prim.Native.Nat.{ℕ, _+_, _≤_, _<_}
+use Prim.Native.Nat.{ℕ, _≤_, _<_}
 use mathlib.Core.Path.{_≡_, sym, _∙_}
 use mathlib.Core.Bool.{cond}
 use mathlib.Core.List.{List, map}

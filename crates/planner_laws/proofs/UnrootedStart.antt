@@ -2,7 +2,6 @@
 -- its vertices.
 -- Assumes nothing.
 use Prim.Native.Nat.{ℕ, _<_}
-use mathlib.Core.Path.{_≡_}
 use mathlib.Core.List.{_∷_, List·Memᴰ·head, List·Memᴰ·tail}
 use Rattle.lists.specs.Member.{_∈_}
 use Rattle.lists.proofs.LeastOf.{least-in}

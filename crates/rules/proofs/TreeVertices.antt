@@ -1,4 +1,4 @@
--- The vertices of a tree are those that it covers.
+-- The vertices of a tree are those that it covers; and what it is for a list of trees to cover a vertex.
 -- Assumes nothing.
 use Prim.Native.Nat.{ℕ}
 use mathlib.Core.Path.{subst}
@@ -9,11 +9,16 @@ use Rattle.graph.specs.Graph.{Graph, oneEnd, otherEnd}
 use Rattle.rules.specs.Cover.{Tree, Covers, at-start, at-one-end, at-other-end}
 use Rattle.rules.specs.Distance.{treeVertices}
 
+-- Some tree of the list covers v.
+abbrev pub HasTree : Graph → List Tree → ℕ → Type 0
+HasTree g trees v = (t : Tree) × (t ∈ trees) × Covers g t v
+
 module _ (g : Graph) where
   -- The two ends of an edge.
   ends : ℕ → List ℕ
   ends e = oneEnd g e ∷ otherEnd g e ∷ []
 
+  -- The vertices of a tree are those that it covers.
   module _ (t : Tree) where
     pub covered-stands : {v : ℕ} → Covers g t v → v ∈ treeVertices g t
     unfolding treeVertices ends

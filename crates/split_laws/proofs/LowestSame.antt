@@ -2,14 +2,12 @@
 -- So the forest's own edges, in any order, show the lowest vertices of the components at a limit.
 -- Assumes nothing.
 use Prim.Native.Nat.{ℕ, _<_}
-use mathlib.Core.Path.{_≡_, refl, sym, ap, _∙_}
-use mathlib.Core.Bool.{Bool, true, false, not}
-use mathlib.Core.List.{List}
+use mathlib.Core.Path.{_≡_, sym, ap, _∙_}
+use mathlib.Core.Bool.{not}
 use mathlib.Core.Logic.{_⊎_, inl, inr, _↔_}
 use native.Mathlib.Omega.{arith}
-use borrow.Author.Tests.{eqb-true, eq-eqb, ne-eqb}
+use borrow.Author.Tests.{eq-eqb, ne-eqb}
 use Rattle.lists.specs.Count.{below, anyBelow}
-use Rattle.lists.specs.Member.{_∈_}
 use Rattle.lists.proofs.Below.{of-below, equal-or-not}
 use Rattle.lists.proofs.SameTests.{filter-same, any-below-same}
 use Rattle.graph.specs.Graph.{Graph}

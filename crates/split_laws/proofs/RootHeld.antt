@@ -1,9 +1,9 @@
 -- The root of a tree among its edges and its parts: every edge of a tree is linked to the root by the tree's edges; and where a tree has parts and
 -- nothing is left of it, one of the parts has an edge at the root.
 -- Assumes nothing.
-use Prim.Native.Nat.{ℕ, _≤_}
+use Prim.Native.Nat.{ℕ}
 use mathlib.Core.Path.{_≡_, refl, subst}
-use mathlib.Core.List.{List, [], _∷_, _++_, List·Memᴰ·head, List·Memᴰ·not-nil}
+use mathlib.Core.List.{[], List·Memᴰ·head, List·Memᴰ·not-nil}
 use mathlib.Core.Logic.{_⊎_, inl, inr}
 use native.Mathlib.Omega.{arith}
 use Rattle.lists.specs.Member.{_∈_}
@@ -11,7 +11,7 @@ use Rattle.lists.proofs.Times.{in-times, times-in}
 use Rattle.graph.specs.Graph.{Graph}
 use Rattle.rules.specs.Walk.{Joins}
 use Rattle.rules.specs.Cover.{Tree}
-use Rattle.rules.specs.Grow.{Branches, none, branch, Rooted, branchEdges}
+use Rattle.rules.specs.Grow.{Branches, Rooted, branchEdges}
 use Rattle.rules.specs.Split.{splitAt, split}
 use Rattle.rules.proofs.Linked.{linked-more}
 use Rattle.split_laws.proofs.Along.{Hangs, bare, fork}
