@@ -21,7 +21,6 @@ use Rattle.rules.specs.Grow.{Rooted}
 use Rattle.rules.specs.Split.{split}
 use Rattle.rules.specs.UnrootedTrial.{components, needed, fromLowest, componentTrees, unrootedTrees}
 use Rattle.rules.proofs.Linked.{joins-back}
-use Rattle.rules.proofs.TreeVertices.{HasTree}
 use Rattle.split_laws.proofs.SplitForest.{of-all-parts}
 use Rattle.split_laws.proofs.RootHeld.{root-in-part}
 use Rattle.split_laws.proofs.Whole.{EndsInside, valid-ends, Held, at-root, at-part, at-left, unrooted-whole}
@@ -37,35 +36,39 @@ joins-covers {e = e} m (onward p q) = at-other-end e m q
 joins-covers {e = e} m (back p q) = at-one-end e m q
 
 module _ (g : Graph) (ends : EndsInside g) (limit : ℕ) where
+  -- A tree of the answer covers v.
+  abbrev HasTree : ℕ → Type 0
+  HasTree v = (u : Tree) × (u ∈ unrootedTrees g limit) × Covers g u v
+
   module _ {t : Rooted} (m : t ∈ components g limit) where
     -- A tree of the answer covers what a part of a component covers,
-    by-part : {p : Tree} {v : ℕ} → p ∈ componentParts g limit t → Covers g p v → HasTree g (unrootedTrees g limit) v
+    by-part : {p : Tree} {v : ℕ} → p ∈ componentParts g limit t → Covers g p v → HasTree v
     by-part n c = (_, in-unrooted g limit m (part-stands g limit t n), lowest-covers (part-is-tree g limit m ends n) c)
 
     -- the root,
-    by-root : HasTree g (unrootedTrees g limit) (t .root)
+    by-root : HasTree (t .root)
     by-root = go (leftover-stands g limit t)
       where
-        go : (fromLowest g (componentLeftover g limit t) ∈ componentTrees g limit t) ⊎ Dropped g limit t → HasTree g (unrootedTrees g limit) (t .root)
+        go : (fromLowest g (componentLeftover g limit t) ∈ componentTrees g limit t) ⊎ Dropped g limit t → HasTree (t .root)
         go (inl s) = (_, in-unrooted g limit m s, lowest-covers (leftover-is-tree g limit m) (at-start refl))
         go (inr ((p, n), none)) =
             let (part, i, (e, far, k, j)) = root-in-part g (2 * limit) t (component-hangs g limit m) n none in
             by-part i (joins-covers k (joins-back j))
 
     -- and the ends of the edges that are left.
-    by-left : {e far v : ℕ} → e ∈ split g (2 * limit) t .left → Joins g e far v → HasTree g (unrootedTrees g limit) v
+    by-left : {e far v : ℕ} → e ∈ split g (2 * limit) t .left → Joins g e far v → HasTree v
     by-left {e} {far} {v} n j = go (leftover-stands g limit t)
       where
-        go : (fromLowest g (componentLeftover g limit t) ∈ componentTrees g limit t) ⊎ Dropped g limit t → HasTree g (unrootedTrees g limit) v
+        go : (fromLowest g (componentLeftover g limit t) ∈ componentTrees g limit t) ⊎ Dropped g limit t → HasTree v
         go (inl s) = (_, in-unrooted g limit m s, lowest-covers (leftover-is-tree g limit m) (joins-covers (in-rise n) j))
         go (inr (p, none)) = absurd (List·Memᴰ·not-nil (subst (λ l. e ∈ l) none n))
 
   -- Every vertex is covered by a tree of the answer.
-  pub unrooted-covered : (v : ℕ) → v < g .vertices → HasTree g (unrootedTrees g limit) v
+  pub unrooted-covered : (v : ℕ) → v < g .vertices → (u : Tree) × (u ∈ unrootedTrees g limit) × Covers g u v
   unfolding components
   unrooted-covered v h = go (unrooted-whole ends limit (2 * limit) .held v h)
     where
-      go : Held g (2 * limit) (lowest g (labelsAt g apart limit)) (components g limit) v → HasTree g (unrootedTrees g limit) v
+      go : Held g (2 * limit) (lowest g (labelsAt g apart limit)) (components g limit) v → HasTree v
       go (at-root m) = let (t, i, q) = of-map (λ (t : Rooted). t .root) (components g limit) (rw (← component-roots g limit) at m) in rw q (by-root i)
       go (at-part p m e far n j) = let (t, i, k) = of-all-parts g (2 * limit) (components g limit) m in by-part i k (joins-covers n j)
       go (at-left t m e far n j) = by-left m n j
