@@ -47,3 +47,5 @@ pub mod Stores
 pub mod Put
 -- several lists in one array: one more bound adds one more list
 pub mod Segments
+-- numbers that pass one of two tests, and numbers that pass both
+pub mod EitherBoth
