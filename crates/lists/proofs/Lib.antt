@@ -49,3 +49,7 @@ pub mod Put
 pub mod Segments
 -- numbers that pass one of two tests, and numbers that pass both
 pub mod EitherBoth
+-- one of a kind for each number below a bound
+pub mod Chosen
+-- what stands at a place, and the place of what stands in a list
+pub mod Places

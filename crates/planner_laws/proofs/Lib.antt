@@ -1,0 +1,5 @@
+-- What the answers mean (document 01, "A trial at limit B" and "The best limit"):
+-- the search between a refused and an accepted limit
+pub mod SearchSteps
+-- good choices exist at every limit
+pub mod SomeChoices
