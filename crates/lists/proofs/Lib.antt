@@ -53,3 +53,7 @@ pub mod EitherBoth
 pub mod Chosen
 -- what stands at a place, and the place of what stands in a list
 pub mod Places
+-- the largest value against a bound
+pub mod Largest
+-- lengths as sums
+pub mod Lengths

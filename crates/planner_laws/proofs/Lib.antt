@@ -3,3 +3,7 @@
 pub mod SearchSteps
 -- good choices exist at every limit
 pub mod SomeChoices
+-- trees over all that is linked to a root
+pub mod WholeTrees
+-- "no cover" exactly where none exists
+pub mod NoCover
