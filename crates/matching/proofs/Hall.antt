@@ -127,7 +127,7 @@ module _ (allowed : ℕ → ℕ → Bool) (p y : ℕ) where
       fails : (j : ℕ) → j ∈ free → Fails a (suc a) n free j
       fails j m = pick (either (allowed a j && assignable allowed (from (suc a) n) (without j free)))
         where
-          pick : ((allowed a j && assignable allowed (from (suc a) n) (without j free)) ≡ true) ⊎ ((allowed a j && assignable allowed (from (suc a) n) (without j free)) ≡ false) → Fails a (suc a) n free j
+          pick : ((allowed a j && assignable allowed (from (suc a) n) (without j free)) ≡ true) ⊎ Fails a (suc a) n free j → Fails a (suc a) n free j
           pick (inl q) = absurd (true≢false (sym (found-any (λ k. allowed a k && assignable allowed (from (suc a) n) (without k free)) m q) ∙ t))
           pick (inr q) = q
 

@@ -2,9 +2,10 @@
 -- crews one is covered by none; otherwise the trees over all that is linked to the roots, or to the lowest vertices, are a cover.
 -- Assumes nothing.
 use Prim.Native.Nat.{ℕ, _≤_, _<_}
-use mathlib.Core.Path.{_≡_, refl, sym, ap, _∙_}
+use mathlib.Core.Path.{_≡_, refl, sym, _∙_}
 use mathlib.Core.Bool.{Bool, true, false, not, true≢false, false≢true}
-use mathlib.Core.List.{List, [], _∷_, map, headD, List·Memᴰ·not-nil, Memᴰ·cast}
+use mathlib.Core.Logic.{_↔_}
+use mathlib.Core.List.{List, map, headD, Memᴰ·cast}
 use mathlib.Core.Option.{Option, some, none}
 use native.Mathlib.Omega.{arith}
 use lib.ListN.{length, length-map}
@@ -19,7 +20,7 @@ use Rattle.lists.proofs.Lengths.{length-within, map-once, some-member}
 use Rattle.graph.specs.Graph.{Graph}
 use Rattle.graph.specs.Valid.{Valid}
 use Rattle.rules.specs.Walk.{Linked}
-use Rattle.rules.specs.Cover.{Tree, Crews, rooted, unrooted, Covers, IsCover}
+use Rattle.rules.specs.Cover.{Tree, Crews, rooted, unrooted, IsCover}
 use Rattle.rules.specs.Order.{ordered}
 use Rattle.rules.specs.Labels.{Labels, apart, together, joined, mergeAll}
 use Rattle.rules.specs.Forest.{unjoined, lowest}
@@ -55,7 +56,8 @@ module _ (g : Graph) (roots : List ℕ) where
       let (m, t) = first-some (λ u. not (joined fromRoots (headD roots 0) u)) (below (g .vertices)) q in
       let (tree, n, l) = cover-links cover v (of-below (g .vertices) m) in
       let root : tree .start ∈ roots = rw (cover .starts) at (in-map (λ (t : Tree). t .start) n) in
-      true≢false (sym (eq-eqb (fromRoots (headD roots 0)) (fromRoots v) (root-is-reached g roots (ordered g) (head-in root) v .1 (tree .start, root, l))) ∙ not-true (joined fromRoots (headD roots 0) v) t)
+      let same : fromRoots (headD roots 0) ≡ fromRoots v = root-is-reached g roots (ordered g) (head-in root) v .1 (tree .start, root, l) in
+      true≢false (sym (eq-eqb (fromRoots (headD roots 0)) (fromRoots v) same) ∙ not-true (joined fromRoots (headD roots 0) v) t)
 
   -- where there is no such vertex each is linked to a root
   joined-reached : 1 ≤ length roots → unjoined g roots fromRoots ≡ none → (v : ℕ) → v < g .vertices → Reached g roots (ordered g) v
@@ -118,3 +120,11 @@ some-cover {g} valid (rooted roots) fit t = go (unjoined g roots (fromRoots g ro
     go none q t = (wholeTrees g roots, rooted-cover g roots fit q)
     go (some v) q t = absurd (true≢false t)
 some-cover {g} valid (unrooted k) fit t = (wholeTrees g (lowest g (whole g)), unrooted-cover g k valid (ltb-false k (length (lowest g (whole g))) t))
+
+-- So "no cover" is said exactly where none exists.
+pub no-cover-exactly : {g : Graph} → Valid g → (crews : Crews) → CrewsFit g crews → (noCover g crews ≡ true) ↔ NoneAtAll g crews
+no-cover-exactly {g} valid crews fit = (no-cover-none g crews, λ out. go out (noCover g crews) refl)
+  where
+    go : NoneAtAll g crews → (t : Bool) → noCover g crews ≡ t → noCover g crews ≡ true
+    go out true e = e
+    go out false e = let (trees, cover) = some-cover valid crews fit e in absurd (out trees cover)

@@ -3,7 +3,6 @@
 -- Assumes nothing.
 use Prim.Native.Nat.{ℕ, zero, suc, _+_, _-_, _/_, _^_, _≤_, _<_}
 use mathlib.Core.Path.{_≡_, refl, sym, _∙_}
-use mathlib.Core.Logic.{_⊎_, inl, inr}
 use mathlib.Core.Bool.{Bool, true, false, cond}
 use native.Mathlib.Nat.{two-pow-succ}
 use native.Mathlib.Omega.{arith}
@@ -88,7 +87,8 @@ module _ (accepted : ℕ → Bool) where
   search-same (suc fuel) (suc more) b most h =
       one-or-more (searched accepted (suc more) b ≡ searched accepted (suc fuel) b) b
       (λ few. search-stops (suc more) b few ∙ sym (search-stops (suc fuel) b few))
-      (λ wide. search-steps more b wide ∙ search-same fuel more (narrowed accepted b) (step-halves b (2 ^ fuel) wide (omega (arith, two-pow-succ fuel))) (omega arith) ∙ sym (search-steps fuel b wide))
+      (λ wide. let half = step-halves b (2 ^ fuel) wide (omega (arith, two-pow-succ fuel)) in
+      search-steps more b wide ∙ search-same fuel more (narrowed accepted b) half (omega arith) ∙ sym (search-steps fuel b wide))
 
   -- So any two numbers of steps that are enough give the same bounds.
   pub search-any : (fuel other : ℕ) (b : Bounds) → width b ≤ 2 ^ fuel → width b ≤ 2 ^ other → searched accepted fuel b ≡ searched accepted other b

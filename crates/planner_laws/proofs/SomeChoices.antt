@@ -10,7 +10,7 @@ use Rattle.lists.proofs.Chosen.{each-chosen}
 use Rattle.lists.proofs.Places.{at-place}
 use Rattle.graph.specs.Graph.{Graph}
 use Rattle.graph.specs.Valid.{Valid}
-use Rattle.matching.specs.Assignment.{IsAssignment, IsDeficient}
+use Rattle.matching.specs.Assignment.{IsAssignment}
 use Rattle.matching.proofs.AssignableLaws.{assignable-some}
 use Rattle.matching.proofs.Hall.{unassignable-deficient}
 use Rattle.rules.specs.Distance.{IsShortestPath}

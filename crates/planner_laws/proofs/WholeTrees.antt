@@ -1,7 +1,7 @@
 -- The tree from a root over all that the graph's edges link to it. Such trees from some roots cover every vertex that is linked to one of them.
 -- Assumes nothing.
 use Prim.Native.Nat.{ℕ, _<_}
-use mathlib.Core.Path.{_≡_, refl, sym, ap, ap₂, _∙_}
+use mathlib.Core.Path.{_≡_, refl, sym, ap, _∙_}
 use mathlib.Core.List.{List, [], _∷_, map, List·Memᴰ·head, List·Memᴰ·tail}
 use lib.ListN.{length, length-map}
 use borrow.Author.Tests.{eqb-true, eq-eqb}
@@ -14,7 +14,7 @@ use Rattle.rules.specs.Cover.{Tree, IsTree, AllCovered}
 use Rattle.rules.specs.Order.{ordered}
 use Rattle.rules.specs.Labels.{Labels, apart, joined, mergeAll}
 use Rattle.rules.specs.RootedTrial.{unionTree}
-use Rattle.forest_laws.proofs.Walks.{merged-linked, linked-merged}
+use Rattle.forest_laws.proofs.Walks.{merged-linked}
 use Rattle.forest_laws.proofs.Merging.{merged-joins}
 use Rattle.forest_laws.proofs.Roots.{Reached}
 use Rattle.forest_laws.proofs.UnionTree.{union-is-tree, union-covers}
