@@ -9,10 +9,16 @@ use native.Mathlib.Omega.{arith}
 use Rattle.lists.proofs.InOrder.{rising-once}
 use Rattle.lists.proofs.Sums.{sum-within}
 use Rattle.lists.proofs.Largest.{largest-most}
-use Rattle.graph.specs.Graph.{Graph, weightOf}
+use Rattle.lists.proofs.Lengths.{sum-most}
+use Rattle.lists.proofs.Sorting.{sum-sort}
+use Rattle.lists.proofs.Below.{of-below}
+use Rattle.lists.proofs.Runs.{length-below}
+use Rattle.lists.specs.Count.{below}
+use Rattle.graph.specs.Graph.{Graph, edgeCount, weightOf}
+use Rattle.graph.specs.Valid.{Valid}
 use Rattle.rules.specs.Walk.{totalWeight}
 use Rattle.rules.specs.Cover.{Tree, IsTree, treeWeight, heaviest, Crews, IsCover}
-use Rattle.rules.specs.Order.{ordered}
+use Rattle.rules.specs.Order.{comesBefore, ordered}
 use Rattle.rules.specs.RootedTrial.{Choices}
 use Rattle.rules.specs.Search.{accepts, Bounds, searched, bestLimit}
 use Rattle.forest_laws.proofs.Ordering.{in-ordered}
@@ -35,7 +41,19 @@ pub cover-within-sum : {g : Graph} {crews : Crews} {trees : List Tree} → IsCov
 unfolding heaviest
 cover-within-sum {g} {trees = trees} cover = largest-most (treeWeight g) (allWeights g) trees (λ t m. tree-within-sum (cover .all-covered .are-trees t m))
 
--- The search may take any number of steps that is enough.
+-- A valid graph's edges weigh at most 2,048,000,000 together, below 2 to the 31st.
+pub sum-bounded : {g : Graph} → Valid g → allWeights g ≤ 2048000000
+unfolding totalWeight ordered
+sum-bounded {g} valid =
+    omega (
+      arith,
+      valid .edges-most,
+      sum-sort (comesBefore g) (weightOf g) (below (edgeCount g)),
+      sum-most (weightOf g) 1000000 (below (edgeCount g)) (λ e m. valid .each-edge e (of-below (edgeCount g) m) .weight-most),
+      length-below (edgeCount g),
+    )
+
+-- The search may take any number of steps that is enough,
 pub best-limit-steps : (g : Graph) (crews : Crews) (fuel : ℕ) → allWeights g ≤ 2 ^ fuel
     → bestLimit g crews ≡ cond (accepts g crews 0) 0 (searched (accepts g crews) fuel (firstBounds g) .high)
 unfolding bestLimit
@@ -43,6 +61,10 @@ best-limit-steps g crews fuel enough =
     let most : width (firstBounds g) ≤ 2 ^ fuel = omega arith in
     let also : width (firstBounds g) ≤ 2 ^ allWeights g = omega (arith, steps-enough (allWeights g)) in
     ap (λ (b : Bounds). cond (accepts g crews 0) 0 (b .high)) (search-any (accepts g crews) (allWeights g) fuel (firstBounds g) also most)
+
+-- and in a valid graph 31 are.
+pub best-limit-31 : {g : Graph} → Valid g → (crews : Crews) → bestLimit g crews ≡ cond (accepts g crews 0) 0 (searched (accepts g crews) 31 (firstBounds g) .high)
+best-limit-31 {g} valid crews = best-limit-steps g crews 31 (omega (arith, sum-bounded valid))
 
 module _ {g : Graph} {crews : Crews} (bounds : TrialBounds g crews) {some-trees : List Tree} (some-cover : IsCover g crews some-trees) where
   -- The sum of all weights is accepted.
