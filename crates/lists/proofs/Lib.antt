@@ -61,3 +61,13 @@ pub mod Images
 pub mod LeastOf
 -- tests that say the same
 pub mod SameTests
+-- numbers that pass one of two tests, and numbers that pass both
+pub mod EitherBoth
+-- one of a kind for each number below a bound
+pub mod Chosen
+-- what stands at a place, and the place of what stands in a list
+pub mod Places
+-- the largest value against a bound
+pub mod Largest
+-- lengths as sums
+pub mod Lengths

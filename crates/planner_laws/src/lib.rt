@@ -1,1 +1,2 @@
-// Theorems on the trials and the search: what is accepted is a cover within the bound, what is refused is below every cover. See proofs/. There is no code here.
+// Theorems on trials and the best limit: the lower bounds, the covers of accepted trials, the search, and what every reply means.
+// See proofs/. There is no code here.

@@ -9,5 +9,7 @@ pub mod Fields
 pub mod Faults
 -- the graph's bytes are not refused exactly where they are a graph's
 pub mod SheetRight
+-- crews that are not refused fit the graph
+pub mod CrewsRight
 -- the choices of the starred rows are allowed ones
 pub mod DistrictChoices
