@@ -9,6 +9,8 @@ pub mod Sums
 pub mod Filters
 -- the first element that passes a test
 pub mod First
+-- what is found first stands in the list and passes; where all fail there is none
+pub mod FirstFound
 -- the list without a number
 pub mod Without
 -- the sum without a number
@@ -47,3 +49,9 @@ pub mod Stores
 pub mod Put
 -- several lists in one array: one more bound adds one more list
 pub mod Segments
+-- the largest and sums against a bound
+pub mod Bounds
+-- what stands in a list stands at a place
+pub mod Places
+-- chosen elements: how many, and their sums
+pub mod Chosen

@@ -1,0 +1,29 @@
+-- A rooted cover in which no tree weighs more than a limit: its trees start at the roots, and their edges are within the limit. So each
+-- vertex is linked to a root by edges within the limit.
+-- Assumes nothing.
+use Prim.Native.Nat.{ℕ, _≤_}
+use mathlib.Core.List.{List}
+use native.Mathlib.Omega.{arith}
+use Rattle.lists.specs.Member.{_∈_}
+use Rattle.lists.proofs.Member.{in-map}
+use Rattle.lists.proofs.Bounds.{largest-each, sum-each}
+use Rattle.graph.specs.Graph.{Graph, weightOf}
+use Rattle.rules.specs.Walk.{totalWeight}
+use Rattle.rules.specs.Cover.{Tree, treeWeight, heaviest, IsCover, rooted}
+use Rattle.forest_laws.proofs.Forest.{Within}
+
+module _ {g : Graph} {roots : List ℕ} {trees : List Tree} (cover : IsCover g (rooted roots) trees) where
+  -- a tree starts at a root
+  pub tree-starts : {t : Tree} → t ∈ trees → t .start ∈ roots
+  tree-starts m = rw (cover .starts) at (in-map (λ (t : Tree). t .start) m)
+
+  module _ {limit : ℕ} (light : heaviest g trees ≤ limit) where
+    -- a tree is within the limit
+    pub tree-light : {t : Tree} → t ∈ trees → treeWeight g t ≤ limit
+    unfolding heaviest
+    tree-light m = omega (arith, largest-each (treeWeight g) m)
+
+    -- so are its edges
+    pub tree-edges-light : {t : Tree} → t ∈ trees → Within g limit (t .edges)
+    unfolding treeWeight totalWeight
+    tree-edges-light {t} m e n = (cover .all-covered .are-trees t m .edges-inside e n, omega (arith, tree-light m, sum-each (weightOf g) n))
