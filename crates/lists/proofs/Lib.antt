@@ -5,7 +5,7 @@ pub mod Member
 pub mod InOrder
 -- sums over appended, filtered and contained lists
 pub mod Sums
--- filters of a list that no element passes, of two lists, of a mapped list
+-- filters of a list that no element or every one passes, of two lists, of a mapped list
 pub mod Filters
 -- the first element that passes a test
 pub mod First
@@ -53,5 +53,5 @@ pub mod Segments
 pub mod Bounds
 -- what stands in a list stands at a place
 pub mod Places
--- chosen elements: how many, and their sums
+-- lists made for the chosen numbers below a bound, and joined
 pub mod Chosen

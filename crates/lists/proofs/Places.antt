@@ -2,10 +2,12 @@
 -- Assumes nothing.
 use Prim.Native.Nat.{ℕ, zero, suc, _<_}
 use mathlib.Core.Path.{_≡_, refl, sym}
-use mathlib.Core.List.{List, [], _∷_, List·Memᴰ·head, List·Memᴰ·tail}
+use mathlib.Core.List.{List, [], _∷_, map, List·Memᴰ·head, List·Memᴰ·tail}
 use native.Mathlib.Omega.{arith}
-use lib.ListN.{length, getD}
+use lib.ListN.{length, getD, length-map, List·getD-map}
+use Rattle.lists.specs.Count.{below}
 use Rattle.lists.specs.Member.{_∈_}
+use Rattle.lists.proofs.Runs.{map-below}
 
 module _ {ℓ} {A : Type ℓ} (d : A) where
   -- what stands at a place stands in the list
@@ -18,3 +20,7 @@ module _ {ℓ} {A : Type ℓ} (d : A) where
   pub place-of : {x : A} {xs : List A} → x ∈ xs → (i : ℕ) × (i < length xs) × (getD xs i d ≡ x)
   place-of {xs = x ∷ xs} (List·Memᴰ·head q) = (0, omega arith, sym q)
   place-of {xs = x ∷ xs} (List·Memᴰ·tail m) = let (i, h, q) = place-of m in (suc i, omega arith, q)
+
+-- to map what stands at each place is to map the list
+pub map-at-places {ℓ κ} : {A : Type ℓ} {B : Type κ} (f : A → B) (d : A) (xs : List A) → map (λ i. f (getD xs i d)) (below (length xs)) ≡ map f xs
+map-at-places f d xs = rw (length-map xs f) at (map-below (λ i. f (getD xs i d)) (f d) (map f xs) (λ i h. sym (List·getD-map f xs i d)))

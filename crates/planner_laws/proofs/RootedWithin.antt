@@ -2,20 +2,32 @@
 -- vertex is linked to a root by edges within the limit.
 -- Assumes nothing.
 use Prim.Native.Nat.{ℕ, _≤_}
-use mathlib.Core.List.{List}
+use mathlib.Core.Path.{_≡_, sym, ap, _∙_}
+use mathlib.Core.List.{List, []}
 use native.Mathlib.Omega.{arith}
+use lib.ListN.{length, getD, length-map, List·getD-map}
 use Rattle.lists.specs.Member.{_∈_}
 use Rattle.lists.proofs.Member.{in-map}
 use Rattle.lists.proofs.Bounds.{largest-each, sum-each}
 use Rattle.graph.specs.Graph.{Graph, weightOf}
 use Rattle.rules.specs.Walk.{totalWeight}
 use Rattle.rules.specs.Cover.{Tree, treeWeight, heaviest, IsCover, rooted}
+use Rattle.rules.specs.RootedTrial.{partOf}
 use Rattle.forest_laws.proofs.Forest.{Within}
 
 module _ {g : Graph} {roots : List ℕ} {trees : List Tree} (cover : IsCover g (rooted roots) trees) where
   -- a tree starts at a root
   pub tree-starts : {t : Tree} → t ∈ trees → t .start ∈ roots
   tree-starts m = rw (cover .starts) at (in-map (λ (t : Tree). t .start) m)
+
+  -- there are as many trees as roots
+  pub tree-count : length trees ≡ length roots
+  tree-count = sym (length-map trees (λ (t : Tree). t .start)) ∙ ap length (cover .starts)
+
+  -- the tree of a number starts at the root of that number
+  pub start-at : (j : ℕ) → partOf trees j .start ≡ getD roots j 0
+  unfolding partOf
+  start-at j = sym (List·getD-map (λ (t : Tree). t .start) trees j (record { start = 0; edges = [] })) ∙ ap (λ (l : List ℕ). getD l j 0) (cover .starts)
 
   module _ {limit : ℕ} (light : heaviest g trees ≤ limit) where
     -- a tree is within the limit

@@ -1,6 +1,8 @@
 -- Laws of document 01's definitions that the theorems of the crates above share.
 -- walks and linked vertices
 pub mod Linked
+-- the vertices listed for a tree are those that it covers
+pub mod TreeVertices
 -- fields of two bytes, written and read
 pub mod Fields
 -- numbers that are tried one after the other
