@@ -10,3 +10,9 @@ pub mod RootedPieces
 pub mod RootedNear
 -- "too low, parts T, yards D": every cover has a tree above the limit
 pub mod RootedParts
+-- each part with the shortest path to it hangs at its root, and how heavy both are
+pub mod RootedAssigned
+-- the union of which a tree is made: it hangs at the root, holds the root's part and leftover, and weighs at most 4 B - 2
+pub mod RootedUnion
+-- an accepted limit: the trees are a cover, the heaviest at most 4 B - 2
+pub mod RootedCover

@@ -16,7 +16,7 @@ use lib.Dec.{eqb}
 use Rattle.lists.proofs.Chosen.{chosen, of-chosen, sum-chosen, chosen-least, chosen-most}
 use Rattle.lists.proofs.Fewer.{count-bounded}
 use Rattle.lists.proofs.InOrder.{Once}
-use Rattle.lists.proofs.Places.{at-place, map-at-places}
+use Rattle.lists.proofs.Places.{map-at-places}
 use Rattle.lists.proofs.Times.{times, times-once}
 use Rattle.graph.specs.Graph.{Graph, weightOf}
 use Rattle.graph.specs.Valid.{Valid}
@@ -33,8 +33,8 @@ use Rattle.forest_laws.proofs.Merging.{JoinsAll}
 use Rattle.forest_laws.proofs.Roots.{Reached, reached-joined}
 use Rattle.forest_laws.proofs.Forest.{Within, forest-light, forest-replaced-by}
 use Rattle.split_laws.proofs.Whole.{valid-ends}
-use Rattle.planner_laws.proofs.RootedWithin.{tree-count, tree-light, tree-edges-light}
-use Rattle.planner_laws.proofs.RootedPieces.{IsPart, rooted-part, parts-once}
+use Rattle.planner_laws.proofs.RootedWithin.{tree-at, tree-light, tree-edges-light}
+use Rattle.planner_laws.proofs.RootedPieces.{part-at, parts-once}
 use Rattle.planner_laws.proofs.RootedNear.{allowedTo, allowedEdges, allowed-reach}
 
 module _ (g : Graph) (roots : List ℕ) (limit : ℕ) (marks : List ℕ) where
@@ -44,11 +44,6 @@ module _ (g : Graph) (roots : List ℕ) (limit : ℕ) (marks : List ℕ) where
   -- The edges of the parts of the set.
   abbrev markedEdges : List ℕ
   markedEdges = chosen (λ i. partOf parts i .edges) (marked marks) (length parts)
-
-  -- The part of a number is a part.
-  part-at : (i : ℕ) → i < length parts → IsPart g roots limit (partOf parts i)
-  unfolding partOf
-  part-at i h = rooted-part g roots limit (at-place (record { start = 0; edges = [] }) parts i h)
 
   -- Each is there once.
   marked-once : Once markedEdges
@@ -64,24 +59,20 @@ module _ (g : Graph) (roots : List ℕ) (limit : ℕ) (marks : List ℕ) where
   -- They weigh at least the limit for each part.
   marked-heavy : markedParts (length parts) marks * limit ≤ totalWeight g markedEdges
   unfolding totalWeight treeWeight
-  marked-heavy = chosen-least (λ i. partOf parts i .edges) (marked marks) (length parts) (weightOf g) limit (λ i h is. part-at i h .heavy)
+  marked-heavy = chosen-least (λ i. partOf parts i .edges) (marked marks) (length parts) (weightOf g) limit (λ i h is. part-at g roots limit i h .heavy)
 
   module _ {trees : List Tree} (cover : IsCover g (rooted roots) trees) (light : heaviest g trees ≤ limit) where
-    tree-at : (j : ℕ) → j < length roots → partOf trees j ∈ trees
-    unfolding partOf
-    tree-at j h = at-place (record { start = 0; edges = [] }) trees j (omega (arith, tree-count cover))
-
     -- The edges of the allowed roots' trees are within the limit,
     allowed-within : Within g limit (allowedEdges g roots limit marks trees)
     unfolding partOf
     allowed-within e m =
         let (j, h, is, n) = of-chosen (λ j. partOf trees j .edges) (allowedTo g roots limit marks) (length roots) m in
-        tree-edges-light cover light (tree-at j h) e n
+        tree-edges-light cover light (tree-at cover j h) e n
 
     -- and weigh at most the limit for each root.
     allowed-light : totalWeight g (allowedEdges g roots limit marks trees) ≤ allowedRoots (length parts) (length roots) (mayGo g roots limit) marks * limit
     unfolding totalWeight treeWeight partOf
-    allowed-light = chosen-most (λ j. partOf trees j .edges) (allowedTo g roots limit marks) (length roots) (weightOf g) limit (λ j h is. tree-light cover light (tree-at j h))
+    allowed-light = chosen-most (λ j. partOf trees j .edges) (allowedTo g roots limit marks) (length roots) (weightOf g) limit (λ j h is. tree-light cover light (tree-at cover j h))
 
     -- So the set has no more parts than allowed roots.
     marked-no-more : Valid g → markedParts (length parts) marks * limit ≤ allowedRoots (length parts) (length roots) (mayGo g roots limit) marks * limit
@@ -93,7 +84,7 @@ module _ (g : Graph) (roots : List ℕ) (limit : ℕ) (marks : List ℕ) where
     )
       where
         in-forest : (e : ℕ) → e ∈ markedEdges → e ∈ forest g (together roots) limit
-        in-forest e m = let (i, h, is, n) = of-chosen (λ i. partOf parts i .edges) (marked marks) (length parts) m in part-at i h .in-forest n
+        in-forest e m = let (i, h, is, n) = of-chosen (λ i. partOf parts i .edges) (marked marks) (length parts) m in part-at g roots limit i h .in-forest n
 
         rest : List ℕ
         rest = filter (λ e. not (member e markedEdges)) (forest g (together roots) limit)
@@ -113,7 +104,7 @@ module _ (g : Graph) (roots : List ℕ) (limit : ℕ) (marks : List ℕ) where
             (more (allowed-reach g roots limit marks valid cover light h is other (covered-stands g (partOf parts i) (at-other-end e n refl))))
 
   -- Every cover has a tree above the limit.
-  pub parts-too-low : Valid g → IsDeficient (length parts) (length roots) (mayGo g roots limit) marks
+  pub parts-too-low : Valid g → IsDeficient (length (rootedParts g roots limit)) (length roots) (mayGo g roots limit) marks
       → (trees : List Tree) → IsCover g (rooted roots) trees → limit < heaviest g trees
   parts-too-low valid d trees cover = lt-of-not-le (λ light. none-within light)
     where
@@ -124,7 +115,7 @@ module _ (g : Graph) (roots : List ℕ) (limit : ℕ) (marks : List ℕ) where
       D = allowedRoots (length parts) (length roots) (mayGo g roots limit) marks
 
       limit-some : 1 ≤ limit
-      limit-some = part-at 0 (omega (arith, d .fewer, count-bounded (length parts) (marked marks))) .limit-some
+      limit-some = part-at g roots limit 0 (omega (arith, d .fewer, count-bounded (length parts) (marked marks))) .limit-some
 
       none-within : heaviest g trees ≤ limit → ⊥
       none-within light = omega (arith, limit-some, marked-no-more cover light valid, mul-le-mul-right {m = suc D} {n = T} limit (d .fewer), suc-mul D limit)

@@ -9,7 +9,7 @@ use lib.ListN.{length, getD, length-map, List·getD-map}
 use Rattle.lists.specs.Member.{_∈_}
 use Rattle.lists.specs.Sort.{rise}
 use Rattle.lists.proofs.Bounds.{sum-most}
-use Rattle.lists.proofs.Places.{at-place}
+use Rattle.lists.proofs.Places.{at-place, place-of}
 use Rattle.lists.proofs.Sorting.{of-rise}
 use Rattle.lists.proofs.Times.{times}
 use Rattle.graph.specs.Graph.{Graph, weightOf}
@@ -20,7 +20,7 @@ use Rattle.rules.specs.Forest.{forest}
 use Rattle.rules.specs.Grow.{none, Rooted, branchEdges, grow}
 use Rattle.rules.specs.Split.{Pieces, splitAt, split}
 use Rattle.rules.specs.CoverBytes.{entryEdges}
-use Rattle.rules.specs.RootedTrial.{rootedPieces, rootedParts, leftAt}
+use Rattle.rules.specs.RootedTrial.{rootedPieces, rootedParts, partOf, leftAt}
 use Rattle.forest_laws.proofs.Forest.{forest-light}
 use Rattle.split_laws.proofs.Weights.{no-parts}
 use Rattle.split_laws.proofs.Connected.{JoinedTo}
@@ -98,6 +98,11 @@ module _ (g : Graph) (roots : List ℕ) (limit : ℕ) where
         some-edge = (e, k);
       }
 
+  -- So is the part of each number.
+  pub part-at : (i : ℕ) → i < length (rootedParts g roots limit) → IsPart g roots limit (partOf (rootedParts g roots limit) i)
+  unfolding partOf
+  part-at i h = rooted-part (at-place (record { start = 0; edges = [] }) (rootedParts g roots limit) i h)
+
   -- No edge is in two of them.
   pub parts-once : (e : ℕ) → times e (entryEdges (rootedParts g roots limit)) ≤ 1
   unfolding rootedParts rootedPieces
@@ -131,3 +136,9 @@ module _ (g : Graph) (roots : List ℕ) (limit : ℕ) where
           joined = s .left-joined;
           light = left-lighter g limit treeHere s (tree-within i);
         })
+
+  -- What is left of each tree is what is left at the root of its number.
+  pub left-of-tree : {t : Rooted} → t ∈ rootedTrees → (j : ℕ) × (j < length roots) × (split g limit t .left ≡ leftAt (rootedPieces g roots limit) j)
+  left-of-tree m =
+      let (j, h, q) = place-of bare m in
+      (j, omega (arith, trees-count), sym (left-here j ∙ ap (λ (t : Rooted). split g limit t .left) q))

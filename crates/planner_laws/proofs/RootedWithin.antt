@@ -1,13 +1,14 @@
 -- A rooted cover in which no tree weighs more than a limit: its trees start at the roots, and their edges are within the limit. So each
 -- vertex is linked to a root by edges within the limit.
 -- Assumes nothing.
-use Prim.Native.Nat.{ℕ, _≤_}
+use Prim.Native.Nat.{ℕ, _≤_, _<_}
 use mathlib.Core.Path.{_≡_, sym, ap, _∙_}
 use mathlib.Core.List.{List, []}
 use native.Mathlib.Omega.{arith}
 use lib.ListN.{length, getD, length-map, List·getD-map}
 use Rattle.lists.specs.Member.{_∈_}
 use Rattle.lists.proofs.Member.{in-map}
+use Rattle.lists.proofs.Places.{at-place}
 use Rattle.lists.proofs.Bounds.{largest-each, sum-each}
 use Rattle.graph.specs.Graph.{Graph, weightOf}
 use Rattle.rules.specs.Walk.{totalWeight}
@@ -23,6 +24,11 @@ module _ {g : Graph} {roots : List ℕ} {trees : List Tree} (cover : IsCover g (
   -- there are as many trees as roots
   pub tree-count : length trees ≡ length roots
   tree-count = sym (length-map trees (λ (t : Tree). t .start)) ∙ ap length (cover .starts)
+
+  -- there is a tree for each root
+  pub tree-at : (j : ℕ) → j < length roots → partOf trees j ∈ trees
+  unfolding partOf
+  tree-at j h = at-place (record { start = 0; edges = [] }) trees j (omega (arith, tree-count))
 
   -- the tree of a number starts at the root of that number
   pub start-at : (j : ℕ) → partOf trees j .start ≡ getD roots j 0
