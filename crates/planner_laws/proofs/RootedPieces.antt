@@ -1,7 +1,7 @@
 -- The pieces of a rooted trial at a limit: each part is made of edges of the forest, each edge in one part, is connected, and weighs at least
 -- the limit and less than twice it; what is left at a root is connected there, and lighter than the limit.
 -- Assumes nothing.
-use Prim.Native.Nat.{ℕ, zero, suc, _*_, _-_, _≤_, _<_}
+use Prim.Native.Nat.{ℕ, zero, suc, _+_, _*_, _-_, _≤_, _<_}
 use mathlib.Core.Path.{_≡_, sym, ap, _∙_}
 use mathlib.Core.List.{List, [], List·Memᴰ·not-nil}
 use native.Mathlib.Omega.{arith}
@@ -26,7 +26,7 @@ use Rattle.split_laws.proofs.Weights.{no-parts}
 use Rattle.split_laws.proofs.Connected.{JoinedTo}
 use Rattle.split_laws.proofs.Trees.{grow-roots, tree-hangs, tree-edge-known}
 use Rattle.split_laws.proofs.SplitTree.{IsSplit, tree-split}
-use Rattle.split_laws.proofs.SplitForest.{of-all-parts, forest-split-once}
+use Rattle.split_laws.proofs.SplitForest.{allLeft, of-all-parts, of-all-left, forest-split-once}
 
 -- With threshold 0 nothing is split off.
 none-at-zero : (g : Graph) (t : Rooted) {p : Tree} → p ∈ split g 0 t .parts → ⊥
@@ -103,10 +103,18 @@ module _ (g : Graph) (roots : List ℕ) (limit : ℕ) where
   unfolding partOf
   part-at i h = rooted-part (at-place (record { start = 0; edges = [] }) (rootedParts g roots limit) i h)
 
-  -- No edge is in two of them.
-  pub parts-once : (e : ℕ) → times e (entryEdges (rootedParts g roots limit)) ≤ 1
+  -- What is left of all trees are edges of the forest.
+  pub left-in-forest : {e : ℕ} → e ∈ allLeft (rootedPieces g roots limit) → e ∈ forest g (together roots) limit
+  unfolding rootedPieces
+  left-in-forest m = let (t, i, n) = of-all-left g limit rootedTrees m in tree-in-forest i (tree-pieces i .left-edges n)
+
+  -- No edge is in two of the pieces, nor in two of the parts.
+  pub pieces-once : (e : ℕ) → times e (entryEdges (rootedParts g roots limit)) + times e (allLeft (rootedPieces g roots limit)) ≤ 1
   unfolding rootedParts rootedPieces
-  parts-once e = omega (arith, forest-split-once g limit (rise (forest g (together roots) limit)) roots e)
+  pieces-once e = forest-split-once g limit (rise (forest g (together roots) limit)) roots e
+
+  pub parts-once : (e : ℕ) → times e (entryEdges (rootedParts g roots limit)) ≤ 1
+  parts-once e = omega (arith, pieces-once e)
 
   -- There are as many trees as roots.
   pub trees-count : length rootedTrees ≡ length roots

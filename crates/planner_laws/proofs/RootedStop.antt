@@ -3,25 +3,21 @@
 -- Assumes nothing.
 use Prim.Native.Nat.{ℕ, _≤_, _<_}
 use mathlib.Core.Path.{_≡_, _∙_}
-use mathlib.Core.Bool.{not, false≢true}
 use mathlib.Core.List.{List, headD}
 use mathlib.Core.Option.{some}
 use native.Mathlib.Nat.{lt-of-not-le}
-use borrow.Author.Tests.{eq-eqb}
-use Rattle.lists.specs.Count.{below}
-use Rattle.lists.proofs.Below.{of-below}
-use Rattle.lists.proofs.FirstFound.{first-some}
 use Rattle.graph.specs.Graph.{Graph}
 use Rattle.rules.specs.Cover.{Tree, heaviest, IsCover, rooted}
 use Rattle.rules.specs.Order.{light}
-use Rattle.rules.specs.Labels.{Labels, together, joined}
-use Rattle.rules.specs.Forest.{labelsAt, unjoined}
+use Rattle.rules.specs.Labels.{Labels, together}
+use Rattle.rules.specs.Forest.{labelsAt}
 use Rattle.rules.specs.RootedTrial.{unjoinedAt}
 use Rattle.rules.proofs.Linked.{linked-more}
 use Rattle.forest_laws.proofs.Limit.{in-light}
 use Rattle.forest_laws.proofs.Merging.{merged-coarser}
 use Rattle.forest_laws.proofs.Walks.{linked-merged}
 use Rattle.forest_laws.proofs.Roots.{head-in, together-joins}
+use Rattle.forest_laws.proofs.Unjoined.{unjoined-some}
 use Rattle.distance_laws.proofs.Covered.{covered-linked}
 use Rattle.planner_laws.proofs.RootedWithin.{tree-starts, tree-edges-light}
 
@@ -40,13 +36,7 @@ module _ (g : Graph) (roots : List ℕ) (limit : ℕ) where
       merged-coarser g (together roots) (light g limit) (headD roots 0) (t .start) (together-joins roots (head-in start) start)
       ∙ linked-merged g (light g limit) (together roots) (linked-more (λ e n. let r = tree-edges-light cover within m e n in in-light g limit (r .0) (r .1)) walk)
 
-  -- the vertex of the answer is none that the roots are joined to
-  stop-apart : {v : ℕ} → unjoinedAt g roots limit ≡ some v → (v < g .vertices) × (labels (headD roots 0) ≡ labels v → ⊥)
-  unfolding unjoinedAt unjoined joined
-  stop-apart {v} q =
-      let (m, t) = first-some (λ u. not (joined labels (headD roots 0) u)) (below (g .vertices)) q in
-      (of-below (g .vertices) m, λ same. false≢true (rw (eq-eqb (labels (headD roots 0)) (labels v) same) at t))
-
   -- every cover has a tree above the limit
   pub stop-too-low : {v : ℕ} → unjoinedAt g roots limit ≡ some v → (trees : List Tree) → IsCover g (rooted roots) trees → limit < heaviest g trees
-  stop-too-low {v} q trees cover = lt-of-not-le (λ within. let (h, apart) = stop-apart q in apart (covered-joined cover within v h))
+  unfolding unjoinedAt
+  stop-too-low {v} q trees cover = lt-of-not-le (λ within. let (h, apart) = unjoined-some g roots labels q in apart (covered-joined cover within v h))
