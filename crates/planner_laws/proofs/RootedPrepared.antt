@@ -4,7 +4,7 @@
 -- Assumes nothing.
 use Prim.Native.Nat.{ℕ, _≤_, _<_}
 use mathlib.Core.Path.{_≡_, sym, ap, _∙_}
-use mathlib.Core.List.{List}
+use mathlib.Core.List.{List, map}
 use mathlib.Core.Logic.{_↔_}
 use mathlib.Core.Option.{none}
 use native.Mathlib.Omega.{arith}
@@ -12,6 +12,7 @@ use lib.Dec.{leb}
 use borrow.Author.Tests.{leb-true, le-leb}
 use Rattle.lists.specs.Lists.{without}
 use Rattle.lists.specs.Member.{_∈_}
+use Rattle.lists.specs.Sort.{rise}
 use Rattle.lists.proofs.Filters.{filter-all}
 use Rattle.lists.proofs.Member.{of-filter, in-without}
 use Rattle.graph.specs.Graph.{Graph, weightOf, oneEnd, otherEnd}
@@ -19,7 +20,9 @@ use Rattle.graph.specs.Valid.{Valid}
 use Rattle.rules.specs.Order.{ordered}
 use Rattle.rules.specs.Labels.{Labels, together, mergeAll}
 use Rattle.rules.specs.Forest.{keep, forest, labelsAt, unjoined}
-use Rattle.rules.specs.RootedTrial.{unjoinedAt}
+use Rattle.rules.specs.Grow.{grow}
+use Rattle.rules.specs.Split.{split}
+use Rattle.rules.specs.RootedTrial.{unjoinedAt, rootedPieces}
 use Rattle.forest_laws.proofs.Merging.{JoinsEnds, merged-monotone}
 use Rattle.forest_laws.proofs.Keeping.{kept-subset, kept-merges}
 use Rattle.forest_laws.proofs.Loops.{kept-apart}
@@ -76,7 +79,13 @@ module _ (g : Graph) (roots : List ℕ) (limit : ℕ) where
   pub forest-is-whole : Valid g → unjoinedAt g roots limit ≡ none → forest g (together roots) limit ≡ keep g (together roots) (ordered g)
   forest-is-whole valid q = light-whole (whole-light valid q)
 
-  -- Then the labels are the whole graph's.
+  -- Then the pieces are those of the trees of the whole forest, which are grown once.
+  pub pieces-of-whole : Valid g → unjoinedAt g roots limit ≡ none
+      → rootedPieces g roots limit ≡ map (split g limit) (grow g (rise (keep g (together roots) (ordered g))) roots)
+  unfolding rootedPieces
+  pieces-of-whole valid q = ap (λ edges. map (split g limit) (grow g (rise edges) roots)) (forest-is-whole valid q)
+
+  -- The labels are the whole graph's.
   whole-labels : forest g (together roots) limit ≡ whole → labels ≡ mergeAll g (together roots) (ordered g)
   whole-labels q = sym (forest-merges g (together roots) limit) ∙ ap (mergeAll g (together roots)) q ∙ kept-merges g (together roots) (ordered g)
 

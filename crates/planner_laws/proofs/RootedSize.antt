@@ -69,8 +69,8 @@ module _ (g : Graph) (roots : List ℕ) (limit : ℕ) where
     parts-edges-few = omega (arith, pieces-few)
 
     -- and there are fewer parts than vertices.
-    pub parts-few : length (rootedParts g roots limit) < g .vertices
-    parts-few = omega (arith, parts-edges-few, parts-some)
+    pub rooted-parts-few : length (rootedParts g roots limit) < g .vertices
+    rooted-parts-few = omega (arith, parts-edges-few, parts-some)
 
     -- A tree of the answer has fewer edges than there are vertices.
     pub cover-tree-few : (c : Choices) {t : Tree} → t ∈ rootedCover g roots limit c → length (t .edges) < g .vertices
