@@ -20,8 +20,7 @@ use Rattle.rules.specs.Cover.{Tree, IsTree, Crews, rooted, unrooted, Starts, Is
 use Rattle.rules.specs.CoverBytes.{entryEdges, encode}
 use Rattle.rules.specs.Questions.{crewCount, tooManyRoots, crewFault}
 use Rattle.rules.proofs.Faults.{quiet-if}
-use Rattle.forest_laws.proofs.Loops.{kept-whole-is-loopless}
-use Rattle.forest_laws.proofs.FewEdges.{kept-few}
+use Rattle.forest_laws.proofs.FewForest.{loopless-few}
 use Rattle.cover_laws.proofs.Writing.{Fits, length-encode}
 
 -- There are at most 32 crews, where their number is not refused.
@@ -42,7 +41,7 @@ trees-few (unrooted k) trees s = s .1
 module _ (g : Graph) (valid : Valid g) where
   -- A tree has fewer edges than there are vertices.
   pub tree-edges-few : (t : Tree) → IsTree g t → length (t .edges) < g .vertices
-  tree-edges-few t is = rw (kept-whole-is-loopless g (rising-once (is .rising)) .1 (is .no-loop)) at (kept-few valid (t .edges))
+  tree-edges-few t is = loopless-few valid (rising-once (is .rising)) (is .no-loop)
 
   -- Trees have at most 255 entries each.
   pub entries-few : (trees : List Tree) → ((t : Tree) → t ∈ trees → IsTree g t) → length (entryEdges trees) ≤ 255 * length trees

@@ -7,10 +7,12 @@ pub mod InOrder
 pub mod InOrderWithin
 -- sums over appended, filtered and contained lists
 pub mod Sums
--- filters of a list that no element passes, of two lists, of a mapped list
+-- filters of a list that no element or every one passes, of two lists, of a mapped list
 pub mod Filters
 -- the first element that passes a test
 pub mod First
+-- what is found first stands in the list and passes; where all fail there is none
+pub mod FirstFound
 -- the list without a number
 pub mod Without
 -- the sum without a number
@@ -64,6 +66,8 @@ pub mod SameTests
 -- numbers that pass one of two tests, and numbers that pass both
 pub mod EitherBoth
 -- one of a kind for each number below a bound
+pub mod EachChosen
+-- lists made for the chosen numbers below a bound, and joined
 pub mod Chosen
 -- what stands at a place, and the place of what stands in a list
 pub mod Places

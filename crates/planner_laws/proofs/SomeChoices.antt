@@ -6,7 +6,7 @@ use mathlib.Core.Bool.{Bool, true, false, true≢false}
 use mathlib.Core.List.{List, []}
 use lib.ListN.{length, getD}
 use Rattle.lists.specs.Member.{_∈_}
-use Rattle.lists.proofs.Chosen.{each-chosen}
+use Rattle.lists.proofs.EachChosen.{each-chosen}
 use Rattle.lists.proofs.Places.{at-place}
 use Rattle.graph.specs.Graph.{Graph}
 use Rattle.graph.specs.Valid.{Valid}

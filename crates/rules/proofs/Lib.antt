@@ -1,6 +1,8 @@
 -- Laws of document 01's definitions that the theorems of the crates above share.
 -- walks and linked vertices
 pub mod Linked
+-- edges that are linked to a vertex: those of a walk, those of a tree
+pub mod Joined
 -- the vertices listed for a tree are those that it covers
 pub mod TreeVertices
 -- fields of two bytes, written and read
