@@ -5,12 +5,12 @@
 use Prim.Native.Nat.{ℕ}
 use mathlib.Core.Path.{_≡_, refl, sym}
 use mathlib.Core.List.{List, [], _∷_, _++_, List·Memᴰ·head, List·Memᴰ·tail, List·Memᴰ·not-nil}
-use mathlib.Core.Logic.{_⊎_, inl, inr, _↔_}
+use mathlib.Core.Logic.{_↔_}
+use native.Mathlib.Decide.{ℕ-discrete}
 use Rattle.lists.specs.Lists.{without}
 use Rattle.lists.specs.Member.{_∈_}
 use Rattle.lists.proofs.Without.{without-other, without-first, without-within}
 use Rattle.lists.proofs.InOrder.{none, next, Once}
-use Rattle.lists.proofs.Below.{equal-or-not}
 use Rattle.graph.specs.Graph.{Graph, oneEnd, otherEnd}
 use Rattle.rules.specs.Walk.{Linked}
 use Rattle.rules.specs.Labels.{Labels, apart, mergeEdge, mergeAll}
@@ -60,12 +60,12 @@ module _ {g : Graph} where
   all-kept-apart : {P : Labels} {E : List ℕ} {e : ℕ} → AllKept g P E → e ∈ E → JoinsEnds g (mergeAll g P (without e E)) e → ⊥
   unfolding mergeAll
   all-kept-apart all-none m q = List·Memᴰ·not-nil m
-  all-kept-apart {e = e} (all-next {P = P} {e = x} {E = E} p k) m q = go (equal-or-not e x) (λ n t. all-kept-apart k n t) m
+  all-kept-apart {e = e} (all-next {P = P} {e = x} {E = E} p k) m q = go (ℕ-discrete e x) (λ n t. all-kept-apart k n t) m
     where
-      go : (e ≡ x) ⊎ (e ≡ x → ⊥) → (e ∈ E → JoinsEnds g (mergeAll g (mergeEdge g P x) (without e E)) e → ⊥) → e ∈ (x ∷ E) → ⊥
-      go (inl d) ih n = first-apart (all-next p k) (rw (← d) (merged-monotone g P P (without e (x ∷ E)) E (λ u v r. r) (λ f r. without-first e x E d r) (oneEnd g e) (otherEnd g e) q))
-      go (inr d) ih (List·Memᴰ·head r) = d r
-      go (inr d) ih (List·Memᴰ·tail n) = ih n (rw (without-other e x E d) at q)
+      go : Dec (e ≡ x) → (e ∈ E → JoinsEnds g (mergeAll g (mergeEdge g P x) (without e E)) e → ⊥) → e ∈ (x ∷ E) → ⊥
+      go (yes d) ih n = first-apart (all-next p k) (rw (← d) (merged-monotone g P P (without e (x ∷ E)) E (λ u v r. r) (λ f r. without-first e x E d r) (oneEnd g e) (otherEnd g e) q))
+      go (no d) ih (List·Memᴰ·head r) = d r
+      go (no d) ih (List·Memᴰ·tail n) = ih n (rw (without-other e x E d) at q)
 
   -- where the others join no edge's ends, and no edge is there twice, all are kept
   apart-all-kept : (P : Labels) {E : List ℕ} → Once E → ((e : ℕ) → e ∈ E → JoinsEnds g (mergeAll g P (without e E)) e → ⊥) → AllKept g P E
