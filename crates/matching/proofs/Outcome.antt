@@ -1,14 +1,14 @@
 -- What a search's two ends come to: part i has a root that is allowed, and with the last part there is an assignment;
 -- or the parts reached are a deficient set.
 -- Assumes nothing.
-use Prim.Native.Nat.{ℕ, _+_, _-_, _<_, _≤_}
+use Prim.Native.Nat.{ℕ, _+_, _<_, _≤_}
 use mathlib.Core.Path.{_≡_, _∙_, sym, ap}
 use mathlib.Core.Logic.{⊎-elim}
 use mathlib.Core.Bool.{Bool, true, _&&_}
 use mathlib.Core.List.{List}
 use native.Mathlib.Omega.{arith}
-use lib.ListN.{length, getD, take, drop}
-use lib.Seq.{getD-take, length-take-le, drop-drop}
+use lib.ListN.{length, getD, take}
+use lib.Seq.{getD-take, length-take-le}
 use borrow.Author.Tests.{eqb-true, eq-eqb}
 use Rattle.lists.specs.Count.{count, anyBelow}
 use Rattle.lists.proofs.Every.{first-true, second-true}
@@ -18,13 +18,6 @@ use Rattle.lists.proofs.Pigeonhole.{count-into-missing}
 use Rattle.matching.specs.Assignment.{IsAssignment, IsDeficient, marked}
 use Rattle.matching.specs.Marks.{Marks}
 use Rattle.matching.specs.State.{none, Mirror, May, Edges, Closed, Exchanged}
-
--- What is the same past n is the same past more.
-pub drop-past : (n m : ℕ) (a b : List ℕ) → n ≤ m → drop n a ≡ drop n b → drop m a ≡ drop m b
-drop-past n m a b l e = sym (drop-more a) ∙ ap (drop (m - n)) e ∙ drop-more b
-  where
-    drop-more : (x : List ℕ) → drop (m - n) (drop n x) ≡ drop m x
-    drop-more x = let q : n + (m - n) ≡ m = omega arith in drop-drop (m - n) n x ∙ ap (λ k. drop k x) q
 
 -- The parts that a search has reached are parts.
 pub closed-part : {p y i t : ℕ} {allowed : ℕ → ℕ → Bool} {owner parts : List ℕ} → Closed y allowed i owner parts t → i < p → (a : ℕ) → a < t → getD parts a 0 < p
