@@ -25,7 +25,8 @@ closed-part {p} {t = t} {parts = parts} closed is-part a h =
     at-or-not (λ x. x < t → getD parts x 0 < p) 0 a (λ _. omega (arith, closed .first)) (λ ne h. omega (arith, closed .behind a (omega arith) h)) h
 
 -- After the exchange each part's root is allowed to it: it had the root before, or has reached it.
-pub exchanged-may : {i : ℕ} (y : ℕ) (allowed : ℕ → ℕ → Bool) {parts from before owner after : List ℕ} → Exchanged i parts from before owner after → Edges y allowed parts from → May y allowed i before → May y allowed (i + 1) after
+pub exchanged-may : {i : ℕ} (y : ℕ) (allowed : ℕ → ℕ → Bool) {parts from before owner after : List ℕ} → Exchanged i parts from before owner after
+    → Edges y allowed parts from → May y allowed i before → May y allowed (i + 1) after
 exchanged-may y allowed {after = after} e edges may k h =
     ⊎-elim
     (λ had. rw (had .1) (may k (had .0)))
@@ -33,7 +34,8 @@ exchanged-may y allowed {after = after} e edges may k h =
     (e .by k h)
 
 -- Once all p parts have roots, these are an assignment.
-pub mirror-assignment : {p y : ℕ} (allowed : ℕ → ℕ → Bool) {owner roots : List ℕ} → Mirror p owner roots → May y allowed p roots → p ≤ length roots → IsAssignment p y allowed (take p roots)
+pub mirror-assignment : {p y : ℕ} (allowed : ℕ → ℕ → Bool) {owner roots : List ℕ} → Mirror p owner roots → May y allowed p roots → p ≤ length roots
+    → IsAssignment p y allowed (take p roots)
 mirror-assignment {p} {y} allowed {owner} {roots} mirror may fits =
     let at : (k : ℕ) → k < p → getD (take p roots) k 0 ≡ getD roots k 0 = λ k h. getD-take p roots k 0 h in
     record {
@@ -44,7 +46,9 @@ mirror-assignment {p} {y} allowed {owner} {roots} mirror may fits =
     }
 
 -- The parts reached, where each root allowed to one of them is that of one behind the first.
-module _ {p y i t : ℕ} {allowed : ℕ → ℕ → Bool} {owner parts roots before after : List ℕ} (closed : Closed y allowed i owner parts t) (mirror : Mirror i owner roots) (marks : Marks p t parts before after) (few : y ≤ 32) (is-part : i < p) (parts-few : p ≤ none) (fits : p ≤ length after) where
+module _ {p y i t : ℕ} {allowed : ℕ → ℕ → Bool} {owner parts roots before after : List ℕ}
+    (closed : Closed y allowed i owner parts t) (mirror : Mirror i owner roots) (marks : Marks p t parts before after)
+    (few : y ≤ 32) (is-part : i < p) (parts-few : p ≤ none) (fits : p ≤ length after) where
   one-of : (k : ℕ) → k < p → marked (take p after) k ≡ true → getD after k 0 ≡ 1
   one-of k h m = sym (getD-take p after k 0 h) ∙ eqb-true (getD (take p after) k 0) 1 m
 
