@@ -7,4 +7,5 @@ pub mod read;
 pub mod starts;
 pub mod trees;
 pub mod vertices;
+mod wide;
 pub mod write;
