@@ -9,7 +9,7 @@ use native.Mathlib.Omega.{arith}
 use Rattle.lists.specs.Count.{from, below}
 use Rattle.lists.specs.Member.{_∈_, Rising, none, next}
 
--- two numbers are equal or not
+-- two numbers are equal or not: `ℕ-discrete`, as a sum
 pub equal-or-not : (m n : ℕ) → (m ≡ n) ⊎ (m ≡ n → ⊥)
 equal-or-not m n = dite (ℕ-discrete m n) inl inr
 

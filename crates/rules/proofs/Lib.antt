@@ -3,8 +3,6 @@
 pub mod Linked
 -- fields of two bytes, written and read
 pub mod Fields
--- numbers that are tried one after the other
-pub mod Faults
 -- the graph's bytes are not refused exactly where they are a graph's
 pub mod SheetRight
 -- the choices of the starred rows are allowed ones

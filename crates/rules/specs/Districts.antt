@@ -25,7 +25,7 @@ use Rattle.rules.specs.Distance as Distance
 use Rattle.rules.specs.RootedTrial as RootedTrial
 use Rattle.rules.specs.UnrootedTrial as UnrootedTrial
 use Rattle.rules.specs.Search as Search
-use Rattle.rules.specs.Fault as Fault
+use Rattle.graph.specs.Fault as Fault
 use Rattle.rules.specs.CheckCover as CheckCover
 use Rattle.rules.specs.Questions as Questions
 
@@ -71,7 +71,7 @@ unfolding headD
     Count.count Count.anyBelow Count.from Count.below
     Lists.filter Lists.any Lists.all Lists.firstThat Lists.flat Lists.sumOf Lists.largest Lists.member Lists.without
     Sort.insertBy Sort.sortBy Sort.rise
-    Bytes.u16At Bytes.u32At Bytes.edgeIn Bytes.edgesHeld Bytes.graphOf Check.checkEdge Check.checkEdges Check.checkOf
+    Bytes.u16At Bytes.u32At Bytes.edgeIn Bytes.edgesHeld Bytes.graphOf Check.edgeFault Check.edgesFault Check.headFault Check.checkOf
     Assignable.assignable
     Walk.totalWeight Cover.treeWeight Cover.heaviest
     CoverBytes.treeIn CoverBytes.decode

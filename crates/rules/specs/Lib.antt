@@ -30,8 +30,6 @@ pub mod UnrootedTrial
 -- "The best limit":
 pub mod Search
 -- "Who causes which number":
--- numbers, tried one after the other
-pub mod Fault
 -- the check of a filed cover
 pub mod CheckCover
 -- the questions, from bytes to replies
