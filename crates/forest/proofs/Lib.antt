@@ -7,6 +7,8 @@ pub mod KeptOneByOne
 pub mod LowestVertices
 -- the edges within a limit
 pub mod WithinLimit
+-- the forest of a trial is what keeping leaves over the order, whole and at a limit
+pub mod TrialForest
 -- what is left of a list from a place on
 pub mod Rest
 -- a list written to the front of an array, element by element
