@@ -10,7 +10,7 @@ use borrow.Author.Tests.{not-true, not-false, eqb-true, eqb-false, eq-eqb, ne-eq
 use Rattle.lists.specs.Put.{OnlyFirst}
 use Rattle.lists.proofs.OnlyFirst.{only-first-none, only-first-on}
 use Rattle.lists.proofs.NextPlace.{rest-next, rest-none}
-use Rattle.lists.proofs.PutOneByOne.{Putting, putting-none, putting-same, putting-more, putting-all, putting-behind}
+use Rattle.lists.proofs.PutOneByOne.{PutSoFar, so-far-none, so-far-same, so-far-more, so-far-all, so-far-behind}
 use Rattle.graph.specs.Graph.{Graph, oneEnd, otherEnd}
 use Rattle.graph.specs.Valid.{Valid}
 use Rattle.graph.proofs.Ranges.{one-end-below, other-end-below}
@@ -62,7 +62,7 @@ module _ {g : Graph} (valid : Valid g) (e : ℕ) {u v : ℕ} (one : u ≡ oneEnd
 pub record TakingFrom (g : Graph) (edges : List ℕ) (i : ℕ) (label₁ kept₀ kept₁ : List ℕ) (r : ℕ) (label : Labels) : Type 0 where
   pub here : Labels
   pub agrees : Agrees (g .vertices) label₁ here
-  pub putting : Putting 0 (keep g label edges) (keep g here (drop i edges)) kept₀ kept₁ r
+  pub so-far : PutSoFar 0 (keep g label edges) (keep g here (drop i edges)) kept₀ kept₁ r
   pub merged : mergeAll g label edges ≡ mergeAll g here (drop i edges)
 
 -- The edges before i were taken.
@@ -81,7 +81,7 @@ module _ {g : Graph} {edges : List ℕ} where
         labels-same = refl;
         kept-same = refl;
         others = only-first-none (g .vertices) array;
-        going = λ label a. record { here = label; agrees = a; putting = putting-none kept 0 (omega arith); merged = refl };
+        going = λ label a. record { here = label; agrees = a; so-far = so-far-none kept 0 (omega arith); merged = refl };
       }
 
   module _ {i : ℕ} {label₀ label₁ kept₀ kept₁ : List ℕ} {r : ℕ} (t : Taking g edges i label₀ label₁ kept₀ kept₁ r) where
@@ -119,8 +119,8 @@ module _ {g : Graph} {edges : List ℕ} where
                   record {
                     here = mergeEdge g here edge;
                     agrees = j .labels here (f .agrees);
-                    putting =
-                        putting-same (f .putting)
+                    so-far =
+                        so-far-same (f .so-far)
                         (ap (keep g here) (rest-next edges i h)
                         ∙ keep-joined g here edge (drop (i + 1) edges) q
                         ∙ ap (λ (l : Labels). keep g l (drop (i + 1) edges)) (sym (edge-joined g here edge q)));
@@ -143,8 +143,8 @@ module _ {g : Graph} {edges : List ℕ} where
                   record {
                     here = mergeEdge g here edge;
                     agrees = j .labels here (f .agrees);
-                    putting =
-                        putting-more (f .putting)
+                    so-far =
+                        so-far-more (f .so-far)
                         (ap (keep g here) (rest-next edges i h) ∙ keep-apart g here edge (drop (i + 1) edges) (were-apart j here (f .agrees)))
                         room;
                     merged = f .merged ∙ merged-on here;
@@ -157,13 +157,13 @@ module _ {g : Graph} {edges : List ℕ} where
       taking-few =
           let own : Labels = λ v. getD label₀ v 0 in
           let f = t .going own (λ v l. refl) in
-          omega (arith, putting-behind (f .putting), kept-few-from valid own edges)
+          omega (arith, so-far-behind (f .so-far), kept-few-from valid own edges)
 
       pub taking-all : length edges ≤ i → i ≤ length edges → KeptWritten g edges label₀ label₁ kept₀ kept₁ r
       unfolding keep mergeAll
       taking-all h k =
           record {
-            edges-are = λ label a. let f = t .going label a in putting-all (f .putting) (ap (keep g (f .here)) (rest-none edges i h));
+            edges-are = λ label a. let f = t .going label a in so-far-all (f .so-far) (ap (keep g (f .here)) (rest-none edges i h));
             labels = λ label a. let f = t .going label a in rw (f .merged ∙ ap (mergeAll g (f .here)) (rest-none edges i h)) (f .agrees);
             others = t .others;
             few = omega arith;

@@ -11,7 +11,7 @@ use lib.ListN.{length, getD, set, length-set}
 use Rattle.lists.specs.Count.{anyBelow}
 use Rattle.lists.specs.Lists.{filter, firstThat}
 use Rattle.lists.proofs.NextPlace.{belowFrom, numbers-all, numbers-next, numbers-none, filter-taken, filter-passed, any-below-next}
-use Rattle.lists.proofs.PutOneByOne.{Putting, putting-none, putting-same, putting-more, putting-all}
+use Rattle.lists.proofs.PutOneByOne.{PutSoFar, so-far-none, so-far-same, so-far-more, so-far-all}
 use Rattle.rules.specs.Labels.{Labels, joined}
 use Rattle.rules.specs.Forest.{unjoined, lowest}
 use Rattle.forest.specs.Arrays.{Agrees}
@@ -93,12 +93,12 @@ pub record Listing (array : List ℕ) (n v : ℕ) (before after : List ℕ) (r :
   pub few : r ≤ v
   pub within : v ≤ n
   pub same : length after ≡ length before
-  pub putting : (label : Labels) → Agrees n array label
-      → Putting 0 (filter (isLowest label) (belowFrom n 0)) (filter (isLowest label) (belowFrom n v)) before after r
+  pub so-far : (label : Labels) → Agrees n array label
+      → PutSoFar 0 (filter (isLowest label) (belowFrom n 0)) (filter (isLowest label) (belowFrom n v)) before after r
 
 module _ {array : List ℕ} {n : ℕ} where
   pub listing-none : (before : List ℕ) → Listing array n 0 before before 0
-  listing-none before = record { few = omega arith; within = omega arith; same = refl; putting = λ label a. putting-none before 0 (omega arith) }
+  listing-none before = record { few = omega arith; within = omega arith; same = refl; so-far = λ label a. so-far-none before 0 (omega arith) }
 
   module _ {v : ℕ} {before after : List ℕ} {r : ℕ} (l : Listing array n v before after r) where
     module _ (h : v < n) where
@@ -108,9 +108,9 @@ module _ {array : List ℕ} {n : ℕ} where
             few = omega arith;
             within = omega arith;
             same = l .same;
-            putting =
+            so-far =
                 λ label a.
-                putting-same (l .putting label a)
+                so-far-same (l .so-far label a)
                 (filter-passed (isLowest label) (numbers-next n v h) (ap not (sym (j .is n label h a))));
           }
 
@@ -120,9 +120,9 @@ module _ {array : List ℕ} {n : ℕ} where
             few = omega arith;
             within = omega arith;
             same = length-set after r v ∙ l .same;
-            putting =
+            so-far =
                 λ label a.
-                putting-more (l .putting label a)
+                so-far-more (l .so-far label a)
                 (filter-taken (isLowest label) (numbers-next n v h) (ap not (sym (j .is n label h a)))) room;
           }
 
@@ -131,5 +131,5 @@ module _ {array : List ℕ} {n : ℕ} where
     listing-all h =
         record {
           few = omega arith;
-          are = λ g label vertices a. rw (vertices, numbers-all n) (putting-all (l .putting label a) (rw (numbers-none n v h)));
+          are = λ g label vertices a. rw (vertices, numbers-all n) (so-far-all (l .so-far label a) (rw (numbers-none n v h)));
         }

@@ -13,7 +13,7 @@ use Rattle.lists.specs.Lists.{filter}
 use Rattle.lists.specs.Member.{_∈_}
 use Rattle.lists.proofs.Filters.{filter-none}
 use Rattle.lists.proofs.NextPlace.{rest-next, rest-none, filter-taken, filter-passed}
-use Rattle.lists.proofs.PutOneByOne.{Putting, putting-none, putting-same, putting-more, putting-all}
+use Rattle.lists.proofs.PutOneByOne.{PutSoFar, so-far-none, so-far-same, so-far-more, so-far-all}
 use Rattle.lists.proofs.InOrder.{first-before, rest-in-order}
 use Rattle.graph.specs.Graph.{Graph, weightOf}
 use Rattle.rules.specs.Order.{ByWeight}
@@ -71,11 +71,11 @@ module _ {g : Graph} {limit : ℕ} {edges : List ℕ} where
 pub record Sifting (g : Graph) (limit : ℕ) (edges : List ℕ) (i : ℕ) (before after : List ℕ) (r : ℕ) : Type 0 where
   pub few : r ≤ i
   pub within : i ≤ length edges
-  pub putting : Putting 0 (lightOf g limit edges) (lightOf g limit (drop i edges)) before after r
+  pub so-far : PutSoFar 0 (lightOf g limit edges) (lightOf g limit (drop i edges)) before after r
 
 module _ {g : Graph} {limit : ℕ} {edges : List ℕ} where
   pub sifting-none : (before : List ℕ) → Sifting g limit edges 0 before before 0
-  sifting-none before = record { few = omega arith; within = omega arith; putting = putting-none before 0 (omega arith) }
+  sifting-none before = record { few = omega arith; within = omega arith; so-far = so-far-none before 0 (omega arith) }
 
   module _ {i : ℕ} {before after : List ℕ} {r : ℕ} (s : Sifting g limit edges i before after r) where
     module _ (h : i < length edges) where
@@ -84,8 +84,8 @@ module _ {g : Graph} {limit : ℕ} {edges : List ℕ} where
           record {
             few = omega arith;
             within = omega arith;
-            putting =
-                putting-same (s .putting)
+            so-far =
+                so-far-same (s .so-far)
                 (filter-passed (λ e. leb (weightOf g e) limit) (rest-next edges i h) (lt-leb (weightOf g (getD edges i 0)) limit heavy));
           }
 
@@ -94,11 +94,11 @@ module _ {g : Graph} {limit : ℕ} {edges : List ℕ} where
           record {
             few = omega arith;
             within = omega arith;
-            putting =
-                putting-more (s .putting)
+            so-far =
+                so-far-more (s .so-far)
                 (filter-taken (λ e. leb (weightOf g e) limit) (rest-next edges i h) (le-leb (weightOf g (getD edges i 0)) limit light)) room;
           }
 
     pub sifting-all : length edges ≤ i → LightWritten g limit edges before after r
     unfolding filter
-    sifting-all h = record { few = omega arith; edges-are = putting-all (s .putting) (ap (lightOf g limit) (rest-none edges i h)) }
+    sifting-all h = record { few = omega arith; edges-are = so-far-all (s .so-far) (ap (lightOf g limit) (rest-none edges i h)) }

@@ -28,7 +28,7 @@ fn order_light(b: &[u8], limit: u64, order: &mut [u16], spare: &mut [u16]) -> us
 
 // Keeps edges of those given, from the roots joined, and prints them in the order of keeping. Says how many.
 fn print_kept(b: &[u8], roots: &[u16], edges: &[u16], label: &mut [u16], kept: &mut [u16]) -> usize
-    requires { ⌜ Keepable (now b) (now edges) (now label) (now kept) ⌝ }
+    requires { ⌜ Keepable (now b) (now label) (now kept) ⌝ }
     ensures { λ r. ⌜ r ≤ length (now (edges .entry)) ⌝ }
 {
     start_labels(roots, graph::vertex_count(b), label);
