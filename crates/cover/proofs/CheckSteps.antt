@@ -13,7 +13,7 @@ use Rattle.lists.proofs.Runs.{length-below}
 use Rattle.graph.specs.Graph.{Graph, edgeCount}
 use Rattle.graph.specs.Bytes.{graphOf}
 use Rattle.graph.specs.Check as sheet
-use Rattle.rules.specs.Fault.{Fault, faultIf, faultUnless, firstFault, refusedOr}
+use Rattle.graph.specs.Fault.{Fault, faultIf, faultUnless, firstFault, refusedOr}
 use Rattle.rules.specs.Cover.{Crews, heaviest}
 use Rattle.rules.specs.CoverBytes.{coverLength, decode}
 use Rattle.rules.specs.CheckCover.{startsRight, startsBelow, entriesRight, treesRight, verticesCovered, coverFault}

@@ -9,7 +9,7 @@ use mathlib.Core.Option.{some, none}
 use Rattle.lists.specs.Count.{below}
 use Rattle.graph.specs.Graph.{Graph}
 use Rattle.graph.specs.Check.{numberOf}
-use Rattle.rules.specs.Fault.{Fault, faultUnless, firstFault, refusedOr}
+use Rattle.graph.specs.Fault.{Fault, faultUnless, firstFault, refusedOr}
 use Rattle.rules.specs.Cover as cover
 use Rattle.rules.specs.CoverBytes.{decode}
 use Rattle.rules.specs.CheckCover.{treesRight, verticesCovered}

@@ -9,7 +9,7 @@ use mathlib.Core.Option.{some, none}
 use native.Mathlib.Omega.{arith}
 use Rattle.graph.specs.Graph.{Graph}
 use Rattle.graph.specs.Bytes.{graphOf}
-use Rattle.rules.specs.Fault.{Fault, firstFault, refusedOr}
+use Rattle.graph.specs.Fault.{Fault, firstFault, refusedOr}
 use Rattle.rules.specs.Cover.{Crews, heaviest}
 use Rattle.rules.specs.CoverBytes.{decode}
 use Rattle.rules.specs.CheckCover.{coverFault}
@@ -17,7 +17,7 @@ use Rattle.rules.specs.Reply.{Verdict, number}
 use Rattle.rules.specs.Questions.{sheetFault, crewFault, askCheck}
 use Rattle.rules.specs.Filed.{Filed}
 use Rattle.rules.proofs.Fields.{Bytes}
-use Rattle.rules.proofs.Faults.{quiet-each, first-quiet, none-quiet}
+use Rattle.graph.proofs.Faults.{quiet-each, first-quiet, none-quiet}
 use Rattle.rules.proofs.SheetRight.{sheet-right}
 use Rattle.cover_laws.proofs.CheckedCovers.{heaviest-read, checked-covers}
 

@@ -19,7 +19,7 @@ use Rattle.graph.specs.Valid.{Valid}
 use Rattle.rules.specs.Cover.{Tree, IsTree, Crews, rooted, unrooted, Starts, IsCover}
 use Rattle.rules.specs.CoverBytes.{entryEdges, encode}
 use Rattle.rules.specs.Questions.{crewCount, tooManyRoots, crewFault}
-use Rattle.rules.proofs.Faults.{quiet-if}
+use Rattle.graph.proofs.Faults.{quiet-if}
 use Rattle.forest_laws.proofs.FewForest.{loopless-few}
 use Rattle.cover_laws.proofs.Writing.{Fits, length-encode}
 

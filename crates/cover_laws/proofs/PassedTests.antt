@@ -12,11 +12,11 @@ use borrow.Author.Tests.{eqb-true, le-leb, eq-eqb}
 use Rattle.lists.specs.Member.{_∈_}
 use Rattle.lists.proofs.Every.{both-true, first-true, second-true}
 use Rattle.graph.specs.Graph.{Graph, edgeCount}
-use Rattle.rules.specs.Fault.{Fault, faultUnless}
+use Rattle.graph.specs.Fault.{Fault, faultUnless}
 use Rattle.rules.specs.Cover.{Crews}
 use Rattle.rules.specs.CoverBytes.{coverLength, decode}
 use Rattle.rules.specs.CheckCover.{startsRight, startsBelow, entriesRight, treesRight, verticesCovered, coverFault}
-use Rattle.rules.proofs.Faults.{quiet-unless, unless-quiet, quiet-each, first-quiet, none-quiet}
+use Rattle.graph.proofs.Faults.{quiet-unless, unless-quiet, quiet-each, first-quiet, none-quiet}
 
 -- All tests say yes.
 pub record Passed (g : Graph) (crews : Crews) (b : List ℕ) : Type 0 where

@@ -35,7 +35,10 @@ module _ {whole : List ℕ} where
           so-far =
               record {
                 count = rw length-append (omega (arith, w .so-far .count));
-                all = ap (λ l. set l r x) (w .so-far .all ∙ ap (λ l. done ++ l) (rest-next before r (omega arith))) ∙ set-at done (getD before r 0) (drop (r + 1) before) x r (sym (w .so-far .count)) ∙ sym (append-assoc done (x ∷ []) (drop (r + 1) before));
+                all =
+                    ap (λ l. set l r x) (w .so-far .all ∙ ap (λ l. done ++ l) (rest-next before r (omega arith)))
+                    ∙ set-at done (getD before r 0) (drop (r + 1) before) x r (sym (w .so-far .count))
+                    ∙ sym (append-assoc done (x ∷ []) (drop (r + 1) before));
               };
           whole-is = w .whole-is ∙ ap (λ l. done ++ l) q ∙ sym (append-assoc done (x ∷ []) other);
           same = length-set after r x ∙ w .same;

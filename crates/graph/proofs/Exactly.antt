@@ -2,90 +2,93 @@
 -- valid graph's bytes it says yes.
 -- Assumes nothing.
 use Prim.Native.Nat.{ℕ, zero, suc, _+_, _≤_, _<_}
-use mathlib.Core.Path.{_≡_, refl, sym, _∙_}
+use mathlib.Core.Path.{_≡_, refl, sym, ap, _∙_}
 use mathlib.Core.Logic.{_↔_}
-use mathlib.Core.Bool.{Bool, true, false, not, _||_}
-use mathlib.Core.List.{List}
+use mathlib.Core.Bool.{Bool, false, not, _||_}
+use mathlib.Core.List.{List, List·Memᴰ·head, List·Memᴰ·tail}
+use mathlib.Core.Option.{some, none}
 use native.Mathlib.Numerals.{add-one}
 use native.Mathlib.Omega.{arith}
 use lib.ListN.{length}
 use lib.Dec.{ltb, leb, eqb}
 use borrow.Author.Tests.{ltb-false, leb-false, eqb-true, eqb-false, not-false}
+use Rattle.lists.proofs.Every.{first-false, second-false}
 use Rattle.graph.specs.Graph.{Edge, Graph, edgeCount, edgeAt}
 use Rattle.graph.specs.Bytes.{verticesIn, edgesIn, lengthFor, graphOf}
-use Rattle.graph.specs.Check.{Answer, yes, number, refuse, checkEdge, checkAll, checkOf}
+use Rattle.graph.specs.Fault.{Fault, faultIf, refusedOr}
+use Rattle.graph.specs.Check.{yes, number, edgeFault, headFault, answerTo, checkOf}
 use Rattle.graph.specs.Valid.{ValidEdge, IsGraph, Counted}
 use Rattle.graph.proofs.Decoded.{vertices-head, edges-sized}
-use Rattle.graph.proofs.Steps.{checkFrom, check-next, check-done, edge-passed, head-passed}
+use Rattle.graph.proofs.Faults.{quiet-if, quiet-each}
+use Rattle.graph.proofs.Steps.{faultFrom, fault-later, fault-done, none-here, edge-passed, head-passed, edges-decide}
 
--- A test that stood before a yes was false, and what came after it said yes.
-passed : (t : Bool) (k : ℕ) {n m : ℕ} (rest : Answer) → refuse t k rest ≡ yes n m → (t ≡ false) × (rest ≡ yes n m)
-passed true k rest q = let z : _≡_ {A = ℕ} 0 1 = cc in absurd (omega arith)
-passed false k rest q = (refl, q)
+-- Where a test by `||` refuses nothing, both say no.
+quiet-both : (s t : Bool) (k : ℕ) → faultIf (s || t) k ≡ none → (s ≡ false) × (t ≡ false)
+quiet-both s t k q = let r = quiet-if (s || t) k q in (first-false s t r, second-false s t r)
 
-passed-both : (s t : Bool) (k : ℕ) {n m : ℕ} (rest : Answer) → refuse (s || t) k rest ≡ yes n m → (s ≡ false) × (t ≡ false) × (rest ≡ yes n m)
-passed-both true t k rest q = let z : _≡_ {A = ℕ} 0 1 = cc in absurd (omega arith)
-passed-both false t k rest q = let p = passed t k rest q in (refl, p .0, p .1)
+-- An edge without fault is valid.
+edge-valid : (n : ℕ) (x : Edge) → edgeFault n x ≡ none → ValidEdge n x
+unfolding edgeFault
+edge-valid n x q =
+    let ends = quiet-both (leb n (x .one)) (leb n (x .other)) 14 (quiet-each _ q (List·Memᴰ·head refl)) in
+    let loop = quiet-if (eqb (x .one) (x .other)) 15 (quiet-each _ q (List·Memᴰ·tail (List·Memᴰ·head refl))) in
+    let range = quiet-both (eqb (x .weight) 0) (ltb 1000000 (x .weight)) 16 (quiet-each _ q (List·Memᴰ·tail (List·Memᴰ·tail (List·Memᴰ·head refl)))) in
+    record {
+      one-end = leb-false n (x .one) (ends .0);
+      other-end = leb-false n (x .other) (ends .1);
+      no-loop = eqb-false (x .one) (x .other) loop;
+      weight-some = omega (arith, eqb-false (x .weight) 0 (range .0));
+      weight-most = ltb-false 1000000 (x .weight) (range .1);
+    }
 
--- An edge before a yes is valid, and what came after it said yes.
-edge-valid : (n : ℕ) (x : Edge) {i j : ℕ} (rest : Answer) → checkEdge n x rest ≡ yes i j → ValidEdge n x × (rest ≡ yes i j)
-unfolding checkEdge
-edge-valid n x rest q =
-    let ends = passed-both (leb n (x .one)) (leb n (x .other)) 14 _ q in
-    let loop = passed (eqb (x .one) (x .other)) 15 _ (ends .2) in
-    let range = passed-both (eqb (x .weight) 0) (ltb 1000000 (x .weight)) 16 rest (loop .1) in (
-      record {
-        one-end = leb-false n (x .one) (ends .0);
-        other-end = leb-false n (x .other) (ends .1);
-        no-loop = eqb-false (x .one) (x .other) (loop .0);
-        weight-some = omega (arith, eqb-false (x .weight) 0 (range .0));
-        weight-most = ltb-false 1000000 (x .weight) (range .1);
-      },
-      range .2,
-    )
-
--- The edges of a graph: after a yes each is valid, and the counts of the yes are the graph's; and where each is valid, the check says yes.
+-- The edges of a graph have no fault exactly where each is valid.
 module _ (g : Graph) where
-  module _ {n m : ℕ} (q : checkAll g ≡ yes n m) where
-    yes-from : (e : ℕ) → e ≤ edgeCount g → checkFrom g e ≡ yes n m
-    yes-from zero h = q
-    yes-from (suc e) h =
-        rw add-one at (edge-valid (g .vertices) (edgeAt g e) _ (sym (check-next g e h) ∙ yes-from e (omega arith)) .1)
+  module _ (q : faultFrom g 0 ≡ none) where
+    none-from : (e : ℕ) → e ≤ edgeCount g → faultFrom g e ≡ none
+    none-from zero h = q
+    none-from (suc e) h =
+        let before = none-from e (omega arith) in
+        rw add-one at (sym (fault-later g e h (none-here g e h before)) ∙ before)
 
     edges-valid : (e : ℕ) → e < edgeCount g → ValidEdge (g .vertices) (edgeAt g e)
-    edges-valid e h = edge-valid (g .vertices) (edgeAt g e) _ (sym (check-next g e h) ∙ yes-from e (omega arith)) .0
+    edges-valid e h = edge-valid (g .vertices) (edgeAt g e) (none-here g e h (none-from e (omega arith)))
 
-    counts-are : yes n m ≡ yes (g .vertices) (edgeCount g)
-    counts-are = sym (yes-from (edgeCount g) (omega arith)) ∙ check-done g (edgeCount g) (omega arith)
+  valid-none : ((e : ℕ) → e < edgeCount g → ValidEdge (g .vertices) (edgeAt g e)) → (k e : ℕ) → k + e ≡ edgeCount g → faultFrom g e ≡ none
+  valid-none v zero e q = fault-done g e (omega arith)
+  valid-none v (suc k) e q =
+      fault-later g e (omega arith) (edge-passed (g .vertices) (edgeAt g e) (v e (omega arith)))
+      ∙ valid-none v k (e + 1) (omega arith)
 
-  valid-yes : ((e : ℕ) → e < edgeCount g → ValidEdge (g .vertices) (edgeAt g e)) → (k e : ℕ) → k + e ≡ edgeCount g
-      → checkFrom g e ≡ yes (g .vertices) (edgeCount g)
-  valid-yes v zero e q = check-done g e (omega arith)
-  valid-yes v (suc k) e q =
-      check-next g e (omega arith)
-      ∙ edge-passed (g .vertices) (edgeAt g e) _ (v e (omega arith))
-      ∙ valid-yes v k (e + 1) (omega arith)
+-- An answer is yes exactly where there is no fault, with the graph's counts.
+no-fault : (g : Graph) (f : Fault) {n m : ℕ} → answerTo g f ≡ yes n m → (f ≡ none) × (yes (g .vertices) (edgeCount g) ≡ yes n m)
+unfolding refusedOr
+no-fault g none q = (refl, q)
+no-fault g (some k) q = let z : _≡_ {A = ℕ} 0 1 = cc in absurd (omega arith)
 
 module _ (b : List ℕ) where
+  abbrev g : Graph
+  g = graphOf b
+
   -- To a graph's bytes the check says yes, with the graph's counts.
-  pub graph-yes : IsGraph b → checkOf b ≡ yes (graphOf b .vertices) (edgeCount (graphOf b))
+  pub graph-yes : IsGraph b → checkOf b ≡ yes (g .vertices) (edgeCount g)
+  unfolding refusedOr
   graph-yes h =
-      let g = graphOf b in
       let v = h .valid in
       let n = vertices-head b in
       let m = edges-sized b (h .sized) in
-      head-passed b (h .sized) (omega arith) (omega arith) (omega arith)
-      ∙ valid-yes g (v .each-edge) (edgeCount g) 0 (omega arith)
+      sym (edges-decide b (head-passed b (h .sized) (omega arith) (omega arith) (omega arith)))
+      ∙ ap (answerTo g) (valid-none g (v .each-edge) (edgeCount g) 0 (omega arith))
 
   -- What the check says yes to is a graph's bytes, of the counts that it says.
   pub yes-graph : {n m : ℕ} → checkOf b ≡ yes n m → Counted b n m
-  unfolding checkOf
+  unfolding checkOf headFault
   yes-graph {n} {m} q =
-      let g = graphOf b in
-      let size = passed-both (ltb (length b) 4) (not (eqb (length b) (lengthFor (edgesIn b)))) 11 _ q in
-      let vertices = passed-both (eqb (verticesIn b) 0) (ltb 256 (verticesIn b)) 12 _ (size .2) in
-      let edges = passed (ltb 2048 (edgesIn b)) 13 _ (vertices .2) in
-      let counts = counts-are g (edges .1) in
+      let (none-at-all, counts) = no-fault g _ q in
+      let head = quiet-each _ none-at-all (List·Memᴰ·head refl) in
+      let edges-none = quiet-each _ none-at-all (List·Memᴰ·tail (List·Memᴰ·head refl)) in
+      let size = quiet-both (ltb (length b) 4) (not (eqb (length b) (lengthFor (edgesIn b)))) 11 (quiet-each _ head (List·Memᴰ·head refl)) in
+      let vertices = quiet-both (eqb (verticesIn b) 0) (ltb 256 (verticesIn b)) 12 (quiet-each _ head (List·Memᴰ·tail (List·Memᴰ·head refl))) in
+      let edges = quiet-if (ltb 2048 (edgesIn b)) 13 (quiet-each _ head (List·Memᴰ·tail (List·Memᴰ·tail (List·Memᴰ·head refl)))) in
       let s = eqb-true (length b) (lengthFor (edgesIn b)) (not-false _ (size .1)) in
       record {
         graph =
@@ -95,8 +98,8 @@ module _ (b : List ℕ) where
                   record {
                     vertices-some = omega (arith, vertices-head b, eqb-false (verticesIn b) 0 (vertices .0));
                     vertices-most = omega (arith, vertices-head b, ltb-false 256 (verticesIn b) (vertices .1));
-                    edges-most = omega (arith, edges-sized b s, ltb-false 2048 (edgesIn b) (edges .0));
-                    each-edge = edges-valid g (edges .1);
+                    edges-most = omega (arith, edges-sized b s, ltb-false 2048 (edgesIn b) edges);
+                    each-edge = edges-valid g edges-none;
                   };
             };
         vertices-are = cc;

@@ -3,6 +3,8 @@
 pub mod Fields
 -- the decoded graph: how many edges it has, and each of them field by field
 pub mod Decoded
+-- numbers that are tried one after the other
+pub mod Faults
 -- the check, test by test
 pub mod Steps
 -- the check says yes exactly to graphs

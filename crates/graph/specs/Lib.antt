@@ -3,6 +3,8 @@
 pub mod Graph
 -- the bytes, field by field, and the graph that they spell
 pub mod Bytes
+-- numbers of refusal, tried one after the other
+pub mod Fault
 -- the check of the bytes, with its numbers
 pub mod Check
 -- what a valid graph is, and when bytes are one

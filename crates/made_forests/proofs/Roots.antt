@@ -13,11 +13,11 @@ use Rattle.lists.specs.Count.{below, anyBelow}
 use Rattle.lists.specs.Member.{_∈_}
 use Rattle.lists.proofs.Member.{of-filter}
 use Rattle.lists.proofs.Below.{of-below}
+use Rattle.lists.proofs.Put.{put-taken}
 use Rattle.graph.specs.Graph.{Graph}
 use Rattle.rules.specs.Labels.{Labels, joined}
 use Rattle.rules.specs.Forest.{lowest}
 use Rattle.forest.specs.Lowest.{Components}
-use Rattle.forest.proofs.Writing.{wrote-front}
 use Rattle.made_forests.specs.Asked.{Numbered}
 
 pub numbered-none : (array : List ℕ) → Numbered 0 array
@@ -57,5 +57,5 @@ pub components-inside : (g : Graph) {array before after : List ℕ} {n r : ℕ} 
     → (j : ℕ) → j < length (take r after) → getD (take r after) j 0 < g .vertices
 components-inside g {array} {before} {after} {n} {r} k q j l =
     let label : Labels = λ v. getD array v 0 in
-    let front : take r after ≡ lowest g label = wrote-front (k .are g label q (λ v h. refl)) in
+    let front : take r after ≡ lowest g label = put-taken (k .are g label q (λ v h. refl)) in
     rw front (lowest-inside g label (at-place (lowest g label) j (rw front at l)))

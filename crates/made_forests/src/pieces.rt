@@ -2,6 +2,7 @@
 use crate::text::print_line;
 use crate::text::print_list;
 use crate::text::print_tree;
+use forest::index::wide;
 use forest::keep::keep_edges;
 use forest::labels::start_labels;
 use forest::light::light_count;
@@ -16,13 +17,6 @@ ghost use lib.ListN.{length};
 ghost use Rattle.forest.specs.Keeping.{Keepable};
 ghost use Rattle.made_forests.specs.Asked.{Asked, Orderable, Forestable, Rooted, Cut, Numbered};
 
-// An element as an index.
-fn wide(x: u16) -> usize
-    ensures { λ r. ⌜ r ≡ x ⌝ }
-{
-    x as usize
-}
-
 // Writes the edges within the limit, by weight, then number, to the front of the array. Says how many.
 fn order_light(b: &[u8], limit: u64, order: &mut [u16], spare: &mut [u16]) -> usize
     requires { ⌜ Orderable (now b) (now order) (now spare) ⌝ }
@@ -34,7 +28,7 @@ fn order_light(b: &[u8], limit: u64, order: &mut [u16], spare: &mut [u16]) -> us
 
 // Keeps edges of those given, from the roots joined, and prints them in the order of keeping. Says how many.
 fn print_kept(b: &[u8], roots: &[u16], edges: &[u16], label: &mut [u16], kept: &mut [u16]) -> usize
-    requires { ⌜ Keepable (now b) (now edges) (now label) (now kept) ⌝ }
+    requires { ⌜ Keepable (now b) (now label) (now kept) ⌝ }
     ensures { λ r. ⌜ r ≤ length (now (edges .entry)) ⌝ }
 {
     start_labels(roots, graph::vertex_count(b), label);

@@ -7,8 +7,6 @@ pub mod Joined
 pub mod TreeVertices
 -- fields of two bytes, written and read
 pub mod Fields
--- numbers that are tried one after the other
-pub mod Faults
 -- the graph's bytes are not refused exactly where they are a graph's
 pub mod SheetRight
 -- crews that are not refused fit the graph

@@ -9,7 +9,7 @@ use Rattle.graph.specs.Check.{Answer, yes, number}
 use Rattle.graph.specs.Valid.{IsGraph}
 use Rattle.graph.proofs.Exactly.{yes-graph, graph-yes}
 use Rattle.rules.specs.Questions.{numberIn, sheetFault}
-use Rattle.rules.proofs.Faults.{refuses}
+use Rattle.graph.proofs.Faults.{refuses}
 
 -- Where a check's answer refuses nothing, it is yes with two counts.
 quiet-yes : (a : Answer) → numberIn a ≡ none → (n : ℕ) × (m : ℕ) × (a ≡ yes n m)

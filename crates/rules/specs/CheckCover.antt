@@ -8,7 +8,7 @@ use lib.Dec.{leb, ltb, eqb}
 use Rattle.lists.specs.Count.{below}
 use Rattle.lists.specs.Lists.{any, all, member}
 use Rattle.graph.specs.Graph.{Graph, edgeCount, oneEnd}
-use Rattle.rules.specs.Fault.{Fault, faultUnless, firstFault}
+use Rattle.graph.specs.Fault.{Fault, faultUnless, firstFault}
 use Rattle.rules.specs.Cover.{Tree, Crews, rooted, unrooted}
 use Rattle.rules.specs.CoverBytes.{treesIn, entriesIn, startIn, entryTree, entryEdge, coverLength, decode}
 use Rattle.rules.specs.Labels.{Labels, apart, joined, endsJoined, mergeEdge, mergeAll}

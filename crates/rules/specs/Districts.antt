@@ -25,7 +25,7 @@ use Rattle.rules.specs.Distance as Distance
 use Rattle.rules.specs.RootedTrial as RootedTrial
 use Rattle.rules.specs.UnrootedTrial as UnrootedTrial
 use Rattle.rules.specs.Search as Search
-use Rattle.rules.specs.Fault as Fault
+use Rattle.graph.specs.Fault as Fault
 use Rattle.rules.specs.CheckCover as CheckCover
 use Rattle.rules.specs.Questions as Questions
 
@@ -71,7 +71,7 @@ unfolding headD
     Count.count Count.anyBelow Count.from Count.below
     Lists.filter Lists.any Lists.all Lists.firstThat Lists.flat Lists.sumOf Lists.largest Lists.member Lists.without
     Sort.insertBy Sort.sortBy Sort.rise
-    Bytes.u16At Bytes.u32At Bytes.edgeIn Bytes.edgesHeld Bytes.graphOf Check.checkEdge Check.checkEdges Check.checkOf
+    Bytes.u16At Bytes.u32At Bytes.edgeIn Bytes.edgesHeld Bytes.graphOf Check.edgeFault Check.edgesFault Check.headFault Check.checkOf
     Assignable.assignable
     Walk.totalWeight Cover.treeWeight Cover.heaviest
     CoverBytes.treeIn CoverBytes.decode
@@ -80,13 +80,19 @@ unfolding headD
     Forest.keep Forest.forest Forest.labelsAt Forest.unjoined Forest.lowest
     Grow.branchEdges Grow.farEnd Grow.leadsOn Grow.growChildren Grow.growNode Grow.growFrom Grow.grow
     Split.reaches Split.partAt Split.smallestEdge Split.settle Split.splitAt Split.split Split.allParts
-    Distance.nearer Distance.further Distance.relaxed Distance.distancesIn Distance.distances Distance.isWithin Distance.treeVertices Distance.reachesPart
-    RootedTrial.unjoinedAt RootedTrial.rootedPieces RootedTrial.rootedParts RootedTrial.partOf RootedTrial.mayGo RootedTrial.isAssignable RootedTrial.unionTree RootedTrial.assignedEdges RootedTrial.leftAt RootedTrial.rootedCover RootedTrial.chosenParts RootedTrial.stopOr RootedTrial.rootedTrial
-    UnrootedTrial.components UnrootedTrial.needs UnrootedTrial.needed UnrootedTrial.leftovers UnrootedTrial.fromLowest UnrootedTrial.componentTrees UnrootedTrial.startsBefore UnrootedTrial.unrootedTrees UnrootedTrial.unrootedTrial
+    Distance.nearer Distance.further Distance.relaxed Distance.distancesIn Distance.distances Distance.isWithin Distance.treeVertices
+    Distance.reachesPart
+    RootedTrial.unjoinedAt RootedTrial.rootedPieces RootedTrial.rootedParts RootedTrial.partOf RootedTrial.mayGo RootedTrial.isAssignable
+    RootedTrial.unionTree RootedTrial.assignedEdges RootedTrial.leftAt RootedTrial.rootedCover RootedTrial.chosenParts RootedTrial.stopOr
+    RootedTrial.rootedTrial
+    UnrootedTrial.components UnrootedTrial.needs UnrootedTrial.needed UnrootedTrial.leftovers UnrootedTrial.fromLowest
+    UnrootedTrial.componentTrees UnrootedTrial.startsBefore UnrootedTrial.unrootedTrees UnrootedTrial.unrootedTrial
     Search.nobody Search.accepts Search.trial Search.noCover Search.narrowed Search.searched Search.bestLimit Search.best
     Fault.faultIf Fault.faultUnless Fault.firstFault Fault.refusedOr
-    CheckCover.startsRight CheckCover.startsBelow CheckCover.entryRises CheckCover.entryRight CheckCover.entriesRight CheckCover.loopFree CheckCover.allJoined CheckCover.treesRight CheckCover.verticesCovered CheckCover.coverFault
-    Questions.numberIn Questions.sheetFault Questions.crewCount Questions.tooManyRoots Questions.crewFault Questions.limitFault Questions.roomFault Questions.askTrial Questions.askBest Questions.askCheck
+    CheckCover.startsRight CheckCover.startsBelow CheckCover.entryRises CheckCover.entryRight CheckCover.entriesRight CheckCover.loopFree
+    CheckCover.allJoined CheckCover.treesRight CheckCover.verticesCovered CheckCover.coverFault
+    Questions.numberIn Questions.sheetFault Questions.crewCount Questions.tooManyRoots Questions.crewFault Questions.limitFault
+    Questions.roomFault Questions.askTrial Questions.askBest Questions.askCheck
 answer (trial sheet crews limit c) = reply (askTrial sheet crews limit 32708 c)
 answer (best sheet crews c) = reply (askBest sheet crews 32708 c)
 answer (check sheet crews cover) = verdict (askCheck sheet crews cover)

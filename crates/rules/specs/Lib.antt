@@ -32,8 +32,6 @@ pub mod Search
 -- what the replies mean
 pub mod Meaning
 -- "Who causes which number":
--- numbers, tried one after the other
-pub mod Fault
 -- the check of a filed cover
 pub mod CheckCover
 -- the questions, from bytes to replies

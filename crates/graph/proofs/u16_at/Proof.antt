@@ -8,6 +8,10 @@ use Rattle.graph.proofs.Fields.{byte-past, u16-past}
 use Rattle.graph.proofs.u16_at.Statement.{statement}
 use Rattle.graph.proofs.u16_at.Tie as tie
 
+-- Where the field begins within the bytes: what was asked.
+abbrev start : tie.Else1 → tie.Start
+start t = t .before .before
+
 returns : tie.Need-returns
 returns c = let s = c .before .before .args in omega (arith, u16-past (s .b .now) (s .at) (c .if1 .taken))
 
@@ -22,7 +26,7 @@ wide-requires c κs = search needs
 
 returns-2 : tie.Need-returns-2
 unfolding u16At
-returns-2 c = let s = c .before .before .before .before .before .args in omega (arith, byte-past (s .b .now) (s .at + 1) (omega arith))
+returns-2 c = let s = start (c .before .before .before) .args in omega (arith, byte-past (s .b .now) (s .at + 1) (omega arith))
 
 u16-within-requires : tie.Need-u16-within-requires
 u16-within-requires c κs = search needs

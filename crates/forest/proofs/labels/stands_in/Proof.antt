@@ -16,6 +16,13 @@ Inv-loop list v i₀ i = member v list ≡ member v (drop i list)
 abbrev μ-loop : tie.MeasureT-loop
 μ-loop list v i₀ i = length list - i
 
+-- Where an element is read: the turn, and what was asked.
+abbrev turn : tie.After-wide Inv-loop μ-loop → tie.At-loop Inv-loop μ-loop
+turn k = k .before .before .before
+
+abbrev start : tie.At-loop Inv-loop μ-loop → tie.Start Inv-loop μ-loop
+start t = t .before .before
+
 loop-holds : tie.Need-loop-holds Inv-loop μ-loop
 loop-holds c = refl
 
@@ -30,8 +37,9 @@ wide-requires c κs = search needs
 
 returns : tie.Need-returns Inv-loop μ-loop
 returns c =
-    let a = c .before .before .before .before .before .before .args in
-    let at = c .before .before .before .before .loop in
+    let t = turn (c .before) in
+    let a = start t .args in
+    let at = t .loop in
     sym (at .inv ∙ stands-here (a .v) (a .list .now) (at .i) (omega arith) (omega arith))
 
 add-i : tie.Need-add-i Inv-loop μ-loop
@@ -42,13 +50,14 @@ loop-less c = search needs
 
 loop-again : tie.Need-loop-again Inv-loop μ-loop
 loop-again c =
-    let a = c .before .before .before .before .before .before .args in
-    let at = c .before .before .before .before .loop in
+    let t = turn (c .before) in
+    let a = start t .args in
+    let at = t .loop in
     at .inv ∙ stands-later (a .v) (a .list .now) (at .i) (omega arith) (omega arith)
 
 returns-2 : tie.Need-returns-2 Inv-loop μ-loop
 returns-2 c =
-    let a = c .before .before .before .args in
+    let a = start (c .before) .args in
     let at = c .before .loop in
     sym (at .inv ∙ stands-nowhere (a .v) (a .list .now) (at .i) (omega arith))
 

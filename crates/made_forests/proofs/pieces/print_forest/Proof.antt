@@ -41,11 +41,10 @@ slice-aggregate-print-kept c = sym (length-take-le _ _ (light-room (c .before .b
 
 print-kept-requires : tie.Need-print-kept-requires
 print-kept-requires c κs =
-    let k = c .before .before .before .before .before in
     let s = c .before .before .before .before .before .before .before .before .before .before .before .before .pre in
     record {
       labelable = record { graph = s .graph; room = omega (arith, s .graph .valid .vertices-most, s .label-room) };
-      room = omega (arith, light-length k, k .order-light .ensures, s .kept-room);
+      room = omega (arith, s .graph .valid .vertices-most, s .kept-room);
     }
 
 slice-relend-prefix-rise-edges : tie.Need-slice-relend-prefix-rise-edges

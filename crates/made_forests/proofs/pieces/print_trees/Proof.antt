@@ -21,7 +21,7 @@ module _ (c : tie.After-wide2 Inv-loop μ-loop) where
   between =
       let s = c .before .before .before .before .before .before .before .before .before .before .pre in
       let i = c .before .before .before .before .before .loop .i in
-      omega (arith, c .before .before .wide .ensures, c .wide2 .ensures, s .bounded .rising i (omega arith), s .bounded .within (i + 1) (omega arith), s .fits)
+      omega (arith, c .before .before .wide .ensures .is, c .wide2 .ensures .is, s .bounded .rising i (omega arith), s .bounded .within (i + 1) (omega arith), s .fits)
 
 loop-holds : tie.Need-loop-holds Inv-loop μ-loop
 loop-holds c = search needs

@@ -7,7 +7,7 @@ use mathlib.Core.List.{List, [], _∷_, List·Memᴰ·head, List·Memᴰ·tail}
 use mathlib.Core.Option.{Option, some, none}
 use native.Mathlib.Omega.{arith}
 use Rattle.lists.specs.Member.{_∈_}
-use Rattle.rules.specs.Fault.{Fault, faultIf, faultUnless, firstFault}
+use Rattle.graph.specs.Fault.{Fault, faultIf, faultUnless, firstFault}
 
 -- A number is a refusal.
 pub refuses : (k : ℕ) → _≡_ {A = Option ℕ} (some k) none → ⊥
@@ -43,3 +43,9 @@ none-quiet = refl
 pub first-quiet : {f : Fault} (fs : List Fault) → f ≡ none → firstFault fs ≡ none → firstFault (f ∷ fs) ≡ none
 unfolding firstFault
 first-quiet fs p q = rw p q
+
+-- A fault alone is the first.
+pub one-fault : (f : Fault) → firstFault (f ∷ []) ≡ f
+unfolding firstFault
+one-fault none = refl
+one-fault (some k) = refl
