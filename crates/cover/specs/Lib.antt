@@ -1,8 +1,6 @@
 -- What the contracts of the cover's bytes cite, in reading order.
--- bytes put into a buffer, the rest as it was
-pub mod Written
--- trees held in three arrays
-pub mod Held
+-- trees chosen among those that arrays hold
+pub mod Chosen
 -- runs of entries
 pub mod Runs
 -- one tree and its run of entries

@@ -3,9 +3,9 @@
 pub mod check;
 pub mod entries;
 pub mod heaviest;
+mod index;
 pub mod read;
 pub mod starts;
 pub mod trees;
 pub mod vertices;
-mod wide;
 pub mod write;

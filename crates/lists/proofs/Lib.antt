@@ -47,3 +47,9 @@ pub mod Stores
 pub mod Put
 -- several lists in one array: one more bound adds one more list
 pub mod Segments
+-- one more element at the end of a list
+pub mod OneMore
+-- how long segments are
+pub mod SegmentSizes
+-- lists made for each element from its place, and joined
+pub mod EachPlace
