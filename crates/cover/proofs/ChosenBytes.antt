@@ -1,22 +1,33 @@
 -- The bytes of chosen trees, as they are written: the counts, the starts, the tree numbers and the edges, one behind the other.
 -- Assumes nothing.
-use Prim.Native.Nat.{ℕ, suc, _+_, _*_, _-_, _≤_, _<_}
-use mathlib.Core.Path.{_≡_, refl, sym, ap, ap₂, _∙_}
+use Prim.Native.Nat.{ℕ, suc, _+_, _*_, _^_, _≤_, _<_}
+use mathlib.Core.Path.{_≡_, refl, sym, ap, ap₂, subst}
 use mathlib.Core.List.{List, [], _∷_, _++_, map, List·Memᴰ·head, List·Memᴰ·tail}
 use native.Mathlib.Omega.{arith}
-use lib.ListN.{length, take, getD, replicate, length-append, length-replicate, length-map}
+use lib.ListN.{length, getD, replicate, length-append, length-replicate, length-map}
 use Rattle.lists.specs.Lists.{flat, sumOf}
 use Rattle.lists.specs.Put.{PutTo}
 use Rattle.lists.specs.Segments.{segment}
 use Rattle.lists.proofs.EachPlace.{madeFrom}
+use Rattle.lists.proofs.OneMore.{place-in}
 use Rattle.lists.proofs.Put.{put-length, put-behind}
 use Rattle.lists.proofs.SegmentSizes.{segment-length}
+use Rattle.graph.specs.Bytes.{Reads}
 use Rattle.rules.specs.Cover.{Tree}
 use Rattle.rules.specs.CoverBytes.{u16Bytes, u16List, entryTrees, entryEdges, encode}
 use Rattle.rules.specs.Held.{treeAt, treesAt}
 use Rattle.rules.proofs.Fields.{field-length, fields-length}
 use Rattle.cover_laws.proofs.Writing.{length-encode}
-use Rattle.cover.specs.Chosen.{sizeAt, entryCount, treeNumbers, AllHeld, Writable, EdgesWritable}
+use Rattle.cover.specs.Chosen.{sizeAt, entryCount, treeNumbers, IsHeld, Readable, AllHeld, Writable, EdgesWritable}
+
+-- The number of a chosen tree, where it is read.
+pub chosen-readable : (bounds edges chosen : List ℕ) (j : ℕ) {r : ℕ} → AllHeld bounds edges chosen → j < length chosen
+    → Reads (getD chosen j 0) (2 ^ 16) r → Readable bounds edges r
+chosen-readable bounds edges chosen j held h read =
+    record {
+      held = subst (λ c. IsHeld bounds edges c) (sym (read .is)) (held (getD chosen j 0) (place-in chosen j 0 h));
+      small = read .small;
+    }
 
 -- The tree numbers, tree by tree, and how many there are.
 module _ (bounds : List ℕ) where

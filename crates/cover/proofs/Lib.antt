@@ -17,5 +17,7 @@ pub mod TreeTests
 pub mod Marking
 -- the weights of runs and trees
 pub mod Weights
+-- the test of the crews' number
+pub mod CrewTests
 -- the check, test by test
 pub mod CheckSteps

@@ -6,6 +6,7 @@ use mathlib.Core.List.{List, [], _∷_, _++_}
 use lib.ListN.{length, getD, replicate}
 use Rattle.lists.specs.Lists.{sumOf}
 use Rattle.lists.specs.Member.{_∈_}
+use Rattle.lists.specs.Segments.{segment}
 use Rattle.graph.specs.Graph.{Graph}
 use Rattle.rules.specs.Cover.{heaviest}
 use Rattle.rules.specs.CoverBytes.{encode}
@@ -33,6 +34,11 @@ pub record IsHeld (bounds edges : List ℕ) (c : ℕ) : Type 0 where
 pub record Readable (bounds edges : List ℕ) (c : ℕ) : Type 0 where
   pub held : IsHeld bounds edges c
   pub small : c < 2 ^ 16
+
+-- r are its edges, no more than such a number can count.
+pub record EdgesOf (bounds edges : List ℕ) (c : ℕ) (r : List ℕ) : Type 0 where
+  pub is : r ≡ segment bounds edges c
+  pub few : length r < 2 ^ 16
 
 -- Each chosen tree is held.
 abbrev pub AllHeld : List ℕ → List ℕ → List ℕ → Type 0

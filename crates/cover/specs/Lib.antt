@@ -7,5 +7,7 @@ pub mod Runs
 pub mod Trees
 -- marked vertices
 pub mod Vertices
+-- crews of either kind
+pub mod Crews
 -- what the check promises
 pub mod Promise

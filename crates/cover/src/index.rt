@@ -1,10 +1,8 @@
 // Index arrays: numbers of two bytes each, and lists that stand one after the other in one array.
-ghost use mathlib.Core.Path.{_≡_};
 ghost use Prim.Native.Nat.{_^_, _<_};
 ghost use lib.ListN.{getD};
-ghost use Rattle.lists.specs.Segments.{segment};
 ghost use Rattle.graph.specs.Bytes.{Reads};
-ghost use Rattle.cover.specs.Chosen.{sizeAt, Readable};
+ghost use Rattle.cover.specs.Chosen.{sizeAt, Readable, EdgesOf};
 
 // The number at a place; 0 past the last.
 pub(crate) fn number_at(xs: &[u16], i: usize) -> usize
@@ -32,7 +30,7 @@ pub(crate) fn size_at(bounds: &[u16], c: usize) -> usize
 // The edges of tree c.
 pub(crate) fn edges_at<'a>(bounds: &[u16], edges: &'a [u16], c: usize) -> &'a [u16]
     requires { ⌜ Readable (now bounds) (now edges) c ⌝ }
-    ensures { λ r. ⌜ now r ≡ segment (now (bounds .entry)) (now (edges .entry)) c ⌝ }
+    ensures { λ r. ⌜ EdgesOf (now (bounds .entry)) (now (edges .entry)) c (now r) ⌝ }
 {
     let from = number_at(bounds, c);
     let to = number_at(bounds, c + 1);

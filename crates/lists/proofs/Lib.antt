@@ -53,3 +53,5 @@ pub mod OneMore
 pub mod SegmentSizes
 -- lists made for each element from its place, and joined
 pub mod EachPlace
+-- the largest value over a list
+pub mod Largest

@@ -1,13 +1,13 @@
--- One more element at the end: what it makes of the first elements of a list, of a sum and of the largest value.
+-- One more element at the end: what it makes of the first elements of a list, and of their sum.
 -- Assumes nothing.
-use Prim.Native.Nat.{ℕ, zero, suc, _+_, _≤_, _<_, max}
+use Prim.Native.Nat.{ℕ, zero, suc, _+_, _≤_, _<_}
 use mathlib.Core.Path.{_≡_, refl, ap, _∙_}
 use mathlib.Core.List.{List, [], _∷_, _++_, List·Memᴰ·head, List·Memᴰ·tail}
 use native.Mathlib.Numerals.{add-one}
 use native.Mathlib.Omega.{arith}
 use lib.ListN.{length, take, drop, getD, take-append-drop}
 use lib.Seq.{take-suc}
-use Rattle.lists.specs.Lists.{sumOf, largest}
+use Rattle.lists.specs.Lists.{sumOf}
 use Rattle.lists.specs.Member.{_∈_}
 use Rattle.lists.proofs.Sums.{sum-append}
 
@@ -35,9 +35,3 @@ module _ {A : Type 0} where
     -- the first elements sum to no more than all
     pub sum-first : (xs : List A) (i : ℕ) → sumOf f (take i xs) ≤ sumOf f xs
     sum-first xs i = omega (arith, sum-append f (take i xs) (drop i xs), ap (sumOf f) (take-append-drop i xs))
-
-    -- the largest value with one element more
-    pub largest-more : (xs : List A) (x : A) → largest f (xs ++ (x ∷ [])) ≡ max (largest f xs) (f x)
-    unfolding largest
-    largest-more [] x = omega arith
-    largest-more (y ∷ xs) x = omega (arith, largest-more xs x)

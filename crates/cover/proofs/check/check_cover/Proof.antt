@@ -8,7 +8,7 @@ use Rattle.graph.proofs.Exactly.{yes-graph}
 use Rattle.rules.proofs.Fields.{Bytes}
 use Rattle.rules.specs.Questions.{crewFault}
 use Rattle.cover.specs.declared.check.Verdict.the-variants as verdict
-use Rattle.cover.specs.Promise.{crewsOf}
+use Rattle.cover.specs.Crews.{crewsOf}
 use Rattle.cover.proofs.CheckSteps.{sheet-refused, crews-refused, cover-decides, promised}
 use borrow.Author.Needs.{needs}
 use Rattle.cover.proofs.check.check_cover.Statement.{statement}

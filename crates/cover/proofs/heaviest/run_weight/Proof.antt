@@ -7,7 +7,7 @@ use Rattle.graph.specs.Graph.{weightOf}
 use Rattle.graph.specs.Bytes.{graphOf}
 use Rattle.rules.specs.Walk.{totalWeight}
 use Rattle.cover.specs.Runs.{runEdges}
-use Rattle.cover.proofs.Weights.{weight-none, weight-next}
+use Rattle.cover.proofs.Weights.{run-weight-none, run-weight-next}
 use Rattle.cover.proofs.heaviest.run_weight.Statement.{statement}
 use Rattle.cover.proofs.heaviest.run_weight.Tie as tie
 
@@ -21,7 +21,7 @@ abbrev μ-loop : tie.MeasureT-loop
 loop-holds : tie.Need-loop-holds Inv-loop μ-loop
 loop-holds c =
     let s = c .before .before in
-    (omega arith, omega (arith, s .pre .forward), omega arith, weight-none (graphOf (s .args .b .now)) (s .args .c .now) (s .args .from))
+    (omega arith, omega (arith, s .pre .forward), omega arith, run-weight-none (graphOf (s .args .b .now)) (s .args .c .now) (s .args .from))
 
 entry-edge-requires : tie.Need-entry-edge-requires Inv-loop μ-loop
 entry-edge-requires c κs = tt
@@ -46,7 +46,7 @@ loop-again c =
       omega arith,
       omega arith,
       omega arith,
-      omega (arith, weight-next g (s .c .now) (s .from) (l .i) (omega arith), c .weight .ensures .is, ap (weightOf g) (c .before .entry-edge .ensures .is), l .inv .3),
+      omega (arith, run-weight-next g (s .c .now) (s .from) (l .i) (omega arith), c .weight .ensures .is, ap (weightOf g) (c .before .entry-edge .ensures .is), l .inv .3),
     )
 
 returns : tie.Need-returns Inv-loop μ-loop

@@ -1,13 +1,27 @@
 -- `cover::index::edges_at` meets its contract: what stands between the two bounds is the tree's segment. Assumes nothing.
-use Prim.Native.Nat.{_+_}
+use Prim.Native.Nat.{ℕ, _+_, _-_, _^_}
 use mathlib.Core.Path.{sym}
+use mathlib.Core.List.{List}
 use native.Mathlib.Omega.{arith}
-use lib.ListN.{getD}
+use lib.ListN.{getD, take, drop, length-take}
 use Rattle.lists.specs.Segments.{segment}
 use Rattle.lists.proofs.SegmentSizes.{slice-taken}
+use Rattle.graph.specs.Bytes.{Reads}
+use Rattle.cover.specs.Chosen.{Readable, EdgesOf}
 use borrow.Author.Needs.{needs}
 use Rattle.cover.proofs.index.edges_at.Statement.{statement}
 use Rattle.cover.proofs.index.edges_at.Tie as tie
+
+-- The two bounds are read.
+module _ {bounds edges : List ℕ} {c from to : ℕ} (h : Readable bounds edges c) (p : Reads (getD bounds c 0) (2 ^ 16) from)
+    (q : Reads (getD bounds (c + 1) 0) (2 ^ 16) to) where
+  between : EdgesOf bounds edges c (take (to - from) (drop from edges))
+  unfolding segment
+  between =
+      record {
+        is = rw (p .is, q .is) (sym (slice-taken (getD bounds c 0) (getD bounds (c + 1) 0) edges (h .held .forward) (h .held .inside)));
+        few = simp length-take (omega (arith, q .small));
+      }
 
 number-at-requires : tie.Need-number-at-requires
 number-at-requires c κs = search needs
@@ -31,11 +45,9 @@ part-result-end : tie.Need-part-result-end
 part-result-end c = search needs
 
 returns : tie.Need-returns
-unfolding segment
 returns c =
-    let s = c .before .before .before .before .before in
-    rw (c .before .number-at2 .ensures .is, c .before .before .number-at .ensures .is)
-    (sym (slice-taken (getD (s .args .bounds .now) (s .args .c) 0) (getD (s .args .bounds .now) (s .args .c + 1) 0) (s .args .edges .now) (s .pre .held .forward) (s .pre .held .inside)))
+    let r = c .before .before in
+    between (r .before .before .before .pre) (r .number-at .ensures) (c .before .number-at2 .ensures)
 
 pub edges-at-spec : {M : Type 1} → statement M
 edges-at-spec =

@@ -1,16 +1,15 @@
 -- `cover::write::put_edges` meets its contract. The loop's invariant: the edges of the first j trees are put. The measure is how many
 -- trees are left. Assumes nothing.
 use Prim.Native.Nat.{ℕ, _+_, _*_, _-_, _≤_, _<_}
-use mathlib.Core.Path.{_≡_, sym, ap, subst, _∙_}
+use mathlib.Core.Path.{_≡_, ap, _∙_}
 use mathlib.Core.List.{List}
 use native.Mathlib.Omega.{arith}
 use lib.ListN.{length, getD}
 use Rattle.lists.specs.Segments.{segment}
-use Rattle.lists.proofs.OneMore.{place-in}
 use Rattle.lists.proofs.EachPlace.{made-flat}
-use Rattle.cover.specs.Chosen.{IsHeld, Readable}
+use Rattle.cover.specs.Chosen.{Readable}
 use Rattle.cover.proofs.Writing.{FirstPut, none-put, first-length, next-room, next-put, all-put}
-use Rattle.cover.proofs.ChosenBytes.{edges-length}
+use Rattle.cover.proofs.ChosenBytes.{chosen-readable, edges-length}
 use Rattle.cover.proofs.write.put_edges.Statement.{statement}
 use Rattle.cover.proofs.write.put_edges.Tie as tie
 
@@ -39,11 +38,7 @@ module _ (t : tie.After-number-at Inv-loop μ-loop) where
   tree = getD (s .args .chosen .now) (turn .loop .j) 0
 
   readable : Readable (s .args .bounds .now) (s .args .edges .now) (t .number-at .result)
-  readable =
-      let bounds = s .args .bounds .now in
-      let edges = s .args .edges .now in
-      let held : IsHeld bounds edges tree = s .pre .held tree (place-in (s .args .chosen .now) (turn .loop .j) 0 more) in
-      record { held = subst (λ c. IsHeld bounds edges c) (sym (t .number-at .ensures .is)) held; small = t .number-at .ensures .small }
+  readable = chosen-readable (s .args .bounds .now) (s .args .edges .now) (s .args .chosen .now) (turn .loop .j) (s .pre .held) more (t .number-at .ensures)
 
 -- Its edges were taken.
 module _ (t : tie.After-edges-at Inv-loop μ-loop) where
@@ -51,7 +46,7 @@ module _ (t : tie.After-edges-at Inv-loop μ-loop) where
   r = t .before .before
 
   taken : t .edges-at .result .now ≡ segment (s r .args .bounds .now) (s r .args .edges .now) (tree r)
-  taken = t .edges-at .ensures ∙ ap (segment (s r .args .bounds .now) (s r .args .edges .now)) (r .number-at .ensures .is)
+  taken = t .edges-at .ensures .is ∙ ap (segment (s r .args .bounds .now) (s r .args .edges .now)) (r .number-at .ensures .is)
 
 loop-holds : tie.Need-loop-holds Inv-loop μ-loop
 loop-holds c =
