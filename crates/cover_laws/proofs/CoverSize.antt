@@ -1,5 +1,5 @@
--- How large a cover is: a tree has fewer edges than there are vertices, so a cover has at most 32 trees of at most 255 edges, and its bytes are
--- at most 32,708.
+-- How large trees and covers are: a tree has fewer edges than there are vertices, so at most 32 trees have at most 255 edges each, and their
+-- bytes are at most 32,708.
 -- Assumes nothing.
 use Prim.Native.Nat.{ℕ, _*_, _≤_, _<_}
 use mathlib.Core.Path.{_≡_, refl, ap}
@@ -57,27 +57,34 @@ module _ (g : Graph) (valid : Valid g) where
         entries-few ts (λ s m. are s (List·Memᴰ·tail m)),
       )
 
-  module _ (crews : Crews) (sound : crewFault crews (g .vertices) ≡ none) (trees : List Tree) (cover : IsCover g crews trees) where
-    are : (t : Tree) → t ∈ trees → IsTree g t
-    are = cover .all-covered .are-trees
+  -- At most 32 trees, a cover's or not: their numbers fit fields of two bytes, and their bytes are at most 32,708.
+  module _ (trees : List Tree) (few : length trees ≤ 32) (are : (t : Tree) → t ∈ trees → IsTree g t) where
+    pub trees-entries : length (entryEdges trees) ≤ 32 * 255
+    trees-entries = omega (arith, entries-few trees are)
 
-    few : length trees ≤ 32
-    few = omega (arith, trees-few crews trees (cover .starts), crews-few crews (g .vertices) sound .1)
-
-    -- A cover has at most 32 · 255 entries.
-    pub cover-entries : length (entryEdges trees) ≤ 32 * 255
-    cover-entries = omega (arith, few, entries-few trees are)
-
-    -- The numbers of a cover fit fields of two bytes.
-    pub cover-fits : Fits trees
-    cover-fits =
+    pub trees-fit : Fits trees
+    trees-fit =
         record {
-          trees = omega (arith, few);
-          entries = omega (arith, cover-entries);
+          trees = omega arith;
+          entries = omega (arith, trees-entries);
           starts = λ t m. omega (arith, are t m .start-inside, valid .vertices-most);
           edges = λ t m e k. omega (arith, are t m .edges-inside e k, valid .edges-most);
         }
 
-    -- A cover's bytes are at most 32,708.
+    pub trees-length : length (encode trees) ≤ 32708
+    trees-length = omega (arith, length-encode trees, trees-entries)
+
+  -- So for a cover.
+  module _ (crews : Crews) (sound : crewFault crews (g .vertices) ≡ none) (trees : List Tree) (cover : IsCover g crews trees) where
+    pub cover-few : length trees ≤ 32
+    cover-few = omega (arith, trees-few crews trees (cover .starts), crews-few crews (g .vertices) sound .1)
+
+    pub cover-fits : Fits trees
+    cover-fits = trees-fit trees cover-few (cover .all-covered .are-trees)
+
     pub cover-length : length (encode trees) ≤ 32708
-    cover-length = omega (arith, length-encode trees, few, cover-entries)
+    cover-length = trees-length trees cover-few (cover .all-covered .are-trees)
+
+-- At most 33 parts with fewer than 256 edges in all: their bytes fit as well.
+pub parts-length : (parts : List Tree) → length parts ≤ 33 → length (entryEdges parts) < 256 → length (encode parts) ≤ 32708
+parts-length parts few light = omega (arith, length-encode parts)

@@ -29,7 +29,7 @@ module _ (t : tie.After-number-at Inv-loop μ-loop) where
   turn = t .before .before
 
   abbrev s : tie.Start Inv-loop μ-loop
-  s = turn .before .before .before .before .before
+  s = let k = turn .before in k .before .before .before .before
 
   more : turn .loop .j < length (s .args .chosen .now)
   more = omega arith
@@ -79,7 +79,8 @@ same-length c = first-length (c .before .loop .inv)
 
 returns : tie.Need-returns Inv-loop μ-loop
 returns c =
-    let g = c .before .before .before .before .before .before .args in
+    let k = c .before .before in
+    let g = k .before .before .before .before .args in
     rw (made-flat (segment (g .bounds .now) (g .edges .now)) 0) at (all-put (c .before .loop .inv) (omega arith))
 
 pub put-edges-spec : {M : Type 1} → statement M

@@ -37,9 +37,10 @@ loop-less c = omega arith
 
 loop-again : tie.Need-loop-again Inv-loop μ-loop
 loop-again c =
-    let l = c .before .before .before .before .before .loop in
-    let x = c .before .before .before .before .before .before .before .args .x in
-    (omega arith, rw replicate-more (fields-behind (replicate (l .i) x) (x ∷ []) (l .inv .1) (as-list x (c .before .before .put-u16 .ensures))))
+    let put = c .before .before in
+    let l = put .before .before .before in
+    let x = l .before .before .args .x in
+    (omega arith, rw replicate-more (fields-behind (replicate (l .loop .i) x) (x ∷ []) (l .loop .inv .1) (as-list x (put .put-u16 .ensures))))
 
 same-length : tie.Need-same-length Inv-loop μ-loop
 same-length c = put-length (c .before .loop .inv .1 .put)

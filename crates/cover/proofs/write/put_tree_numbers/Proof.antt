@@ -68,7 +68,8 @@ same-length c = first-length (c .before .loop .inv)
 
 returns : tie.Need-returns Inv-loop μ-loop
 returns c =
-    let g = c .before .before .before .before .before .args in
+    let k = c .before .before in
+    let g = k .before .before .before .args in
     rw (numbers-made (g .bounds .now)) at (all-put (c .before .loop .inv) (omega arith))
 
 pub put-tree-numbers-spec : {M : Type 1} → statement M
