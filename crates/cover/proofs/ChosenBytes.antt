@@ -9,7 +9,7 @@ use Rattle.lists.specs.Lists.{flat, sumOf}
 use Rattle.lists.specs.Put.{PutTo}
 use Rattle.lists.specs.Segments.{segment}
 use Rattle.lists.proofs.EachPlace.{madeFrom}
-use Rattle.lists.proofs.OneMore.{place-in}
+use Rattle.lists.proofs.Places.{at-place}
 use Rattle.lists.proofs.Put.{put-length, put-behind}
 use Rattle.lists.proofs.SegmentSizes.{segment-length}
 use Rattle.graph.specs.Bytes.{Reads}
@@ -25,7 +25,7 @@ pub chosen-readable : (bounds edges chosen : List ℕ) (j : ℕ) {r : ℕ} → A
     → Reads (getD chosen j 0) (2 ^ 16) r → Readable bounds edges r
 chosen-readable bounds edges chosen j held h read =
     record {
-      held = subst (λ c. IsHeld bounds edges c) (sym (read .is)) (held (getD chosen j 0) (place-in chosen j 0 h));
+      held = subst (λ c. IsHeld bounds edges c) (sym (read .is)) (held (getD chosen j 0) (at-place 0 chosen j h));
       small = read .small;
     }
 

@@ -3,6 +3,8 @@
 pub mod Writing
 -- the bytes of chosen trees
 pub mod ChosenBytes
+-- chosen trees and parts fit the planner's buffer
+pub mod ChosenFit
 -- the tests of one entry
 pub mod EntryTests
 -- the tests of the starts

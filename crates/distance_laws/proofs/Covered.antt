@@ -1,12 +1,11 @@
 -- A vertex that a tree covers is within the tree's weight of the tree's start.
 -- Assumes nothing.
 use Prim.Native.Nat.{ℕ}
-use mathlib.Core.Path.{sym}
 use Rattle.graph.specs.Graph.{Graph}
 use Rattle.graph.specs.Valid.{Valid}
 use Rattle.rules.specs.Walk.{Linked}
-use Rattle.rules.specs.Cover.{Tree, IsTree, Covers, at-start, at-one-end, at-other-end, treeWeight}
-use Rattle.rules.proofs.Linked.{linked-same, linked-on, linked-other}
+use Rattle.rules.specs.Cover.{Tree, IsTree, Covers, treeWeight}
+use Rattle.rules.proofs.Joined.{joined-covers}
 use Rattle.distance_laws.proofs.Nearer.{AtMost}
 use Rattle.distance_laws.proofs.Bounding.{looser}
 use Rattle.distance_laws.proofs.Least.{distanceTo, distance-most}
@@ -15,9 +14,7 @@ use Rattle.distance_laws.proofs.Within.{LightLink, linked-light}
 module _ {g : Graph} {t : Tree} (tree : IsTree g t) where
   -- A tree's edges link its start to what it covers.
   pub covered-linked : {v : ℕ} → Covers g t v → Linked g (t .edges) (t .start) v
-  covered-linked (at-start q) = linked-same (sym q)
-  covered-linked (at-one-end e m q) = linked-on (tree .joined e m) (linked-same (sym q))
-  covered-linked (at-other-end e m q) = linked-on (linked-other m (tree .joined e m)) (linked-same (sym q))
+  covered-linked c = joined-covers (tree .joined) c
 
   -- A walk along the tree's edges leads from its start to whatever it covers, and weighs at most the tree.
   pub covered-light : {v : ℕ} → Covers g t v → LightLink g (t .edges) (t .start) v

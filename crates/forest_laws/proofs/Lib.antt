@@ -5,6 +5,8 @@ pub mod Merging
 pub mod Walks
 -- the roots' common label means a walk from a root
 pub mod Roots
+-- the lowest vertex joined to no root
+pub mod Unjoined
 -- what the kept edges join
 pub mod Keeping
 -- the edge that first joins two vertices can be exchanged for one between them
@@ -17,6 +19,10 @@ pub mod Replacing
 pub mod Loops
 -- the kept edges are fewer than the vertices
 pub mod FewEdges
+-- the kept edges are fewer than the starts to which their ends are joined
+pub mod FewKept
+-- edges without a loop, and the forest's, are fewer than the vertices
+pub mod FewForest
 -- all edges by weight, then number
 pub mod Ordering
 -- the edges within a limit, and which kept edges are among them

@@ -23,3 +23,8 @@ count-bounded n f = omega (arith, count-all n, count-no-more n f (λ _. true) (�
 -- A number that passes counts.
 pub count-some : (n : ℕ) (f : ℕ → Bool) (c : ℕ) → c < n → f c ≡ true → 1 ≤ count n f
 count-some n f c l p = omega (arith, count-fewer n (λ _. false) f (λ _ _ q. absurd (false≢true q)) c l refl p)
+
+-- Where no two numbers pass, at most one does.
+pub count-alone : (n : ℕ) (f : ℕ → Bool) → ((j k : ℕ) → j < n → k < n → f j ≡ true → f k ≡ true → j ≡ k) → count n f ≤ 1
+unfolding count
+count-alone n f alone = count-into f (λ _. 0) n 1 (λ _. true) (λ k h is. (omega arith, refl)) (λ j k hj hk pj pk _. alone j k hj hk pj pk)

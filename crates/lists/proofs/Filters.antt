@@ -1,4 +1,4 @@
--- Filters: of a list that no element passes, of two lists, of a mapped list.
+-- Filters: of a list that no element passes, of two lists, of a mapped list, of a list that every element passes.
 -- Assumes nothing.
 use mathlib.Core.Path.{_≡_, refl, ap}
 use mathlib.Core.Bool.{Bool, true, false, cond}
@@ -33,3 +33,9 @@ filter-of-map t f (x ∷ xs) = go (t (f x)) (filter-of-map t f xs)
         → cond b (f x ∷ filter t (map f xs)) (filter t (map f xs)) ≡ map f (cond b (x ∷ filter (λ y. t (f y)) xs) (filter (λ y. t (f y)) xs))
     go true e = ap (λ l. f x ∷ l) e
     go false e = e
+
+-- a filter that every element passes keeps all
+pub filter-all {ℓ} : {A : Type ℓ} (f : A → Bool) (xs : List A) → ((x : A) → x ∈ xs → f x ≡ true) → filter f xs ≡ xs
+unfolding filter
+filter-all f [] each = refl
+filter-all f (x ∷ xs) each = rw (each x (List·Memᴰ·head refl)) (ap (λ l. x ∷ l) (filter-all f xs (λ y m. each y (List·Memᴰ·tail m))))

@@ -19,3 +19,13 @@ first-none f (y ∷ ys) q x m = go (f y) refl q (λ r n. first-none f ys r x n) 
     go true e q ih n = let z : _≡_ {A = ℕ} 0 1 = cc in absurd (omega arith)
     go false e q ih (List·Memᴰ·head p) = ap f p ∙ e
     go false e q ih (List·Memᴰ·tail n) = ih q n
+
+-- where there is one, it stands in the list and passes
+pub first-some {ℓ} : {A : Type ℓ} (f : A → Bool) (xs : List A) {x : A} → firstThat f xs ≡ some x → (x ∈ xs) × (f x ≡ true)
+unfolding firstThat
+first-some f [] q = let z : _≡_ {A = ℕ} 0 1 = cc in absurd (omega arith)
+first-some {A = A} f (y ∷ ys) {x} q = go (f y) refl q (λ r. first-some f ys r)
+  where
+    go : (b : Bool) → f y ≡ b → cond b (some y) (firstThat f ys) ≡ some x → (firstThat f ys ≡ some x → (x ∈ ys) × (f x ≡ true)) → (x ∈ (y ∷ ys)) × (f x ≡ true)
+    go true e q ih = let same : x ≡ y = cc in (List·Memᴰ·head same, ap f same ∙ e)
+    go false e q ih = let r = ih q in (List·Memᴰ·tail (r .0), r .1)

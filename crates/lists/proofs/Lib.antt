@@ -3,12 +3,16 @@
 pub mod Member
 -- lists in which each element stands in a relation to all that follow: sorted, rising, without repeats
 pub mod InOrder
+-- in order by a relation that follows for elements of the list
+pub mod InOrderWithin
 -- sums over appended, filtered and contained lists
 pub mod Sums
--- filters of a list that no element passes, of two lists, of a mapped list
+-- filters of a list that no element or every one passes, of two lists, of a mapped list
 pub mod Filters
 -- the first element that passes a test
 pub mod First
+-- what is found first stands in the list and passes; where all fail there is none
+pub mod FirstFound
 -- the list without a number
 pub mod Without
 -- the sum without a number
@@ -47,11 +51,33 @@ pub mod Stores
 pub mod Put
 -- several lists in one array: one more bound adds one more list
 pub mod Segments
+-- values against a bound, their largest and their sum
+pub mod Bounds
+-- sums and lengths compared value by value
+pub mod SumsAlike
+-- elements that each pass at most one of several tests
+pub mod Shares
+-- elements with different images
+pub mod Images
+-- the least of a list is one of it
+pub mod LeastOf
+-- tests that say the same
+pub mod SameTests
+-- numbers that pass one of two tests, and numbers that pass both
+pub mod EitherBoth
+-- one of a kind for each number below a bound
+pub mod EachChosen
+-- lists made for the chosen numbers below a bound, and joined
+pub mod Chosen
+-- what stands at a place, and the place of what stands in a list
+pub mod Places
+-- the largest value over a list
+pub mod Largest
+-- lengths as sums
+pub mod Lengths
 -- one more element at the end of a list
 pub mod OneMore
 -- how long segments are
 pub mod SegmentSizes
 -- lists made for each element from its place, and joined
 pub mod EachPlace
--- the largest value over a list
-pub mod Largest

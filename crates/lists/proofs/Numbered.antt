@@ -9,7 +9,7 @@ use native.Mathlib.Omega.{arith}
 use Rattle.lists.specs.Count.{from, below}
 
 -- one more number, at the end
-from-snoc : (a n : ℕ) → from a (suc n) ≡ from a n ++ ((a + n) ∷ [])
+pub from-snoc : (a n : ℕ) → from a (suc n) ≡ from a n ++ ((a + n) ∷ [])
 unfolding from
 from-snoc a zero = rw add-zero
 from-snoc a (suc n) = rw (add-suc, ← suc-add a n) (ap {B = List ℕ} (λ r. a ∷ r) (from-snoc (suc a) n))

@@ -1,26 +1,19 @@
 -- One more element at the end: what it makes of the first elements of a list, and of their sum.
 -- Assumes nothing.
-use Prim.Native.Nat.{ℕ, zero, suc, _+_, _≤_, _<_}
-use mathlib.Core.Path.{_≡_, refl, ap, _∙_}
-use mathlib.Core.List.{List, [], _∷_, _++_, List·Memᴰ·head, List·Memᴰ·tail}
+use Prim.Native.Nat.{ℕ, _+_, _≤_, _<_}
+use mathlib.Core.Path.{_≡_, ap, _∙_}
+use mathlib.Core.List.{List, [], _∷_, _++_}
 use native.Mathlib.Numerals.{add-one}
 use native.Mathlib.Omega.{arith}
 use lib.ListN.{length, take, drop, getD, take-append-drop}
 use lib.Seq.{take-suc}
 use Rattle.lists.specs.Lists.{sumOf}
-use Rattle.lists.specs.Member.{_∈_}
 use Rattle.lists.proofs.Sums.{sum-append}
 
 module _ {A : Type 0} where
   -- the first elements, with the next one
   pub take-more : (xs : List A) (i : ℕ) (d : A) → i < length xs → take (i + 1) xs ≡ take i xs ++ (getD xs i d ∷ [])
   take-more xs i d h = rw add-one (take-suc xs i d h)
-
-  -- what stands at a place stands in the list
-  pub place-in : (xs : List A) (i : ℕ) (d : A) → i < length xs → getD xs i d ∈ xs
-  place-in [] i d h = absurd (omega arith)
-  place-in (x ∷ xs) zero d h = List·Memᴰ·head refl
-  place-in (x ∷ xs) (suc i) d h = List·Memᴰ·tail (place-in xs i d (omega arith))
 
   module _ (f : A → ℕ) where
     -- the sum with one element more

@@ -7,9 +7,10 @@ use mathlib.Core.Logic.{⊎-elim}
 use mathlib.Core.Bool.{Bool, true, false, not, _&&_, and-true, and-false}
 use native.Mathlib.Omega.{arith}
 use lib.Dec.{eqb}
-use borrow.Author.Tests.{ne-eqb, eq-eqb}
+use borrow.Author.Tests.{ne-eqb, eq-eqb, eqb-false, not-true}
 use Rattle.lists.specs.Count.{count}
 use Rattle.lists.proofs.Member.{either}
+use Rattle.lists.proofs.Every.{first-true, second-true}
 use Rattle.lists.proofs.AfterStore.{at-or-not}
 
 -- The test f, passed by no k that is z.
@@ -25,6 +26,15 @@ but-other f z k away = rw (ne-eqb k z away) (and-true (f k))
 pub but-at : (f : ℕ → Bool) (z : ℕ) → but z f z ≡ false
 unfolding but
 but-at f z = rw (eq-eqb z z refl) (and-false (f z))
+
+-- What passes passed before, and is not z.
+pub of-but : (f : ℕ → Bool) (z k : ℕ) → but z f k ≡ true → (f k ≡ true) × (k ≡ z → ⊥)
+unfolding but
+of-but f z k t = (first-true (f k) (not (eqb k z)) t, eqb-false k z (not-true (eqb k z) (second-true (f k) (not (eqb k z)) t)))
+
+-- Where z did not pass, nothing changes.
+pub but-absent : (f : ℕ → Bool) (z k : ℕ) → f z ≡ false → but z f k ≡ f k
+but-absent f z k out = at-or-not (λ x. but z f x ≡ f x) z k (but-at f z ∙ sym out) (but-other f z k)
 
 -- Tests that agree below n count the same.
 pub count-same : (n : ℕ) (f g : ℕ → Bool) → ((k : ℕ) → k < n → f k ≡ g k) → count n f ≡ count n g

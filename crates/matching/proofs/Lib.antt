@@ -3,6 +3,10 @@
 pub mod AssignmentLaws
 -- the test for an assignment says whether one exists
 pub mod AssignableLaws
+-- sets of parts that have no more allowed roots than parts, or fewer
+pub mod TightSets
+-- where the test finds none, some set of parts has too few roots
+pub mod Hall
 -- what is known of an input that is not refused
 pub mod Accepted
 -- the search for an augmenting path, turn by turn

@@ -29,6 +29,8 @@ pub mod RootedTrial
 pub mod UnrootedTrial
 -- "The best limit":
 pub mod Search
+-- what the replies mean
+pub mod Meaning
 -- "Who causes which number":
 -- numbers, tried one after the other
 pub mod Fault

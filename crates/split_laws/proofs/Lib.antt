@@ -35,3 +35,12 @@ pub mod SplitTree
 pub mod SplitForest
 -- nothing is left out, of a rooted trial's forest and of an unrooted one's
 pub mod Whole
+-- For what is built on them:
+-- edges below the threshold give parts of at most twice it, less 2
+pub mod SharpParts
+-- the edges of a part rise
+pub mod PartsRise
+-- the root among the edges and the parts of its tree
+pub mod RootHeld
+-- labels that join the same have the same lowest vertices
+pub mod LowestSame

@@ -1,0 +1,102 @@
+-- The trees of a component: each is a part or what is left at the root, started anew at its lowest vertex; together they hold the edges of the
+-- component's tree, each as often as it stands there. A leftover is dropped only where it has no edges and there are parts.
+-- Assumes nothing.
+use Prim.Native.Nat.{ℕ, _*_}
+use mathlib.Core.Path.{_≡_, refl}
+use mathlib.Core.List.{List, [], _∷_, _++_, List·Memᴰ·head, List·Memᴰ·not-nil, List·Memᴰ·eq-of-singleton, Memᴰ·append-left, Memᴰ·append-right, List·Memᴰ·append-cases}
+use mathlib.Core.Logic.{_⊎_, inl, inr}
+use native.Mathlib.Omega.{arith}
+use Rattle.lists.specs.Lists.{sumOf}
+use Rattle.lists.specs.Member.{_∈_}
+use Rattle.lists.specs.Sort.{rise}
+use Rattle.lists.proofs.Member.{in-map, of-map}
+use Rattle.lists.proofs.Sums.{sum-append}
+use Rattle.lists.proofs.SumsAlike.{sum-of-map, sum-flat-map}
+use Rattle.lists.proofs.Sorting.{sum-rise}
+use Rattle.graph.specs.Graph.{Graph}
+use Rattle.rules.specs.Cover.{Tree}
+use Rattle.rules.specs.Grow.{Rooted, branchEdges}
+use Rattle.rules.specs.Split.{split}
+use Rattle.rules.specs.UnrootedTrial.{leftovers, fromLowest, componentTrees}
+use Rattle.rules.specs.CoverBytes.{entryEdges}
+use Rattle.split_laws.proofs.Exact.{split-sum}
+
+-- What is left at the root, as a tree.
+abbrev pub leftoverAt : ℕ → List ℕ → Tree
+leftoverAt root left = record { start = root; edges = rise left }
+
+module _ (root : ℕ) where
+  -- The one tree that may be a leftover,
+  of-leftovers : {u : Tree} (parts : List Tree) (left : List ℕ) → u ∈ leftovers root parts left → u ≡ leftoverAt root left
+  unfolding leftovers
+  of-leftovers [] left m = List·Memᴰ·eq-of-singleton m
+  of-leftovers (p ∷ ps) [] m = absurd (List·Memᴰ·not-nil m)
+  of-leftovers (p ∷ ps) (e ∷ es) m = List·Memᴰ·eq-of-singleton m
+
+  -- which is one, or else there is a part and no edge is left.
+  in-leftovers : (parts : List Tree) (left : List ℕ) → (leftoverAt root left ∈ leftovers root parts left) ⊎ (((p : Tree) × (p ∈ parts)) × (left ≡ []))
+  unfolding leftovers
+  in-leftovers [] left = inl (List·Memᴰ·head refl)
+  in-leftovers (p ∷ ps) [] = inr ((p, List·Memᴰ·head refl), refl)
+  in-leftovers (p ∷ ps) (e ∷ es) = inl (List·Memᴰ·head refl)
+
+  -- The leftovers hold the edges that are left.
+  leftovers-sum : (f : ℕ → ℕ) (parts : List Tree) (left : List ℕ) → sumOf (λ (u : Tree). sumOf f (u .edges)) (leftovers root parts left) ≡ sumOf f left
+  unfolding leftovers sumOf
+  leftovers-sum f [] left = omega (arith, sum-rise f left)
+  leftovers-sum f (p ∷ ps) [] = refl
+  leftovers-sum f (p ∷ ps) (e ∷ es) = omega (arith, sum-rise f (e ∷ es))
+
+-- The parts of a component's tree, and the tree of what is left at its root.
+abbrev pub componentParts : Graph → ℕ → Rooted → List Tree
+componentParts g limit t = split g (2 * limit) t .parts
+
+abbrev pub componentLeftover : Graph → ℕ → Rooted → Tree
+componentLeftover g limit t = leftoverAt (t .root) (split g (2 * limit) t .left)
+
+-- The leftover is dropped: there is a part, and no edge is left.
+abbrev pub Dropped : Graph → ℕ → Rooted → Type 0
+Dropped g limit t = ((p : Tree) × (p ∈ componentParts g limit t)) × (split g (2 * limit) t .left ≡ [])
+
+module _ (g : Graph) (limit : ℕ) (t : Rooted) where
+  rest : List Tree
+  rest = leftovers (t .root) (componentParts g limit t) (split g (2 * limit) t .left)
+
+  -- A part, started anew, is a tree of the component;
+  pub part-stands : {p : Tree} → p ∈ componentParts g limit t → fromLowest g p ∈ componentTrees g limit t
+  unfolding componentTrees rest
+  part-stands m = in-map (fromLowest g) (Memᴰ·append-left rest m)
+
+  -- so is what is left, or else it is dropped;
+  pub leftover-stands : (fromLowest g (componentLeftover g limit t) ∈ componentTrees g limit t) ⊎ Dropped g limit t
+  unfolding componentTrees
+  leftover-stands = go (in-leftovers (t .root) (componentParts g limit t) (split g (2 * limit) t .left))
+    where
+      go : {A : Type 0} → (componentLeftover g limit t ∈ leftovers (t .root) (componentParts g limit t) (split g (2 * limit) t .left)) ⊎ A
+          → (fromLowest g (componentLeftover g limit t) ∈ componentTrees g limit t) ⊎ A
+      go (inl m) = inl (in-map (fromLowest g) (Memᴰ·append-right (componentParts g limit t) m))
+      go (inr p) = inr p
+
+  -- and every tree of the component is one of these.
+  pub part-or-leftover : {u : Tree} → u ∈ componentTrees g limit t → (p : Tree) × (u ≡ fromLowest g p) × ((p ∈ componentParts g limit t) ⊎ (p ≡ componentLeftover g limit t))
+  unfolding componentTrees rest
+  part-or-leftover m = let (p, n, q) = of-map (fromLowest g) (componentParts g limit t ++ rest) m in (p, q, go (List·Memᴰ·append-cases (componentParts g limit t) n))
+    where
+      go : {p : Tree} → (p ∈ componentParts g limit t) ⊎ (p ∈ rest) → (p ∈ componentParts g limit t) ⊎ (p ≡ componentLeftover g limit t)
+      go (inl i) = inl i
+      go (inr i) = inr (of-leftovers (t .root) (componentParts g limit t) (split g (2 * limit) t .left) i)
+
+  -- Together they hold the edges of the component's tree.
+  pub component-trees-sum : (f : ℕ → ℕ) → sumOf (λ (u : Tree). sumOf f (u .edges)) (componentTrees g limit t) ≡ sumOf f (branchEdges (t .branches))
+  unfolding componentTrees split fromLowest entryEdges rest sumOf
+  component-trees-sum f =
+      let value : Tree → ℕ = λ u. sumOf f (u .edges) in
+      let parts = componentParts g limit t in
+      omega (
+        arith,
+        sum-of-map value (fromLowest g) (parts ++ rest),
+        sum-append value parts rest,
+        leftovers-sum (t .root) f parts (split g (2 * limit) t .left),
+        sum-flat-map f (λ (u : Tree). u .edges) parts,
+        split-sum g (2 * limit) (t .root) [] (t .branches) f,
+      )

@@ -1,0 +1,60 @@
+-- What the trials and the search find, in reading order.
+-- Rooted:
+-- a cover with every tree within a limit is made of edges within it, by trees that start at the roots
+pub mod RootedWithin
+-- "too low, stop v": every cover has a tree above the limit
+pub mod RootedStop
+-- the parts of a rooted trial, and what is left at each root
+pub mod RootedPieces
+-- who covers a vertex of a part within the limit starts at a root that the part may go to
+pub mod RootedNear
+-- "too low, parts T, yards D": every cover has a tree above the limit
+pub mod RootedParts
+-- each part with the shortest path to it hangs at its root, and how heavy both are
+pub mod RootedAssigned
+-- the union of which a tree is made: it hangs at the root, holds the root's part and leftover, and weighs at most 4 B - 2
+pub mod RootedUnion
+-- an accepted limit: the trees are a cover, the heaviest at most 4 B - 2
+pub mod RootedCover
+-- one forest serves all limits: where every vertex is joined, the forest is the whole one; and when that is so
+pub mod RootedPrepared
+-- how many edges and parts there are
+pub mod RootedSize
+-- Unrooted, the components at a limit:
+-- which of the forest's edges a component's tree holds
+pub mod ComponentEdges
+-- what the components need, from the labels and the forest
+pub mod ComponentNeeds
+-- Unrooted, too low:
+-- a cover within the limit has in each component as many trees as it needs
+pub mod ComponentShare
+-- where the components need more than k trees, every cover by k has a tree above the limit
+pub mod UnrootedTooLow
+-- Unrooted, accepted:
+-- the trees of a component, and that they hold its edges
+pub mod ComponentTrees
+-- how many trees and edges the answer has
+pub mod UnrootedNumber
+-- a tree may start at its lowest vertex
+pub mod UnrootedStart
+-- the answer's trees are trees, of at most 4 B - 2
+pub mod UnrootedTrees
+-- where the components need at most k trees, the answer is a cover by k, of at most 4 B - 2
+pub mod UnrootedCover
+-- What the answers mean (document 01, "A trial at limit B" and "The best limit"):
+-- the two facts of a trial on which the rest stands
+pub mod TrialBounds
+-- they hold for either kind
+pub mod BothKinds
+-- good choices exist at every limit
+pub mod SomeChoices
+-- trees over all that is linked to a root
+pub mod WholeTrees
+-- "no cover" is said exactly where none exists
+pub mod NoCover
+-- the search between a refused and an accepted limit
+pub mod SearchSteps
+-- the best limit is accepted, and at most every cover's heaviest
+pub mod BestLimit
+-- what the replies mean
+pub mod Replies

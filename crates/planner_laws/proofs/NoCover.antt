@@ -1,0 +1,130 @@
+-- "No cover" is said exactly where no cover exists: a vertex that no edge joins to a root is covered by none, and of more components than
+-- crews one is covered by none; otherwise the trees over all that is linked to the roots, or to the lowest vertices, are a cover.
+-- Assumes nothing.
+use Prim.Native.Nat.{ℕ, _≤_, _<_}
+use mathlib.Core.Path.{_≡_, refl, sym, _∙_}
+use mathlib.Core.Bool.{Bool, true, false, not, true≢false, false≢true}
+use mathlib.Core.Logic.{_↔_}
+use mathlib.Core.List.{List, map, headD, Memᴰ·cast}
+use mathlib.Core.Option.{Option, some, none}
+use native.Mathlib.Omega.{arith}
+use lib.ListN.{length, length-map}
+use borrow.Author.Tests.{eqb-true, eq-eqb, ltb-true, ltb-false, not-true, not-false}
+use Rattle.lists.specs.Count.{below}
+use Rattle.lists.specs.Member.{_∈_}
+use Rattle.lists.proofs.Member.{in-map, of-map}
+use Rattle.lists.proofs.InOrder.{rising-once}
+use Rattle.lists.proofs.Below.{of-below, in-below}
+use Rattle.lists.proofs.First.{first-none, first-some}
+use Rattle.lists.proofs.Lengths.{length-within, map-once, some-member}
+use Rattle.graph.specs.Graph.{Graph}
+use Rattle.graph.specs.Valid.{Valid}
+use Rattle.rules.specs.Walk.{Linked}
+use Rattle.rules.specs.Cover.{Tree, Crews, rooted, unrooted, IsCover}
+use Rattle.rules.specs.Order.{ordered}
+use Rattle.rules.specs.Labels.{Labels, apart, together, joined, mergeAll}
+use Rattle.rules.specs.Forest.{unjoined, lowest}
+use Rattle.rules.specs.Search.{nobody, noCover}
+use Rattle.rules.specs.Meaning.{CrewsFit, NoneAtAll}
+use Rattle.rules.proofs.Linked.{linked-more}
+use Rattle.forest_laws.proofs.Ordering.{in-ordered}
+use Rattle.forest_laws.proofs.Walks.{merged-linked, linked-merged}
+use Rattle.forest_laws.proofs.Roots.{Reached, some-head, head-in, root-is-reached}
+use Rattle.distance_laws.proofs.Covered.{covered-linked}
+use Rattle.split_laws.proofs.Lowest.{lowest-inside, lowest-rising, lowest-alike, lowest-of}
+use Rattle.planner_laws.proofs.WholeTrees.{whole, wholeTrees, whole-starts, whole-count, whole-covers}
+
+module _ {g : Graph} {crews : Crews} {trees : List Tree} (cover : IsCover g crews trees) where
+  -- A cover has a tree for each vertex, from whose start the graph's edges link it.
+  pub cover-links : (v : ℕ) → v < g .vertices → (t : Tree) × (t ∈ trees) × Linked g (ordered g) (t .start) v
+  cover-links v h =
+      let (t, m, c) = cover .all-covered .covered v h in
+      let tree = cover .all-covered .are-trees t m in
+      (t, m, linked-more (λ e n. in-ordered g (tree .edges-inside e n)) (covered-linked tree c))
+
+-- ROOTED
+
+module _ (g : Graph) (roots : List ℕ) where
+  -- the labels that all edges make, with the roots joined
+  abbrev fromRoots : Labels
+  fromRoots = mergeAll g (together roots) (ordered g)
+
+  -- a vertex that is joined to no root by any edge is in no cover
+  unjoined-none : (v : ℕ) → unjoined g roots fromRoots ≡ some v → NoneAtAll g (rooted roots)
+  unfolding unjoined joined
+  unjoined-none v q trees cover =
+      let (m, t) = first-some (λ u. not (joined fromRoots (headD roots 0) u)) (below (g .vertices)) q in
+      let (tree, n, l) = cover-links cover v (of-below (g .vertices) m) in
+      let root : tree .start ∈ roots = rw (cover .starts) at (in-map (λ (t : Tree). t .start) n) in
+      let same : fromRoots (headD roots 0) ≡ fromRoots v = root-is-reached g roots (ordered g) (head-in root) v .1 (tree .start, root, l) in
+      true≢false (sym (eq-eqb (fromRoots (headD roots 0)) (fromRoots v) same) ∙ not-true (joined fromRoots (headD roots 0) v) t)
+
+  -- where there is no such vertex each is linked to a root
+  joined-reached : 1 ≤ length roots → unjoined g roots fromRoots ≡ none → (v : ℕ) → v < g .vertices → Reached g roots (ordered g) v
+  unfolding unjoined joined
+  joined-reached some-root q v h =
+      let t = first-none (λ u. not (joined fromRoots (headD roots 0) u)) (below (g .vertices)) q v (in-below (g .vertices) h) in
+      root-is-reached g roots (ordered g) (some-head roots some-root) v .0 (eqb-true (fromRoots (headD roots 0)) (fromRoots v) (not-false (joined fromRoots (headD roots 0) v) t))
+
+  rooted-cover : CrewsFit g (rooted roots) → unjoined g roots fromRoots ≡ none → IsCover g (rooted roots) (wholeTrees g roots)
+  rooted-cover (some-root, inside) q = record { starts = whole-starts g roots; all-covered = whole-covers g roots inside (joined-reached some-root q) }
+
+-- UNROOTED
+
+module _ (g : Graph) (k : ℕ) where
+  -- a cover has a tree for each component: the labels of the lowest vertices are among those of its starts, and all different
+  components-few : {trees : List Tree} → IsCover g (unrooted k) trees → length (lowest g (whole g)) ≤ k
+  components-few {trees} cover =
+      omega (
+        arith,
+        cover .starts .1,
+        length-map (lowest g (whole g)) (whole g),
+        length-map trees (λ (t : Tree). whole g (t .start)),
+        length-within (map-once (whole g) (rising-once (lowest-rising g (whole g))) (λ u v m n. lowest-alike g (whole g) m n)) among,
+      )
+    where
+      among : (x : ℕ) → x ∈ map (whole g) (lowest g (whole g)) → x ∈ map (λ (t : Tree). whole g (t .start)) trees
+      among x m =
+          let (v, n, q) = of-map (whole g) (lowest g (whole g)) m in
+          let (t, i, l) = cover-links cover v (lowest-inside g (whole g) n) in
+          Memᴰ·cast (q ∙ sym (linked-merged g (ordered g) apart l)) (in-map (λ (t : Tree). whole g (t .start)) i)
+
+  unrooted-cover : Valid g → length (lowest g (whole g)) ≤ k → IsCover g (unrooted k) (wholeTrees g (lowest g (whole g)))
+  unrooted-cover valid few =
+      record {
+        starts = (omega (arith, whole-count g (lowest g (whole g)), some-component), omega (arith, whole-count g (lowest g (whole g))));
+        all-covered =
+            whole-covers g (lowest g (whole g)) (λ r m. lowest-inside g (whole g) m)
+            (λ v h. let (r, o) = lowest-of g (whole g) v h in (r, o .listed, merged-linked g (ordered g) r v (o .alike)));
+      }
+    where
+      some-component : 1 ≤ length (lowest g (whole g))
+      some-component = some-member (lowest-of g (whole g) 0 (valid .vertices-some) .1 .listed)
+
+-- "No cover" is said only where there is none.
+pub no-cover-none : (g : Graph) (crews : Crews) → noCover g crews ≡ true → NoneAtAll g crews
+unfolding noCover nobody
+no-cover-none g (rooted roots) t = go (unjoined g roots (fromRoots g roots)) refl t
+  where
+    go : (o : Option ℕ) → unjoined g roots (fromRoots g roots) ≡ o → not (nobody o) ≡ true → NoneAtAll g (rooted roots)
+    go none q t = absurd (false≢true t)
+    go (some v) q t = unjoined-none g roots v q
+no-cover-none g (unrooted k) t = λ trees cover. omega (arith, ltb-true k (length (lowest g (whole g))) t, components-few g k cover)
+
+-- Where it is not said there is one.
+pub some-cover : {g : Graph} → Valid g → (crews : Crews) → CrewsFit g crews → noCover g crews ≡ false → (trees : List Tree) × IsCover g crews trees
+unfolding noCover nobody
+some-cover {g} valid (rooted roots) fit t = go (unjoined g roots (fromRoots g roots)) refl t
+  where
+    go : (o : Option ℕ) → unjoined g roots (fromRoots g roots) ≡ o → not (nobody o) ≡ false → (trees : List Tree) × IsCover g (rooted roots) trees
+    go none q t = (wholeTrees g roots, rooted-cover g roots fit q)
+    go (some v) q t = absurd (true≢false t)
+some-cover {g} valid (unrooted k) fit t = (wholeTrees g (lowest g (whole g)), unrooted-cover g k valid (ltb-false k (length (lowest g (whole g))) t))
+
+-- So "no cover" is said exactly where none exists.
+pub no-cover-exactly : {g : Graph} → Valid g → (crews : Crews) → CrewsFit g crews → (noCover g crews ≡ true) ↔ NoneAtAll g crews
+no-cover-exactly {g} valid crews fit = (no-cover-none g crews, λ out. go out (noCover g crews) refl)
+  where
+    go : NoneAtAll g crews → (t : Bool) → noCover g crews ≡ t → noCover g crews ≡ true
+    go out true e = e
+    go out false e = let (trees, cover) = some-cover valid crews fit e in absurd (out trees cover)

@@ -1,0 +1,98 @@
+-- What the replies mean: that of a trial, with good choices at its limit, and that of the best-limit question, with good choices at the best limit.
+-- Assumes nothing.
+use Prim.Native.Nat.{ℕ, _<_}
+use mathlib.Core.Path.{_≡_, refl}
+use mathlib.Core.Logic.{_↔_}
+use mathlib.Core.Bool.{Bool, true, false, cond, _&&_, false≢true}
+use mathlib.Core.List.{List}
+use mathlib.Core.Option.{Option, some, none}
+use native.Mathlib.Omega.{arith}
+use lib.Dec.{leb}
+use Rattle.graph.specs.Graph.{Graph}
+use Rattle.graph.specs.Valid.{Valid}
+use Rattle.rules.specs.Cover.{Tree, heaviest, Crews, rooted, unrooted, IsCover}
+use Rattle.rules.specs.Reply.{Reply, covered, too-low-parts, too-low-needs, no-cover}
+use Rattle.rules.specs.RootedTrial.{Choices, stopOr, unjoinedAt, isAssignable, rootedTrial}
+use Rattle.rules.specs.UnrootedTrial.{needed, unrootedTrial}
+use Rattle.rules.specs.Search.{nobody, accepts, trial, noCover, bestLimit, best}
+use Rattle.rules.specs.Meaning.{CrewsFit, NoneWithin, TrialMeans, BestMeans}
+use Rattle.planner_laws.proofs.NoCover.{no-cover-none, some-cover}
+use Rattle.planner_laws.proofs.TrialBounds.{GoodFor, trialTrees, CoverWithin, TrialBounds}
+use Rattle.planner_laws.proofs.BestLimit.{best-accepted, best-cover, best-factor}
+
+-- TRIALS
+
+-- An accepted trial replies with its trees.
+pub accepted-covered : (g : Graph) (crews : Crews) (limit : ℕ) (c : Choices) → accepts g crews limit ≡ true
+    → trial g crews limit c ≡ covered limit (heaviest g (trialTrees g crews limit c)) (trialTrees g crews limit c)
+unfolding accepts trial rootedTrial unrootedTrial stopOr nobody
+accepted-covered g (rooted roots) limit c t = go (unjoinedAt g roots limit) (isAssignable g roots limit) _ _ t
+  where
+    go : (o : Option ℕ) (a : Bool) (x y : Reply) → (nobody o && a) ≡ true → stopOr o (cond a x y) ≡ x
+    go (some v) a x y t = absurd (false≢true t)
+    go none true x y t = refl
+    go none false x y t = absurd (false≢true t)
+accepted-covered g (unrooted k) limit c t = rw t
+
+-- A trial that replies with trees was accepted.
+pub covered-accepted : (g : Graph) (crews : Crews) (limit : ℕ) (c : Choices) {replied h : ℕ} {trees : List Tree} → trial g crews limit c ≡ covered replied h trees
+    → accepts g crews limit ≡ true
+unfolding accepts trial rootedTrial unrootedTrial stopOr nobody
+covered-accepted g (rooted roots) limit c {replied} {h} {trees} q = go (unjoinedAt g roots limit) (isAssignable g roots limit) _ _ _ _ q
+  where
+    go : (o : Option ℕ) (a : Bool) (x : Reply) (T D : ℕ) (parts : List Tree) → stopOr o (cond a x (too-low-parts T D parts)) ≡ covered replied h trees → (nobody o && a) ≡ true
+    go (some v) a x T D parts q = let z : _≡_ {A = ℕ} 0 1 = cc in absurd (omega arith)
+    go none true x T D parts q = refl
+    go none false x T D parts q = let z : _≡_ {A = ℕ} 0 1 = cc in absurd (omega arith)
+covered-accepted g (unrooted k) limit c {replied} {h} {trees} q = go (leb (needed g limit) k) _ _ q
+  where
+    go : (a : Bool) (x : Reply) (C : ℕ) → cond a x (too-low-needs C) ≡ covered replied h trees → a ≡ true
+    go true x C q = refl
+    go false x C q = let z : _≡_ {A = ℕ} 0 1 = cc in absurd (omega arith)
+
+-- Both ways: a limit is accepted exactly where the trial replies with its trees.
+pub accepts-is-covered : (g : Graph) (crews : Crews) (limit : ℕ) (c : Choices) → (accepts g crews limit ≡ true)
+    ↔ (trial g crews limit c ≡ covered limit (heaviest g (trialTrees g crews limit c)) (trialTrees g crews limit c))
+accepts-is-covered g crews limit c = (accepted-covered g crews limit c, λ q. covered-accepted g crews limit c q)
+
+-- An accepted trial's reply is a cover within four times the limit.
+accepted-means : {g : Graph} {crews : Crews} {limit : ℕ} {trees : List Tree} → CoverWithin g crews limit trees → TrialMeans g crews limit (covered limit (heaviest g trees) trees)
+accepted-means w = record { at-limit = refl; carries = record { cover = w .cover; carried = refl }; factor-four = omega (arith, w .light) }
+
+-- A trial's reply means what document 01 says of it.
+pub trial-means : {g : Graph} (crews : Crews) → TrialBounds g crews → (limit : ℕ) (c : Choices) → GoodFor g crews limit c → TrialMeans g crews limit (trial g crews limit c)
+unfolding accepts trial rootedTrial unrootedTrial stopOr nobody
+trial-means {g} (rooted roots) bounds limit c good =
+    go (unjoinedAt g roots limit) (isAssignable g roots limit) _ _ _ _ (λ t. bounds .accepted-covers limit c t good) (bounds .refused-below limit) (λ t. good .deficient t .fewer)
+  where
+    go : (o : Option ℕ) (a : Bool) (trees : List Tree) (T D : ℕ) (parts : List Tree) → ((nobody o && a) ≡ true → CoverWithin g (rooted roots) limit trees)
+        → ((nobody o && a) ≡ false → NoneWithin g (rooted roots) limit) → (a ≡ false → D < T)
+        → TrialMeans g (rooted roots) limit (stopOr o (cond a (covered limit (heaviest g trees) trees) (too-low-parts T D parts)))
+    go (some v) a trees T D parts covers below fewer = below refl
+    go none true trees T D parts covers below fewer = accepted-means (covers refl)
+    go none false trees T D parts covers below fewer = record { none-within = below refl; fewer = fewer refl }
+trial-means {g} (unrooted k) bounds limit c good = go (leb (needed g limit) k) _ _ (λ t. bounds .accepted-covers limit c t good) (bounds .refused-below limit)
+  where
+    go : (a : Bool) (trees : List Tree) (C : ℕ) → (a ≡ true → CoverWithin g (unrooted k) limit trees) → (a ≡ false → NoneWithin g (unrooted k) limit)
+        → TrialMeans g (unrooted k) limit (cond a (covered limit (heaviest g trees) trees) (too-low-needs C))
+    go true trees C covers below = accepted-means (covers refl)
+    go false trees C covers below = below refl
+
+-- THE BEST LIMIT
+
+-- The reply of the best-limit question means what document 01 says of it.
+pub best-means : {g : Graph} → Valid g → (crews : Crews) → CrewsFit g crews → TrialBounds g crews → (c : Choices) → GoodFor g crews (bestLimit g crews) c → BestMeans g crews (best g crews c)
+unfolding best
+best-means {g} valid crews fit bounds c good = go (noCover g crews) refl
+  where
+    found : (trees : List Tree) → IsCover g crews trees → BestMeans g crews (trial g crews (bestLimit g crews) c)
+    found trees cover =
+        rw (accepted-covered g crews (bestLimit g crews) c (best-accepted bounds cover))
+        (record {
+          carries = record { cover = best-cover bounds cover c good .cover; carried = refl };
+          factor-four = λ others o. omega (arith, best-factor bounds cover c good others o);
+        })
+
+    go : (t : Bool) → noCover g crews ≡ t → BestMeans g crews (cond t no-cover (trial g crews (bestLimit g crews) c))
+    go true e = no-cover-none g crews e
+    go false e = let (trees, cover) = some-cover valid crews fit e in found trees cover

@@ -1,0 +1,38 @@
+-- Crews that 21 does not refuse fit the graph: there is at least one, and the roots, numbered from 0, are vertices.
+-- Assumes nothing.
+use Prim.Native.Nat.{ℕ, _≤_}
+use mathlib.Core.Path.{_≡_}
+use mathlib.Core.Bool.{false, _||_}
+use mathlib.Core.Option.{none}
+use native.Mathlib.Omega.{arith}
+use lib.Dec.{ltb}
+use lib.ListN.{length}
+use borrow.Author.Tests.{ltb-false}
+use Rattle.lists.specs.Count.{below}
+use Rattle.lists.proofs.Below.{of-below}
+use Rattle.lists.proofs.Every.{first-false, second-false}
+use Rattle.lists.proofs.Runs.{length-below}
+use Rattle.graph.specs.Graph.{Graph}
+use Rattle.rules.specs.Cover.{Crews, rooted, unrooted}
+use Rattle.rules.specs.Questions.{crewCount, tooManyRoots, crewFault}
+use Rattle.rules.specs.Meaning.{CrewsFit}
+use Rattle.rules.proofs.Faults.{quiet-if}
+
+-- There is at least one crew, and there are no more roots than vertices.
+quiet-crews : (crews : Crews) (n : ℕ) → crewFault crews n ≡ none → (1 ≤ crewCount crews) × (tooManyRoots crews n ≡ false)
+unfolding crewFault
+quiet-crews crews n e =
+    let t = quiet-if (ltb (crewCount crews) 1 || (ltb 32 (crewCount crews) || tooManyRoots crews n)) 21 e in
+    let r = second-false (ltb (crewCount crews) 1) (ltb 32 (crewCount crews) || tooManyRoots crews n) t in
+    (ltb-false (crewCount crews) 1 (first-false (ltb (crewCount crews) 1) _ t), second-false (ltb 32 (crewCount crews)) (tooManyRoots crews n) r)
+
+pub rooted-fit : (g : Graph) (k : ℕ) → crewFault (rooted (below k)) (g .vertices) ≡ none → CrewsFit g (rooted (below k))
+unfolding crewCount tooManyRoots
+rooted-fit g k e =
+    let (some, few) = quiet-crews (rooted (below k)) (g .vertices) e in
+    let most = ltb-false (g .vertices) (length (below k)) few in
+    (some, λ r m. omega (arith, of-below k m, length-below k, most))
+
+pub unrooted-fit : (g : Graph) (k : ℕ) → crewFault (unrooted k) (g .vertices) ≡ none → CrewsFit g (unrooted k)
+unfolding crewCount
+unrooted-fit g k e = quiet-crews (unrooted k) (g .vertices) e .0

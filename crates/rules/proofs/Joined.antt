@@ -1,0 +1,38 @@
+-- Edges that are linked to a vertex: the edges of a walk are linked to its start, a vertex at a linked edge is linked, and a set of edges
+-- that is linked to a tree's start links to it whatever the tree covers.
+-- Assumes nothing.
+use Prim.Native.Nat.{ℕ}
+use mathlib.Core.Path.{refl, sym}
+use mathlib.Core.List.{List, List·Memᴰ·head, List·Memᴰ·tail, List·Memᴰ·not-nil}
+use Rattle.lists.specs.Member.{_∈_}
+use Rattle.graph.specs.Graph.{Graph, oneEnd}
+use Rattle.rules.specs.Walk.{Joins, onward, back, Walk, stay, step, Linked}
+use Rattle.rules.specs.Cover.{Tree, Covers, at-start, at-one-end, at-other-end}
+use Rattle.rules.proofs.Linked.{linked-same, linked-on, linked-edge, linked-more, linked-other}
+
+module _ {g : Graph} where
+  -- an edge of the list links what it joins to its one end
+  pub linked-one-end : {edges : List ℕ} {e u v : ℕ} → e ∈ edges → Joins g e u v → Linked g edges u (oneEnd g e)
+  linked-one-end m (onward p q) = linked-same p
+  linked-one-end m (back p q) = linked-edge m (back p refl)
+
+  -- what is linked to the one end of an edge is linked to whatever the edge leads to
+  pub linked-to : {edges : List ℕ} {e r u v : ℕ} → e ∈ edges → Linked g edges r (oneEnd g e) → Joins g e u v → Linked g edges r v
+  linked-to m l (onward p q) = linked-on (linked-other m l) (linked-same (sym q))
+  linked-to m l (back p q) = linked-on l (linked-same (sym q))
+
+  -- a walk links its start to its end,
+  pub walk-linked : {path : List ℕ} {u v : ℕ} → Walk g path u v → Linked g path u v
+  walk-linked {path} w = record { path = path; along = λ e m. m; leads = w }
+
+  -- and to each of its edges
+  pub walk-joined : {path : List ℕ} {u v : ℕ} → Walk g path u v → (e : ℕ) → e ∈ path → Linked g path u (oneEnd g e)
+  walk-joined (stay q) e m = absurd (List·Memᴰ·not-nil m)
+  walk-joined (step j w) e (List·Memᴰ·head q) = rw q (linked-one-end (List·Memᴰ·head refl) j)
+  walk-joined (step j w) e (List·Memᴰ·tail m) = linked-on (linked-edge (List·Memᴰ·head refl) j) (linked-more (λ f n. List·Memᴰ·tail n) (walk-joined w e m))
+
+-- where a tree's edges are linked to its start, whatever it covers is
+pub joined-covers : {g : Graph} {t : Tree} → ((e : ℕ) → e ∈ t .edges → Linked g (t .edges) (t .start) (oneEnd g e)) → {v : ℕ} → Covers g t v → Linked g (t .edges) (t .start) v
+joined-covers joined (at-start q) = linked-same (sym q)
+joined-covers joined (at-one-end e m q) = linked-on (joined e m) (linked-same (sym q))
+joined-covers joined (at-other-end e m q) = linked-on (linked-other m (joined e m)) (linked-same (sym q))

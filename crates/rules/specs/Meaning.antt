@@ -1,0 +1,63 @@
+-- What a reply means, apart from how it is found: of a trial at a limit, and of the best-limit question (demands 2 and 3).
+-- A reply is right exactly where what stands here of its case holds.
+-- Assumes nothing.
+use Prim.Native.Nat.{ℕ, _*_, _≤_, _<_}
+use mathlib.Core.Path.{_≡_}
+use mathlib.Core.List.{List}
+use lib.ListN.{length}
+use Rattle.lists.specs.Member.{_∈_}
+use Rattle.graph.specs.Graph.{Graph}
+use Rattle.rules.specs.Cover.{Tree, heaviest, Crews, rooted, unrooted, IsCover}
+use Rattle.rules.specs.Reply.{Reply, refused, covered, too-low-stop, too-low-parts, too-low-needs, no-cover}
+
+-- Crews that 21 does not refuse: there is at least one, and each root is a vertex.
+abbrev pub CrewsFit : Graph → Crews → Type 0
+CrewsFit g (rooted roots) = (1 ≤ length roots) × ((r : ℕ) → r ∈ roots → r < g .vertices)
+CrewsFit g (unrooted k) = 1 ≤ k
+
+-- No cover by the crews is within the limit: the heaviest of each is above it.
+abbrev pub NoneWithin : Graph → Crews → ℕ → Type 0
+NoneWithin g crews limit = (trees : List Tree) → IsCover g crews trees → limit < heaviest g trees
+
+-- No cover by the crews exists.
+abbrev pub NoneAtAll : Graph → Crews → Type 0
+NoneAtAll g crews = (trees : List Tree) → IsCover g crews trees → ⊥
+
+-- "Accepted answers carry the heaviest weight": the trees are a cover by the crews, whose heaviest is h.
+pub record Carries (g : Graph) (crews : Crews) (h : ℕ) (trees : List Tree) : Type 0 where
+  pub cover : IsCover g crews trees
+  pub carried : h ≡ heaviest g trees
+
+-- A trial at limit B that accepts: a cover by the crews whose heaviest is at most four times B.
+pub record CoveredWithin (g : Graph) (crews : Crews) (limit replied h : ℕ) (trees : List Tree) : Type 0 where
+  pub at-limit : replied ≡ limit
+  pub carries : Carries g crews h trees
+  pub factor-four : h ≤ 4 * limit
+
+-- "Too low, parts T, yards D": no cover is within the limit, "and D < T".
+pub record TooFewRoots (g : Graph) (crews : Crews) (limit T D : ℕ) : Type 0 where
+  pub none-within : NoneWithin g crews limit
+  pub fewer : D < T
+
+-- The best limit: a cover by the crews whose heaviest is at most four times that of every cover by the same crews.
+pub record CoveredBest (g : Graph) (crews : Crews) (h : ℕ) (trees : List Tree) : Type 0 where
+  pub carries : Carries g crews h trees
+  pub factor-four : (others : List Tree) → IsCover g crews others → h ≤ 4 * heaviest g others
+
+-- What the reply of "a trial at limit B" means, by its case. Each "too low" says that no cover is within B.
+abbrev pub TrialMeans : Graph → Crews → ℕ → Reply → Type 0
+TrialMeans g crews limit (refused k) = ⊥
+TrialMeans g crews limit (covered replied h trees) = CoveredWithin g crews limit replied h trees
+TrialMeans g crews limit (too-low-stop v) = NoneWithin g crews limit
+TrialMeans g crews limit (too-low-parts T D parts) = TooFewRoots g crews limit T D
+TrialMeans g crews limit (too-low-needs C) = NoneWithin g crews limit
+TrialMeans g crews limit no-cover = ⊥
+
+-- What the reply of "the best limit" means, by its case. "No cover" says that none exists at all.
+abbrev pub BestMeans : Graph → Crews → Reply → Type 0
+BestMeans g crews (refused k) = ⊥
+BestMeans g crews (covered limit h trees) = CoveredBest g crews h trees
+BestMeans g crews (too-low-stop v) = ⊥
+BestMeans g crews (too-low-parts T D parts) = ⊥
+BestMeans g crews (too-low-needs C) = ⊥
+BestMeans g crews no-cover = NoneAtAll g crews
