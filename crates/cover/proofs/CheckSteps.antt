@@ -2,23 +2,21 @@
 -- Assumes nothing.
 use Prim.Native.Nat.{ℕ, _≤_, _<_}
 use mathlib.Core.Path.{_≡_, refl, sym, ap, _∙_}
-use mathlib.Core.Bool.{true, false, _&&_, false≢true, true≢false}
+use mathlib.Core.Bool.{true, false, _&&_}
 use mathlib.Core.List.{List, [], _∷_}
 use mathlib.Core.Option.{some, none}
 use native.Mathlib.Omega.{arith}
-use lib.Dec.{leb}
 use lib.ListN.{length}
-use borrow.Author.Tests.{lt-ltb, le-ltb, le-leb, lt-leb, eq-eqb, ne-eqb, leb-true, leb-false}
-use Rattle.lists.proofs.Runs.{length-below}
+use borrow.Author.Tests.{le-leb, lt-leb, eq-eqb, ne-eqb}
 use Rattle.graph.specs.Graph.{Graph, edgeCount}
 use Rattle.graph.specs.Bytes.{graphOf}
 use Rattle.graph.specs.Check as sheet
-use Rattle.rules.specs.Fault.{Fault, faultIf, faultUnless, firstFault, refusedOr}
+use Rattle.rules.specs.Fault.{Fault, faultUnless, firstFault, refusedOr}
 use Rattle.rules.specs.Cover.{Crews, heaviest}
 use Rattle.rules.specs.CoverBytes.{coverLength, decode}
 use Rattle.rules.specs.CheckCover.{startsRight, startsBelow, entriesRight, treesRight, verticesCovered, coverFault}
 use Rattle.rules.specs.Reply as reply
-use Rattle.rules.specs.Questions.{numberIn, sheetFault, crewCount, tooManyRoots, crewFault, askCheck}
+use Rattle.rules.specs.Questions.{numberIn, sheetFault, crewFault, askCheck}
 use Rattle.rules.proofs.Fields.{Bytes}
 use Rattle.cover_laws.proofs.CheckQuestion.{yes-exactly-covers}
 use Rattle.cover.specs.declared.crews.Kind.{Kind}

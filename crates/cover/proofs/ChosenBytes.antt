@@ -18,7 +18,7 @@ use Rattle.rules.specs.CoverBytes.{u16Bytes, u16List, entryTrees, entryEdges, e
 use Rattle.rules.specs.Held.{treeAt, treesAt}
 use Rattle.rules.proofs.Fields.{field-length, fields-length}
 use Rattle.cover_laws.proofs.Writing.{length-encode}
-use Rattle.cover.specs.Chosen.{sizeAt, entryCount, treeNumbers, IsHeld, Readable, AllHeld, Writable, EdgesWritable}
+use Rattle.cover.specs.Chosen.{startsAt, edgesAt, sizeAt, entryCount, treeNumbers, IsHeld, Readable, AllHeld, Writable, EdgesWritable}
 
 -- The number of a chosen tree, where it is read.
 pub chosen-readable : (bounds edges chosen : List ℕ) (j : ℕ) {r : ℕ} → AllHeld bounds edges chosen → j < length chosen
@@ -48,12 +48,12 @@ module _ (starts bounds edges : List ℕ) where
   unfolding treesAt
   chosen-trees chosen = length-map chosen (treeAt starts bounds edges)
 
-  pub chosen-starts : (chosen : List ℕ) → map (λ (t : Tree). t .start) (treesAt starts bounds edges chosen) ≡ map (λ c. getD starts c 0) chosen
+  pub chosen-starts : (chosen : List ℕ) → map (λ (t : Tree). t .start) (treesAt starts bounds edges chosen) ≡ startsAt starts chosen
   unfolding treesAt treeAt
   chosen-starts [] = refl
   chosen-starts (c ∷ cs) = ap (λ l. getD starts c 0 ∷ l) (chosen-starts cs)
 
-  pub chosen-edges : (chosen : List ℕ) → entryEdges (treesAt starts bounds edges chosen) ≡ flat (map (segment bounds edges) chosen)
+  pub chosen-edges : (chosen : List ℕ) → entryEdges (treesAt starts bounds edges chosen) ≡ edgesAt bounds edges chosen
   unfolding treesAt treeAt entryEdges flat
   chosen-edges [] = refl
   chosen-edges (c ∷ cs) = ap (λ l. segment bounds edges c ++ l) (chosen-edges cs)
@@ -67,7 +67,7 @@ module _ (starts bounds edges : List ℕ) where
       (chosen-numbers (suc j) cs (λ d m. h d (List·Memᴰ·tail m)))
 
 -- The chosen trees have so many entries.
-pub edges-length : (bounds edges chosen : List ℕ) → AllHeld bounds edges chosen → length (flat (map (segment bounds edges) chosen)) ≡ entryCount bounds chosen
+pub edges-length : (bounds edges chosen : List ℕ) → AllHeld bounds edges chosen → length (edgesAt bounds edges chosen) ≡ entryCount bounds chosen
 unfolding flat entryCount sumOf
 edges-length bounds edges [] h = refl
 edges-length bounds edges (c ∷ cs) h =
@@ -81,8 +81,8 @@ edges-length bounds edges (c ∷ cs) h =
 -- The bytes, part by part.
 pub chosen-bytes : (starts bounds edges chosen : List ℕ) → AllHeld bounds edges chosen
     → encode (treesAt starts bounds edges chosen)
-    ≡ u16Bytes (length chosen) ++ (u16Bytes (entryCount bounds chosen) ++ (u16List (map (λ c. getD starts c 0) chosen)
-    ++ (u16List (treeNumbers 0 bounds chosen) ++ u16List (flat (map (segment bounds edges) chosen)))))
+    ≡ u16Bytes (length chosen) ++ (u16Bytes (entryCount bounds chosen) ++ (u16List (startsAt starts chosen)
+    ++ (u16List (treeNumbers 0 bounds chosen) ++ u16List (edgesAt bounds edges chosen))))
 unfolding encode
 chosen-bytes starts bounds edges chosen h =
     rw (
@@ -130,10 +130,10 @@ module _ {starts bounds edges chosen b₀ : List ℕ} (h : Writable starts bound
       pub room-for-starts : n₂ + 2 * length chosen ≤ length b₂
       room-for-starts = omega (arith, counts-put, room-for-all h)
 
-      module _ {b₃ : List ℕ} {n₃ : ℕ} (w₃ : PutTo n₂ (u16List (map (λ c. getD starts c 0) chosen)) b₂ b₃ n₃) where
+      module _ {b₃ : List ℕ} {n₃ : ℕ} (w₃ : PutTo n₂ (u16List (startsAt starts chosen)) b₂ b₃ n₃) where
         starts-put : (n₃ ≡ 4 + 2 * length chosen) × (length b₃ ≡ length b₀)
         starts-put =
-            omega (arith, w₃ .behind, fields-length (map (λ c. getD starts c 0) chosen), length-map chosen (λ c. getD starts c 0), put-length (w₃ .put), counts-put)
+            omega (arith, w₃ .behind, fields-length (startsAt starts chosen), length-map chosen (λ c. getD starts c 0), put-length (w₃ .put), counts-put)
 
         pub room-for-numbers : n₃ + 2 * entryCount bounds chosen ≤ length b₃
         room-for-numbers = omega (arith, starts-put, room-for-all h)
@@ -155,6 +155,6 @@ module _ {starts bounds edges chosen b₀ : List ℕ} (h : Writable starts bound
                     );
               }
 
-          pub all-written : {b₅ : List ℕ} {n₅ : ℕ} → PutTo n₄ (u16List (flat (map (segment bounds edges) chosen))) b₄ b₅ n₅
+          pub all-written : {b₅ : List ℕ} {n₅ : ℕ} → PutTo n₄ (u16List (edgesAt bounds edges chosen)) b₄ b₅ n₅
               → PutTo 0 (encode (treesAt starts bounds edges chosen)) b₀ b₅ n₅
           all-written w₅ = rw (chosen-bytes starts bounds edges chosen (h .held)) (put-behind w₁ (put-behind w₂ (put-behind w₃ (put-behind w₄ w₅))))

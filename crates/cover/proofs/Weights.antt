@@ -14,7 +14,7 @@ use Rattle.lists.proofs.Numbered.{map-below-more}
 use Rattle.lists.proofs.OneMore.{take-more, sum-more}
 use Rattle.graph.specs.Graph.{Graph, weightOf}
 use Rattle.rules.specs.Walk.{totalWeight}
-use Rattle.rules.specs.Cover.{Tree, treeWeight, heaviest}
+use Rattle.rules.specs.Cover.{treeWeight, heaviest}
 use Rattle.rules.specs.CoverBytes.{treesIn, startIn, entryEdge, treeIn, decode}
 use Rattle.rules.specs.Held.{treeAt, treesAt}
 use Rattle.cover.specs.Chosen.{HeaviestChosen}

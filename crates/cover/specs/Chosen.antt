@@ -2,15 +2,22 @@
 -- Assumes nothing.
 use Prim.Native.Nat.{ℕ, suc, _+_, _*_, _-_, _^_, _≤_, _<_}
 use mathlib.Core.Path.{_≡_}
-use mathlib.Core.List.{List, [], _∷_, _++_}
+use mathlib.Core.List.{List, [], _∷_, _++_, map}
 use lib.ListN.{length, getD, replicate}
-use Rattle.lists.specs.Lists.{sumOf}
+use Rattle.lists.specs.Lists.{flat, sumOf}
 use Rattle.lists.specs.Member.{_∈_}
 use Rattle.lists.specs.Segments.{segment}
 use Rattle.graph.specs.Graph.{Graph}
 use Rattle.rules.specs.Cover.{heaviest}
 use Rattle.rules.specs.CoverBytes.{encode}
 use Rattle.rules.specs.Held.{treesAt}
+
+-- Their starts, and their edges one tree after the other.
+abbrev pub startsAt : List ℕ → List ℕ → List ℕ
+startsAt starts chosen = map (λ c. getD starts c 0) chosen
+
+abbrev pub edgesAt : List ℕ → List ℕ → List ℕ → List ℕ
+edgesAt bounds edges chosen = flat (map (segment bounds edges) chosen)
 
 -- How many edges tree c has, by its bounds.
 abbrev pub sizeAt : List ℕ → ℕ → ℕ

@@ -4,15 +4,12 @@ use crate::index::edges_at;
 use crate::index::number_at;
 use crate::index::size_at;
 ghost use mathlib.Core.Path.{_≡_};
-ghost use mathlib.Core.List.{map};
 ghost use Prim.Native.Nat.{_+_, _*_, _^_, _≤_, _<_};
-ghost use lib.ListN.{length, getD, replicate};
-ghost use Rattle.lists.specs.Lists.{flat};
+ghost use lib.ListN.{length, replicate};
 ghost use Rattle.lists.specs.Put.{PutTo};
-ghost use Rattle.lists.specs.Segments.{segment};
 ghost use Rattle.rules.specs.CoverBytes.{u16Bytes, u16List, encode};
 ghost use Rattle.rules.specs.Held.{treesAt};
-ghost use Rattle.cover.specs.Chosen.{entryCount, treeNumbers, Writable, EdgesWritable};
+ghost use Rattle.cover.specs.Chosen.{startsAt, edgesAt, entryCount, treeNumbers, Writable, EdgesWritable};
 
 // A field of two bytes, at a place.
 fn put_u16(buf: &mut [u8], at: usize, x: usize) -> usize
@@ -69,7 +66,7 @@ fn entry_count(bounds: &[u16], chosen: &[u16]) -> usize
 // The starts of the chosen trees, from a place on.
 fn put_starts(buf: &mut [u8], at: usize, starts: &[u16], chosen: &[u16]) -> usize
     requires { ⌜ at + 2 * length (now chosen) ≤ length (now buf) ⌝ }
-    ensures { λ r. ⌜ PutTo at (u16List (map (λ c. getD (now (starts .entry)) c 0) (now (chosen .entry)))) (now (buf .entry)) (now (buf .exit)) r ⌝ }
+    ensures { λ r. ⌜ PutTo at (u16List (startsAt (now (starts .entry)) (now (chosen .entry)))) (now (buf .entry)) (now (buf .exit)) r ⌝ }
 {
     let mut next = at;
     let mut j = 0;
@@ -99,7 +96,7 @@ fn put_tree_numbers(buf: &mut [u8], at: usize, bounds: &[u16], chosen: &[u16]) -
 // The edge of each of their entries, from a place on.
 fn put_edges(buf: &mut [u8], at: usize, bounds: &[u16], edges: &[u16], chosen: &[u16]) -> usize
     requires { ⌜ EdgesWritable (now bounds) (now edges) (now chosen) at (length (now buf)) ⌝ }
-    ensures { λ r. ⌜ PutTo at (u16List (flat (map (segment (now (bounds .entry)) (now (edges .entry))) (now (chosen .entry))))) (now (buf .entry)) (now (buf .exit)) r ⌝ }
+    ensures { λ r. ⌜ PutTo at (u16List (edgesAt (now (bounds .entry)) (now (edges .entry)) (now (chosen .entry)))) (now (buf .entry)) (now (buf .exit)) r ⌝ }
 {
     let mut next = at;
     let mut j = 0;
@@ -124,9 +121,9 @@ pub fn write_cover(
     ensures { λ r. ⌜ PutTo 0 (encode (treesAt (now (starts .entry)) (now (bounds .entry)) (now (edges .entry)) (now (chosen .entry)))) (now (buf .entry)) (now (buf .exit)) r ⌝ }
 {
     let entries = entry_count(bounds, chosen);
-    let second = put_u16(buf, 0, chosen.len());
-    let heads = put_u16(buf, second, entries);
-    let numbers = put_starts(buf, heads, starts, chosen);
-    let lines = put_tree_numbers(buf, numbers, bounds, chosen);
-    put_edges(buf, lines, bounds, edges, chosen)
+    let behind_trees = put_u16(buf, 0, chosen.len());
+    let behind_counts = put_u16(buf, behind_trees, entries);
+    let behind_starts = put_starts(buf, behind_counts, starts, chosen);
+    let behind_numbers = put_tree_numbers(buf, behind_starts, bounds, chosen);
+    put_edges(buf, behind_numbers, bounds, edges, chosen)
 }

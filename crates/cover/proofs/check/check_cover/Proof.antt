@@ -1,5 +1,4 @@
 -- `cover::check::check_cover` meets its contract: the graph's bytes, the crews, then the cover's bytes decide. Assumes nothing.
-use Prim.Native.Nat.{ℕ}
 use mathlib.Core.Path.{_≡_, sym, ap, _∙_}
 use native.Mathlib.Omega.{arith}
 use borrow.Author.Tests.{not-true, not-false}

@@ -22,8 +22,8 @@ abbrev μ-loop : tie.MeasureT-loop
 abbrev start : tie.At-loop Inv-loop μ-loop → tie.Start Inv-loop μ-loop
 start l = l .before .before .before .before
 
-abbrev g : tie.At-loop Inv-loop μ-loop → Graph
-g l = graphOf (start l .args .b .now)
+abbrev g : tie.Start Inv-loop μ-loop → Graph
+g s = graphOf (s .args .b .now)
 
 -- In a turn, the end of the next tree's run was found.
 module _ (t : tie.After-run-end Inv-loop μ-loop) where
@@ -32,7 +32,7 @@ module _ (t : tie.After-run-end Inv-loop μ-loop) where
 
   run-is-tree : treeIn (start turn .args .c .now) (turn .loop .j)
       ≡ record { start = startIn (start turn .args .c .now) (turn .loop .j); edges = runEdges (start turn .args .c .now) (turn .loop .from) (t .run-end .result) }
-  run-is-tree = tree-is-run (start turn .args .c .now) (edgeCount (g turn)) (start turn .pre .entries) (turn .loop .inv .1) (t .run-end .ensures)
+  run-is-tree = tree-is-run (start turn .args .c .now) (edgeCount (g (start turn))) (start turn .pre .entries) (turn .loop .inv .1) (t .run-end .ensures)
 
 trees-in-requires : tie.Need-trees-in-requires Inv-loop μ-loop
 trees-in-requires c κs = tt
@@ -40,8 +40,7 @@ trees-in-requires c κs = tt
 loop-holds : tie.Need-loop-holds Inv-loop μ-loop
 loop-holds c =
     let s = c .before .before .before in
-    let g = graphOf (s .args .b .now) in
-    (omega arith, begins-first (s .args .c .now) (edgeCount g) (s .pre .entries), heaviest-none g (s .args .c .now))
+    (omega arith, begins-first (s .args .c .now) (edgeCount (g s)) (s .pre .entries), heaviest-none (g s) (s .args .c .now))
 
 run-end-requires : tie.Need-run-end-requires Inv-loop μ-loop
 run-end-requires c κs = c .before .loop .inv .1 .inside
@@ -64,15 +63,15 @@ loop-again c =
     let l = turn run in
     let s = start l in (
       omega arith,
-      begins-next (s .args .c .now) (edgeCount (g l)) (s .pre .entries) (l .loop .inv .1) (run .run-end .ensures),
+      begins-next (s .args .c .now) (edgeCount (g (start l))) (s .pre .entries) (l .loop .inv .1) (run .run-end .ensures),
       c .larger .ensures ∙ ap₂ max (l .loop .inv .2) (c .before .run-weight .ensures)
-          ∙ heaviest-next (g l) (s .args .c .now) (l .loop .j) (l .loop .from) (run .run-end .result) (run-is-tree run),
+          ∙ heaviest-next (g (start l)) (s .args .c .now) (l .loop .j) (l .loop .from) (run .run-end .result) (run-is-tree run),
     )
 
 returns : tie.Need-returns Inv-loop μ-loop
 returns c =
     let l = c .before in
-    l .loop .inv .2 ∙ heaviest-all (g l) (start l .args .c .now) (l .loop .j) (omega arith)
+    l .loop .inv .2 ∙ heaviest-all (g (start l)) (start l .args .c .now) (l .loop .j) (omega arith)
 
 pub heaviest-tree-spec : {M : Type 1} → statement M
 heaviest-tree-spec =

@@ -22,13 +22,13 @@ abbrev μ-loop : tie.MeasureT-loop
 abbrev start : tie.At-loop Inv-loop μ-loop → tie.Start Inv-loop μ-loop
 start l = l .before .before .before
 
-abbrev g : tie.At-loop Inv-loop μ-loop → Graph
-g l = graphOf (start l .args .b .now)
+abbrev g : tie.Start Inv-loop μ-loop → Graph
+g s = graphOf (s .args .b .now)
 
 loop-holds : tie.Need-loop-holds Inv-loop μ-loop
 loop-holds c =
     let s = c .before .before in
-    (omega arith, omega (arith, s .pre .forward), omega arith, run-weight-none (graphOf (s .args .b .now)) (s .args .c .now) (s .args .from))
+    (omega arith, omega (arith, s .pre .forward), omega arith, run-weight-none (g s) (s .args .c .now) (s .args .from))
 
 entry-edge-requires : tie.Need-entry-edge-requires Inv-loop μ-loop
 entry-edge-requires c κs = tt
@@ -54,9 +54,9 @@ loop-again c =
       omega arith,
       omega (
         arith,
-        run-weight-next (g l) (s .c .now) (s .from) (l .loop .i) (omega arith),
+        run-weight-next (g (start l)) (s .c .now) (s .from) (l .loop .i) (omega arith),
         c .weight .ensures .is,
-        ap (weightOf (g l)) (c .before .entry-edge .ensures .is),
+        ap (weightOf (g (start l))) (c .before .entry-edge .ensures .is),
         l .loop .inv .3,
       ),
     )
@@ -66,7 +66,7 @@ returns c =
     let l = c .before in
     let s = start l .args in
     let end : l .loop .i ≡ s .to = omega arith in
-    l .loop .inv .3 ∙ ap (λ k. totalWeight (g l) (runEdges (s .c .now) (s .from) k)) end
+    l .loop .inv .3 ∙ ap (λ k. totalWeight (g (start l)) (runEdges (s .c .now) (s .from) k)) end
 
 pub run-weight-spec : {M : Type 1} → statement M
 run-weight-spec =

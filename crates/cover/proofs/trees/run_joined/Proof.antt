@@ -25,8 +25,8 @@ abbrev μ-loop : tie.MeasureT-loop
 abbrev start : tie.At-loop Inv-loop μ-loop → tie.Start Inv-loop μ-loop
 start l = l .before .before .before .before
 
-abbrev g : tie.At-loop Inv-loop μ-loop → Graph
-g l = graphOf (start l .args .b .now)
+abbrev g : tie.Start Inv-loop μ-loop → Graph
+g s = graphOf (s .args .b .now)
 
 -- In a turn, one end of the entry's edge was read: the label there is that of the edge's end.
 module _ (t : tie.After-one-end Inv-loop μ-loop) where
@@ -39,8 +39,8 @@ module _ (t : tie.After-one-end Inv-loop μ-loop) where
   abbrev e : ℕ
   e = entryEdge (s .args .c .now) (turn .loop .i)
 
-  read-label : getD (s .args .label .now) (t .one-end .result) 0 ≡ getD (s .args .label .now) (oneEnd (g turn) e) 0
-  read-label = ap (λ u. getD (s .args .label .now) u 0) (t .one-end .ensures .is ∙ ap (oneEnd (g turn)) (t .before .entry-edge .ensures .is))
+  read-label : getD (s .args .label .now) (t .one-end .result) 0 ≡ getD (s .args .label .now) (oneEnd (g (start turn)) e) 0
+  read-label = ap (λ u. getD (s .args .label .now) u 0) (t .one-end .ensures .is ∙ ap (oneEnd (g (start turn))) (t .before .entry-edge .ensures .is))
 
 loop-holds : tie.Need-loop-holds Inv-loop μ-loop
 loop-holds c = (omega arith, λ k h l. absurd (omega arith))

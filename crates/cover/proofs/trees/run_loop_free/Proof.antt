@@ -23,8 +23,8 @@ abbrev μ-loop : tie.MeasureT-loop
 abbrev start : tie.At-loop Inv-loop μ-loop → tie.Start Inv-loop μ-loop
 start l = l .before .before .before .before
 
-abbrev g : tie.At-loop Inv-loop μ-loop → Graph
-g l = graphOf (start l .args .b .now)
+abbrev g : tie.Start Inv-loop μ-loop → Graph
+g s = graphOf (s .args .b .now)
 
 -- In a turn, the ends of the entry's edge were joined where they were not.
 module _ (t : tie.After-join-ends Inv-loop μ-loop) where
@@ -34,7 +34,7 @@ module _ (t : tie.After-join-ends Inv-loop μ-loop) where
   abbrev turn : tie.At-loop Inv-loop μ-loop
   turn = read .before .before
 
-  joined : Joined (g turn) (entryEdge (start turn .args .c .now) (turn .loop .i)) (turn .loop .label) (t .join-ends .last .1 .1 .0) (t .join-ends .result)
+  joined : Joined (g (start turn)) (entryEdge (start turn .args .c .now) (turn .loop .i)) (turn .loop .label) (t .join-ends .last .1 .1 .0) (t .join-ends .result)
   joined = rw (read .entry-edge .ensures .is) at (t .join-ends .ensures)
 
   as-long : length (t .join-ends .last .1 .1 .0) ≡ length (turn .loop .label)
@@ -43,7 +43,7 @@ module _ (t : tie.After-join-ends Inv-loop μ-loop) where
 loop-holds : tie.Need-loop-holds Inv-loop μ-loop
 loop-holds c =
     let s = c .before .before .before in
-    run-start (graphOf (s .args .b .now)) (s .args .c .now) (s .args .from) (s .args .to) (s .pre .0) (s .args .label .now)
+    run-start (g s) (s .args .c .now) (s .args .from) (s .args .to) (s .pre .0) (s .args .label .now)
 
 entry-edge-requires : tie.Need-entry-edge-requires Inv-loop μ-loop
 entry-edge-requires c κs = tt
@@ -64,7 +64,7 @@ returns c =
     let t = c .before .before .before in
     let l = turn t in
     let s = start l .args in
-    run-loop (g l) (s .c .now) (s .from) (s .to) (l .loop .inv) (omega arith) (joined t) (not-true (t .join-ends .result) (c .if1 .taken))
+    run-loop (g (start l)) (s .c .now) (s .from) (s .to) (l .loop .inv) (omega arith) (joined t) (not-true (t .join-ends .result) (c .if1 .taken))
 
 add-i : tie.Need-add-i Inv-loop μ-loop
 add-i c = omega arith
@@ -77,7 +77,7 @@ loop-again c =
     let t = c .before .before .before in
     let l = turn t in
     let s = start l .args in
-    run-next (g l) (s .c .now) (s .from) (s .to) (l .loop .inv) (omega arith) (joined t) (as-long t) (not-false (t .join-ends .result) (c .if1 .left))
+    run-next (g (start l)) (s .c .now) (s .from) (s .to) (l .loop .inv) (omega arith) (joined t) (as-long t) (not-false (t .join-ends .result) (c .if1 .left))
 
 same-length-2 : tie.Need-same-length-2 Inv-loop μ-loop
 same-length-2 c = c .before .loop .inv .as-long
@@ -86,7 +86,7 @@ returns-2 : tie.Need-returns-2 Inv-loop μ-loop
 returns-2 c =
     let l = c .before in
     let s = start l .args in
-    run-done (g l) (s .c .now) (s .from) (s .to) (l .loop .inv) (omega arith)
+    run-done (g (start l)) (s .c .now) (s .from) (s .to) (l .loop .inv) (omega arith)
 
 pub run-loop-free-spec : {M : Type 1} → statement M
 run-loop-free-spec =

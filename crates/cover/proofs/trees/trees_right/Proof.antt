@@ -30,8 +30,8 @@ abbrev μ-loop : tie.MeasureT-loop
 abbrev start : tie.At-loop Inv-loop μ-loop → tie.Start Inv-loop μ-loop
 start l = let t = l .before in t .before .before .before .before
 
-abbrev g : tie.At-loop Inv-loop μ-loop → Graph
-g l = graphOf (start l .args .b .now)
+abbrev g : tie.Start Inv-loop μ-loop → Graph
+g s = graphOf (s .args .b .now)
 
 -- In a turn, tree j was tested: the answer is that of the tree of the bytes.
 module _ (t : tie.After-tree-right Inv-loop μ-loop) where
@@ -44,11 +44,11 @@ module _ (t : tie.After-tree-right Inv-loop μ-loop) where
   abbrev s : tie.Start Inv-loop μ-loop
   s = start turn
 
-  tested : t .tree-right .result ≡ treeRight (g turn) (treeIn (s .args .c .now) (turn .loop .j))
+  tested : t .tree-right .result ≡ treeRight (g (start turn)) (treeIn (s .args .c .now) (turn .loop .j))
   tested =
       t .tree-right .ensures
-      ∙ ap (λ (x : Tree). treeRight (g turn) x)
-      (sym (tree-is-run (s .args .c .now) (edgeCount (g turn)) (s .pre .cover .entries) (turn .loop .inv .1) (found .run-end .ensures)))
+      ∙ ap (λ (x : Tree). treeRight (g (start turn)) x)
+      (sym (tree-is-run (s .args .c .now) (edgeCount (g (start turn))) (s .pre .cover .entries) (turn .loop .inv .1) (found .run-end .ensures)))
 
   as-long : length (t .tree-right .last .1 .1 .1 .1 .1 .0) ≡ length (s .args .label .now)
   as-long = t .tree-right .kept .1 .1 .1 .1 .1 .0 ∙ turn .loop .inv .0
@@ -59,7 +59,7 @@ trees-in-requires c κs = tt
 loop-holds : tie.Need-loop-holds Inv-loop μ-loop
 loop-holds c =
     let s = c .before .before .before .before in
-    (omega arith, begins-first (s .args .c .now) (edgeCount (graphOf (s .args .b .now))) (s .pre .cover .entries), below-none _)
+    (omega arith, begins-first (s .args .c .now) (edgeCount (g s)) (s .pre .cover .entries), below-none _)
 
 run-end-requires : tie.Need-run-end-requires Inv-loop μ-loop
 run-end-requires c κs = c .before .loop .inv .1 .inside
@@ -70,7 +70,7 @@ tree-right-requires c κs =
     let s = start l in
     record {
       labelable = record { graph = s .pre .cover .graph; room = omega (arith, l .loop .inv .0, s .pre .room) };
-      start = start-passed (s .args .c .now) (g l .vertices) (s .pre .cover .starts) (l .loop .j) (omega arith);
+      start = start-passed (s .args .c .now) (g (start l) .vertices) (s .pre .cover .starts) (l .loop .j) (omega arith);
       forward = c .before .run-end .ensures .run .forward;
     }
 
@@ -80,7 +80,7 @@ same-length c = as-long (c .before .before .before)
 returns : tie.Need-returns Inv-loop μ-loop
 returns c =
     let t = c .before .before .before in
-    sym (tree-wrong (g (turn t)) (s t .args .c .now) (turn t .loop .j) (omega arith) (sym (tested t) ∙ not-true (t .tree-right .result) (c .if1 .taken)))
+    sym (tree-wrong (g (start (turn t))) (s t .args .c .now) (turn t .loop .j) (omega arith) (sym (tested t) ∙ not-true (t .tree-right .result) (c .if1 .taken)))
 
 add-j : tie.Need-add-j Inv-loop μ-loop
 add-j c = omega arith
@@ -93,7 +93,7 @@ loop-again c =
     let t = c .before .before .before in
     let l = turn t .loop in (
       as-long t,
-      begins-next (s t .args .c .now) (edgeCount (g (turn t))) (s t .pre .cover .entries) (l .inv .1) (found t .run-end .ensures),
+      begins-next (s t .args .c .now) (edgeCount (g (start (turn t)))) (s t .pre .cover .entries) (l .inv .1) (found t .run-end .ensures),
       below-more _ (l .j) (l .inv .2) (sym (tested t) ∙ not-false (t .tree-right .result) (c .if1 .left)),
     )
 
@@ -103,7 +103,7 @@ same-length-2 c = c .before .loop .inv .0
 returns-2 : tie.Need-returns-2 Inv-loop μ-loop
 returns-2 c =
     let l = c .before in
-    sym (all-trees (g l) (start l .args .c .now) (λ k h. l .loop .inv .2 k (omega arith)))
+    sym (all-trees (g (start l)) (start l .args .c .now) (λ k h. l .loop .inv .2 k (omega arith)))
 
 pub trees-right-spec : {M : Type 1} → statement M
 trees-right-spec =

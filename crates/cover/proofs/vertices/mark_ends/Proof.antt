@@ -20,11 +20,15 @@ Inv-loop b c marks₀ q i₀ marks i = (length marks ≡ length marks₀) × End
 abbrev μ-loop : tie.MeasureT-loop
 μ-loop b c marks₀ q i₀ marks i = q - i
 
+-- The graph.
+abbrev g : tie.Start Inv-loop μ-loop → Graph
+g s = graphOf (s .args .b .now)
+
 entries-in-requires : tie.Need-entries-in-requires Inv-loop μ-loop
 entries-in-requires c κs = tt
 
 loop-holds : tie.Need-loop-holds Inv-loop μ-loop
-loop-holds c = let s = c .before .before .before .before .args in (refl, ends-none (graphOf (s .b .now)) (s .c .now) (s .marks .now))
+loop-holds c = let s = c .before .before .before .before in (refl, ends-none (g s) (s .args .c .now) (s .args .marks .now))
 
 entry-edge-requires : tie.Need-entry-edge-requires Inv-loop μ-loop
 entry-edge-requires c κs = tt
@@ -43,22 +47,19 @@ module _ (t : tie.After-other-end Inv-loop μ-loop) where
   abbrev s : tie.Start Inv-loop μ-loop
   s = let k = turn .before in k .before .before .before .before
 
-  abbrev g : Graph
-  g = graphOf (s .args .b .now)
-
   abbrev e : ℕ
   e = entryEdge (s .args .c .now) (turn .loop .i)
 
-  one-read : t .before .one-end .result ≡ oneEnd g e
-  one-read = t .before .one-end .ensures .is ∙ ap (oneEnd g) (t .before .before .entry-edge .ensures .is)
+  one-read : t .before .one-end .result ≡ oneEnd (g s) e
+  one-read = t .before .one-end .ensures .is ∙ ap (oneEnd (g s)) (t .before .before .entry-edge .ensures .is)
 
-  other-read : t .other-end .result ≡ otherEnd g e
-  other-read = t .other-end .ensures .is ∙ ap (otherEnd g) (t .before .before .entry-edge .ensures .is)
+  other-read : t .other-end .result ≡ otherEnd (g s) e
+  other-read = t .other-end .ensures .is ∙ ap (otherEnd (g s)) (t .before .before .entry-edge .ensures .is)
 
-  one-place : oneEnd g e < length (s .args .marks .now)
+  one-place : oneEnd (g s) e < length (s .args .marks .now)
   one-place = omega (arith, one-end-below (s .pre .graph .valid) e, s .pre .room)
 
-  other-place : otherEnd g e < length (s .args .marks .now)
+  other-place : otherEnd (g s) e < length (s .args .marks .now)
   other-place = omega (arith, other-end-below (s .pre .graph .valid) e, s .pre .room)
 
 slice-write-marks : tie.Need-slice-write-marks Inv-loop μ-loop

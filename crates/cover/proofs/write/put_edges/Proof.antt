@@ -1,6 +1,6 @@
 -- `cover::write::put_edges` meets its contract. The loop's invariant: the edges of the first j trees are put. The measure is how many
 -- trees are left. Assumes nothing.
-use Prim.Native.Nat.{ℕ, _+_, _*_, _-_, _≤_, _<_}
+use Prim.Native.Nat.{ℕ, _-_, _<_}
 use mathlib.Core.Path.{_≡_, ap, _∙_}
 use mathlib.Core.List.{List}
 use native.Mathlib.Omega.{arith}
