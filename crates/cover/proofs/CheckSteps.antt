@@ -2,67 +2,28 @@
 -- Assumes nothing.
 use Prim.Native.Nat.{ℕ, _≤_, _<_}
 use mathlib.Core.Path.{_≡_, refl, sym, ap, _∙_}
-use mathlib.Core.Bool.{true, false, _&&_, false≢true, true≢false}
+use mathlib.Core.Bool.{true, false, _&&_}
 use mathlib.Core.List.{List, [], _∷_}
 use mathlib.Core.Option.{some, none}
 use native.Mathlib.Omega.{arith}
-use lib.Dec.{leb}
 use lib.ListN.{length}
-use borrow.Author.Tests.{lt-ltb, le-ltb, le-leb, lt-leb, eq-eqb, ne-eqb, leb-true, leb-false}
-use Rattle.lists.proofs.Runs.{length-below}
+use borrow.Author.Tests.{le-leb, lt-leb, eq-eqb, ne-eqb}
 use Rattle.graph.specs.Graph.{Graph, edgeCount}
 use Rattle.graph.specs.Bytes.{graphOf}
 use Rattle.graph.specs.Check as sheet
-use Rattle.graph.specs.Fault.{Fault, faultIf, faultUnless, firstFault, refusedOr}
+use Rattle.graph.specs.Fault.{Fault, faultUnless, firstFault, refusedOr}
 use Rattle.rules.specs.Cover.{Crews, heaviest}
 use Rattle.rules.specs.CoverBytes.{coverLength, decode}
 use Rattle.rules.specs.CheckCover.{startsRight, startsBelow, entriesRight, treesRight, verticesCovered, coverFault}
 use Rattle.rules.specs.Reply as reply
-use Rattle.rules.specs.Questions.{numberIn, sheetFault, crewCount, tooManyRoots, crewFault, askCheck}
+use Rattle.rules.specs.Questions.{numberIn, sheetFault, crewFault, askCheck}
 use Rattle.rules.proofs.Fields.{Bytes}
 use Rattle.cover_laws.proofs.CheckQuestion.{yes-exactly-covers}
-use Rattle.cover.specs.declared.check.Kind.{Kind}
-use Rattle.cover.specs.declared.check.Kind.the-variants.{Rooted, Unrooted}
+use Rattle.cover.specs.declared.crews.Kind.{Kind}
 use Rattle.cover.specs.declared.check.Verdict.{Verdict}
 use Rattle.cover.specs.declared.check.Verdict.the-variants as verdict
-use Rattle.cover.specs.Promise.{crewsOf, says, answer, treesFault, CrewsTested, CheckPromise}
-
--- There are as many crews as k says.
-crew-count : (kind : Kind) (k : ℕ) → crewCount (crewsOf kind k) ≡ k
-unfolding crewCount
-crew-count Rooted k = length-below k
-crew-count Unrooted k = refl
-
-module _ (kind : Kind) (k n : ℕ) where
-  -- The test of the crews says no, with 21.
-  refused-crews : crewFault (crewsOf kind k) n ≡ some 21 → CrewsTested (crewsOf kind k) n false
-  refused-crews q = record { right = λ t. absurd (false≢true t); wrong = λ t. q }
-
-  pub no-crews : k < 1 → CrewsTested (crewsOf kind k) n false
-  unfolding crewFault faultIf
-  no-crews h = refused-crews (rw (crew-count kind k, lt-ltb k 1 h))
-
-  pub many-crews : 32 < k → CrewsTested (crewsOf kind k) n false
-  unfolding crewFault faultIf
-  many-crews h = refused-crews (rw (crew-count kind k, le-ltb k 1 (omega arith), lt-ltb 32 k h))
-
-  -- There are 1 to 32 crews: only the roots may be too many.
-  few-crews : 1 ≤ k → k ≤ 32 → crewFault (crewsOf kind k) n ≡ faultIf (tooManyRoots (crewsOf kind k) n) 21
-  unfolding crewFault
-  few-crews h l = rw (crew-count kind k, le-ltb k 1 h, le-ltb 32 k l)
-
-module _ (k n : ℕ) (h : 1 ≤ k) (l : k ≤ 32) where
-  pub rooted-crews : CrewsTested (crewsOf Rooted k) n (leb k n)
-  unfolding tooManyRoots faultIf
-  rooted-crews =
-      record {
-        right = λ t. few-crews Rooted k n h l ∙ rw (length-below k, le-ltb n k (leb-true k n t));
-        wrong = λ t. few-crews Rooted k n h l ∙ rw (length-below k, lt-ltb n k (leb-false k n t));
-      }
-
-  pub unrooted-crews : CrewsTested (crewsOf Unrooted k) n true
-  unfolding tooManyRoots faultIf
-  unrooted-crews = record { right = λ t. few-crews Unrooted k n h l; wrong = λ t. absurd (true≢false t) }
+use Rattle.cover.specs.Crews.{crewsOf}
+use Rattle.cover.specs.Promise.{says, answer, treesFault, CheckPromise}
 
 -- The cover's bytes, for a graph and crews.
 module _ (g : Graph) (crews : Crews) (c : List ℕ) where

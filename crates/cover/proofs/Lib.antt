@@ -1,10 +1,10 @@
 -- Laws that the proofs of the cover's functions share.
--- bytes put one behind the other
+-- fields put one behind the other
 pub mod Writing
--- tree numbers, tree by tree
-pub mod Numbering
--- the bytes of trees held in arrays
-pub mod HeldBytes
+-- the bytes of chosen trees
+pub mod ChosenBytes
+-- chosen trees and parts fit the planner's buffer
+pub mod ChosenFit
 -- the tests of one entry
 pub mod EntryTests
 -- the tests of the starts
@@ -19,5 +19,7 @@ pub mod TreeTests
 pub mod Marking
 -- the weights of runs and trees
 pub mod Weights
+-- the test of the crews' number
+pub mod CrewTests
 -- the check, test by test
 pub mod CheckSteps

@@ -77,52 +77,38 @@ module _ (g : Graph) (c : List ℕ) where
     other-end-covered =
         (treeIn c (entryTree c i), in-map (treeIn c) (in-below (treesIn c) named), at-other-end (entryEdge c i) (entry-in-tree i h) refl)
 
--- The starts of the trees before j are marked.
-pub record StartsSoFar (c : List ℕ) (j : ℕ) (before after : List ℕ) : Type 0 where
-  pub as-long : length after ≡ length before
-  pub starts : (k : ℕ) → k < j → Marked after (startIn c k)
-  pub only : (g : Graph) → OnlyCovered g c before → OnlyCovered g c after
+-- Starts, one after the other.
+pub starts-none : (c before : List ℕ) → StartsMarked c 0 before before
+starts-none c before = record { starts = below-none _; only = λ g only. only }
 
-pub starts-none : (c before : List ℕ) → StartsSoFar c 0 before before
-starts-none c before = record { as-long = refl; starts = below-none _; only = λ g only. only }
-
-module _ {c : List ℕ} {j : ℕ} {before after : List ℕ} (s : StartsSoFar c j before after) where
-  pub starts-more : j < treesIn c → startIn c j < length before → StartsSoFar c (j + 1) before (set after (startIn c j) 1)
-  starts-more h l =
+module _ {c : List ℕ} {j : ℕ} {before after : List ℕ} (s : StartsMarked c j before after) where
+  pub starts-more : length after ≡ length before → j < treesIn c → startIn c j < length before → StartsMarked c (j + 1) before (set after (startIn c j) 1)
+  starts-more long h l =
       let x = startIn c j in
-      let inside : x < length after = omega (arith, s .as-long) in
+      let inside : x < length after = omega arith in
       record {
-        as-long = length-set after x 1 ∙ s .as-long;
         starts = below-more (λ k. Marked (set after x 1) (startIn c k)) j (λ k m. mark-kept after x inside (startIn c k) (s .starts k m)) (mark-here after x inside);
         only = λ g only. only-more after x g c (start-covered g c j h) (s .only g only);
       }
 
-  pub starts-all : treesIn c ≤ j → StartsMarked c before after
+  pub starts-all : treesIn c ≤ j → StartsMarked c (treesIn c) before after
   starts-all h = record { starts = λ k l. s .starts k (omega arith); only = s .only }
 
--- The ends of the edges of the entries before i are marked.
-pub record EndsSoFar (g : Graph) (c : List ℕ) (i : ℕ) (before after : List ℕ) : Type 0 where
-  pub as-long : length after ≡ length before
-  pub ends : (k : ℕ) → k < i → Marked after (oneEnd g (entryEdge c k)) × Marked after (otherEnd g (entryEdge c k))
-  pub only : ((k : ℕ) → k < entriesIn c → entryTree c k < treesIn c) → OnlyCovered g c before → OnlyCovered g c after
-  pub kept : (v : ℕ) → Marked before v → Marked after v
+-- Ends, entry by entry.
+pub ends-none : (g : Graph) (c before : List ℕ) → EndsMarked g c 0 before before
+ends-none g c before = record { ends = below-none _; only = λ n only. only; kept = λ v p. p }
 
-pub ends-none : (g : Graph) (c before : List ℕ) → EndsSoFar g c 0 before before
-ends-none g c before = record { as-long = refl; ends = below-none _; only = λ n only. only; kept = λ v p. p }
-
-module _ {g : Graph} {c : List ℕ} {i : ℕ} {before after : List ℕ} (s : EndsSoFar g c i before after) where
-  ends-more : i < entriesIn c → oneEnd g (entryEdge c i) < length before → otherEnd g (entryEdge c i) < length before
-      → EndsSoFar g c (i + 1) before (set (set after (oneEnd g (entryEdge c i)) 1) (otherEnd g (entryEdge c i)) 1)
-  ends-more h hu hv =
+module _ {g : Graph} {c : List ℕ} {i : ℕ} {before after : List ℕ} (s : EndsMarked g c i before after) where
+  ends-more : length after ≡ length before → i < entriesIn c → oneEnd g (entryEdge c i) < length before → otherEnd g (entryEdge c i) < length before
+      → EndsMarked g c (i + 1) before (set (set after (oneEnd g (entryEdge c i)) 1) (otherEnd g (entryEdge c i)) 1)
+  ends-more long h hu hv =
       let u = oneEnd g (entryEdge c i) in
       let v = otherEnd g (entryEdge c i) in
       let once = set after u 1 in
-      let long : length once ≡ length before = length-set after u 1 ∙ s .as-long in
-      let inside : u < length after = omega (arith, s .as-long) in
-      let inside-once : v < length once = omega (arith, long) in
+      let inside : u < length after = omega arith in
+      let inside-once : v < length once = omega (arith, length-set after u 1) in
       let kept : (w : ℕ) → Marked after w → Marked (set once v 1) w = λ w p. mark-kept once v inside-once w (mark-kept after u inside w p) in
       record {
-        as-long = length-set once v 1 ∙ long;
         ends =
             below-more (λ k. Marked (set once v 1) (oneEnd g (entryEdge c k)) × Marked (set once v 1) (otherEnd g (entryEdge c k))) i
             (λ k m. (kept (oneEnd g (entryEdge c k)) (s .ends k m .0), kept (otherEnd g (entryEdge c k)) (s .ends k m .1)))
@@ -134,15 +120,15 @@ module _ {g : Graph} {c : List ℕ} {i : ℕ} {before after : List ℕ} (s : End
       }
 
   -- The same, where the ends were read.
-  pub ends-read : {u v : ℕ} → u ≡ oneEnd g (entryEdge c i) → v ≡ otherEnd g (entryEdge c i) → i < entriesIn c → u < length before → v < length before
-      → EndsSoFar g c (i + 1) before (set (set after u 1) v 1)
-  ends-read p q h hu hv =
+  pub ends-read : {u v : ℕ} → u ≡ oneEnd g (entryEdge c i) → v ≡ otherEnd g (entryEdge c i) → length after ≡ length before → i < entriesIn c
+      → u < length before → v < length before → EndsMarked g c (i + 1) before (set (set after u 1) v 1)
+  ends-read p q long h hu hv =
       let x = oneEnd g (entryEdge c i) in
       let y = otherEnd g (entryEdge c i) in
-      let more : EndsSoFar g c (i + 1) before (set (set after x 1) y 1) = ends-more h (omega (arith, p)) (omega (arith, q)) in
-      subst (λ (w : List ℕ). EndsSoFar g c (i + 1) before w) (ap₂ (λ k l. set (set after k 1) l 1) (sym p) (sym q)) more
+      let more : EndsMarked g c (i + 1) before (set (set after x 1) y 1) = ends-more long h (omega (arith, p)) (omega (arith, q)) in
+      subst (λ (w : List ℕ). EndsMarked g c (i + 1) before w) (ap₂ (λ k l. set (set after k 1) l 1) (sym p) (sym q)) more
 
-  pub ends-all : entriesIn c ≤ i → EndsMarked g c before after
+  pub ends-all : entriesIn c ≤ i → EndsMarked g c (entriesIn c) before after
   ends-all h = record { ends = λ k l. s .ends k (omega arith); only = s .only; kept = s .kept }
 
 -- Where all starts and all ends are marked, every vertex that is covered is.
@@ -180,7 +166,7 @@ same-test false true to back = back refl
 same-test false false to back = refl
 
 -- Starts and ends were marked where nothing was: all vertices are marked exactly where all are covered.
-pub all-marked-covered : (g : Graph) (c m₀ m₁ m₂ : List ℕ) → ((v : ℕ) → Marked m₀ v → ⊥) → StartsMarked c m₀ m₁ → EndsMarked g c m₁ m₂
+pub all-marked-covered : (g : Graph) (c m₀ m₁ m₂ : List ℕ) → ((v : ℕ) → Marked m₀ v → ⊥) → StartsMarked c (treesIn c) m₀ m₁ → EndsMarked g c (entriesIn c) m₁ m₂
     → ((i : ℕ) → i < entriesIn c → entryTree c i < treesIn c) → (r : Bool) → (r ≡ true) ↔ AllMarked m₂ (g .vertices) → r ≡ verticesCovered g (decode c)
 all-marked-covered g c m₀ m₁ m₂ none s e named r decides =
     same-test r (verticesCovered g (decode c))

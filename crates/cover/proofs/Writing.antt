@@ -1,97 +1,82 @@
--- Bytes put one behind the other into a buffer are put there together, and so are fields of two bytes.
+-- Fields of two bytes put one behind the other into a buffer, and the loops that put what each element of a list makes.
 -- Assumes nothing.
-use Prim.Native.Nat.{ℕ, _+_, _*_, _≤_, _<_}
-use mathlib.Core.Path.{_≡_, sym, ap, _∙_}
-use mathlib.Core.List.{List, [], _∷_, _++_, append-assoc}
-use native.Mathlib.Numerals.{add-one}
+use Prim.Native.Nat.{ℕ, _+_, _*_, _/_, _%_, _≤_, _<_}
+use mathlib.Core.Path.{_≡_, refl, sym}
+use mathlib.Core.List.{List, [], _∷_, _++_}
 use native.Mathlib.Omega.{arith}
-use lib.ListN.{length, take, drop, set, replicate, replicate-append-replicate, length-append, length-drop, take-append-drop}
-use lib.Seq.{length-take-le, take-at, drop-drop, drop-append-add, sets-eq}
+use lib.ListN.{length, take, getD, set, replicate, replicate-append-replicate, length-set}
+use lib.Seq.{take-all}
 use Rattle.lists.specs.Lists.{flat}
+use Rattle.lists.specs.Put.{PutTo}
+use Rattle.lists.proofs.EachPlace.{madeFrom, made-more, made-within}
+use Rattle.lists.proofs.Put.{put-length, put-behind, put-to-none, put-more}
 use Rattle.rules.specs.CoverBytes.{u16Bytes, u16List}
-use Rattle.rules.proofs.Fields.{field-length, fields-length, fields-more}
-use Rattle.cover.specs.Written.{Written, WrittenTo}
+use Rattle.rules.proofs.Fields.{fields-length, fields-append}
 
--- A buffer of which nothing was written.
-pub written-none : (b : List ℕ) (at : ℕ) → at ≤ length b → Written b b at []
-written-none b at h =
-    let same : at + 0 ≡ at = omega arith in
-    record { room = omega arith; is = rw same (sym (take-append-drop at b)) }
+-- Two stores, side by side, put a field.
+pub field-put : (b : List ℕ) (at x : ℕ) → at + 2 ≤ length b → PutTo at (u16Bytes x) b (set (set b at (x % 256)) (at + 1) (x / 256 % 256)) (at + 2)
+unfolding u16Bytes
+field-put b at x h =
+    let two : at + 1 + 1 ≡ at + 2 = omega arith in
+    rw two at
+    (put-more (x / 256 % 256) (put-more (x % 256) (put-to-none b at (omega arith)) (omega arith)) (rw length-set (omega arith)))
 
--- Two stores, side by side.
-pub written-two : (b : List ℕ) (at x y : ℕ) → at + 2 ≤ length b → Written b (set (set b at x) (at + 1) y) at (x ∷ y ∷ [])
-written-two b at x y h =
-    record {
-      room = h;
-      is = rw add-one (sets-eq (x ∷ y ∷ []) b at h ∙ append-assoc (take at b) (x ∷ y ∷ []) (drop (at + 2) b));
-    }
+-- A list of one field.
+one-field : (x : ℕ) → u16Bytes x ≡ u16List (x ∷ [])
+unfolding u16Bytes u16List flat
+one-field x = refl
 
--- The buffer before the place behind the bytes, and behind it.
-module _ {a b : List ℕ} {at : ℕ} {xs : List ℕ} (w : Written a b at xs) where
-  head-length : length (take at a ++ xs) ≡ at + length xs
-  head-length = length-append (take at a) xs ∙ ap (λ n. n + length xs) (length-take-le at a (omega (arith, w .room)))
+pub as-list : {a b : List ℕ} {at next : ℕ} (x : ℕ) → PutTo at (u16Bytes x) a b next → PutTo at (u16List (x ∷ [])) a b next
+as-list x p = rw one-field at p
 
-  whole : b ≡ (take at a ++ xs) ++ drop (at + length xs) a
-  whole = w .is ∙ sym (append-assoc (take at a) xs (drop (at + length xs) a))
-
-  head-is : take (at + length xs) b ≡ take at a ++ xs
-  head-is = ap (take (at + length xs)) whole ∙ take-at (take at a ++ xs) _ (at + length xs) head-length
-
-  rest-is : (n : ℕ) → drop (at + length xs + n) b ≡ drop (at + length xs + n) a
-  rest-is n =
-      ap (drop (at + length xs + n)) whole
-      ∙ ap (λ k. drop (k + n) ((take at a ++ xs) ++ drop (at + length xs) a)) (sym head-length)
-      ∙ drop-append-add (take at a ++ xs) (drop (at + length xs) a) n
-      ∙ drop-drop n (at + length xs) a
-
-  -- The buffer keeps its length.
-  pub written-length : length b ≡ length a
-  written-length =
-      ap length whole
-      ∙ length-append (take at a ++ xs) (drop (at + length xs) a)
-      ∙ omega (arith, head-length, length-drop (at + length xs) a, w .room)
-
--- Bytes, and more behind them.
-pub written-on : {a b c : List ℕ} {at : ℕ} {xs ys : List ℕ} → Written a b at xs → Written b c (at + length xs) ys → Written a c at (xs ++ ys)
-written-on {a} {b} {c} {at} {xs} {ys} v w =
-    let sum : at + length (xs ++ ys) ≡ at + length xs + length ys = omega (arith, length-append xs ys) in
-    record {
-      room = omega (arith, sum, w .room, written-length v);
-      is =
-          w .is
-          ∙ ap (λ l. l ++ (ys ++ drop (at + length xs + length ys) b)) (head-is v)
-          ∙ ap (λ l. (take at a ++ xs) ++ (ys ++ l)) (rest-is v (length ys))
-          ∙ rw (append-assoc (take at a), append-assoc xs ys, sum);
-    }
-
--- The same, where the places are known.
-pub written-behind : {a b c : List ℕ} {at mid next : ℕ} {xs ys : List ℕ} → WrittenTo a b at xs mid → WrittenTo b c mid ys next
-    → WrittenTo a c at (xs ++ ys) next
-written-behind {xs = xs} {ys = ys} v w =
-    record {
-      written = written-on (v .written) (rw (v .next-is) at (w .written));
-      next-is = omega (arith, v .next-is, w .next-is, length-append xs ys);
-    }
-
--- One field, with the place behind it.
-pub field-to : {a b : List ℕ} {at : ℕ} (x : ℕ) → Written a b at (u16Bytes x) → WrittenTo a b at (u16Bytes x) (at + 2)
-field-to x w = record { written = w; next-is = omega (arith, field-length x) }
-
--- One more field behind a list of them.
-pub field-behind : {a b c : List ℕ} {at next : ℕ} (xs : List ℕ) (x : ℕ) → WrittenTo a b at (u16List xs) next → Written b c next (u16Bytes x)
-    → WrittenTo a c at (u16List (xs ++ (x ∷ []))) (next + 2)
-field-behind xs x v w = rw (fields-more xs x) (written-behind v (field-to x w))
-
--- Fewer than n fields are written where there is room for n, so one more fits.
-pub room-left : {a b : List ℕ} {at next : ℕ} (xs : List ℕ) (n : ℕ) → WrittenTo a b at (u16List xs) next → at + 2 * n ≤ length a → length xs < n
-    → next + 2 ≤ length b
-room-left xs n w h k = omega (arith, w .next-is, fields-length xs, written-length (w .written))
-
--- No field is written yet.
-pub no-fields : (b : List ℕ) (at : ℕ) → at ≤ length b → WrittenTo b b at (u16List []) at
+-- No field is put yet.
+pub no-fields : (b : List ℕ) (at : ℕ) → at ≤ length b → PutTo at (u16List []) b b at
 unfolding u16List flat
-no-fields b at h = record { written = written-none b at h; next-is = omega arith }
+no-fields b at h = put-to-none b at h
+
+-- Fields, and more fields behind them.
+pub fields-behind : {a b c : List ℕ} {at mid next : ℕ} (xs ys : List ℕ) → PutTo at (u16List xs) a b mid → PutTo mid (u16List ys) b c next
+    → PutTo at (u16List (xs ++ ys)) a c next
+fields-behind xs ys p q = rw (fields-append xs ys) (put-behind p q)
+
+-- Where there is room for n fields, some are put and m more are to come, these fit.
+pub room-left : {a b : List ℕ} {at next : ℕ} (xs : List ℕ) (n m : ℕ) → PutTo at (u16List xs) a b next → at + 2 * n ≤ length a → length xs + m ≤ n
+    → next + 2 * m ≤ length b
+room-left xs n m p h k = omega (arith, p .behind, fields-length xs, put-length (p .put))
 
 -- One more copy stands behind the others.
 pub replicate-more : (n x : ℕ) → replicate (n + 1) x ≡ replicate n x ++ (x ∷ [])
 replicate-more n x = sym (replicate-append-replicate n 1 x)
+
+-- In a loop over a list: what its first elements make is put, and there is room for what all make.
+pub record FirstPut (f : ℕ → ℕ → List ℕ) (xs : List ℕ) (i at : ℕ) (a b : List ℕ) (next : ℕ) : Type 0 where
+  pub within : i ≤ length xs
+  pub room : at + 2 * length (madeFrom f 0 xs) ≤ length a
+  pub put : PutTo at (u16List (madeFrom f 0 (take i xs))) a b next
+
+pub none-put : (f : ℕ → ℕ → List ℕ) (xs : List ℕ) (at : ℕ) (b : List ℕ) → at + 2 * length (madeFrom f 0 xs) ≤ length b → FirstPut f xs 0 at b b at
+unfolding madeFrom
+none-put f xs at b h = record { within = omega arith; room = h; put = no-fields b at (omega arith) }
+
+module _ {f : ℕ → ℕ → List ℕ} {xs : List ℕ} {i at : ℕ} {a b : List ℕ} {next : ℕ} (w : FirstPut f xs i at a b next) where
+  -- the buffer keeps its length
+  pub first-length : length b ≡ length a
+  first-length = put-length (w .put .put)
+
+  module _ (h : i < length xs) where
+    -- there is room for what the next element makes
+    pub next-room : next + 2 * length (f i (getD xs i 0)) ≤ length b
+    next-room = room-left (madeFrom f 0 (take i xs)) (length (madeFrom f 0 xs)) _ (w .put) (w .room) (made-within f xs i 0 h)
+
+    -- that is put too
+    pub next-put : {c : List ℕ} {behind : ℕ} → PutTo next (u16List (f i (getD xs i 0))) b c behind → FirstPut f xs (i + 1) at a c behind
+    next-put p =
+        record {
+          within = omega arith;
+          room = w .room;
+          put = rw (made-more f xs i 0 h) (fields-behind (madeFrom f 0 (take i xs)) (f i (getD xs i 0)) (w .put) p);
+        }
+
+  -- all is put
+  pub all-put : length xs ≤ i → PutTo at (u16List (madeFrom f 0 xs)) a b next
+  all-put h = rw (take-all i xs h) at (w .put)

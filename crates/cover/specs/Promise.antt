@@ -3,10 +3,7 @@
 use Prim.Native.Nat.{ℕ}
 use mathlib.Core.Path.{_≡_}
 use mathlib.Core.Logic.{_↔_}
-use mathlib.Core.Bool.{Bool, true, false}
 use mathlib.Core.List.{List, [], _∷_}
-use mathlib.Core.Option.{some, none}
-use Rattle.lists.specs.Count.{below}
 use Rattle.graph.specs.Graph.{Graph}
 use Rattle.graph.specs.Check.{numberOf}
 use Rattle.graph.specs.Fault.{Fault, faultUnless, firstFault, refusedOr}
@@ -14,17 +11,12 @@ use Rattle.rules.specs.Cover as cover
 use Rattle.rules.specs.CoverBytes.{decode}
 use Rattle.rules.specs.CheckCover.{treesRight, verticesCovered}
 use Rattle.rules.specs.Reply as reply
-use Rattle.rules.specs.Questions.{crewFault, askCheck}
+use Rattle.rules.specs.Questions.{askCheck}
 use Rattle.rules.specs.Filed.{Filed}
-use Rattle.cover.specs.declared.check.Kind.{Kind}
-use Rattle.cover.specs.declared.check.Kind.the-variants.{Rooted, Unrooted}
+use Rattle.cover.specs.declared.crews.Kind.{Kind}
 use Rattle.cover.specs.declared.check.Verdict.{Verdict}
 use Rattle.cover.specs.declared.check.Verdict.the-variants.{Yes, Sheet, Crews, Length, Starts, Entries, Trees, Vertices}
-
--- Whom the cover is for. "The yards are stops 0 to k - 1", or "there are none".
-abbrev pub crewsOf : Kind → ℕ → cover.Crews
-crewsOf Rooted k = cover.rooted (below k)
-crewsOf Unrooted k = cover.unrooted k
+use Rattle.cover.specs.Crews.{crewsOf}
 
 -- Document 01's value or number of each answer.
 abbrev pub says : Verdict → reply.Verdict
@@ -46,11 +38,6 @@ unfoldable pub treesFault : Graph → List ℕ → Fault
 treesFault g c =
     let trees = decode c in
     firstFault (faultUnless (treesRight g trees) 34 ∷ faultUnless (verticesCovered g trees) 35 ∷ [])
-
--- r says whether the crews are not refused.
-pub record CrewsTested (crews : cover.Crews) (n : ℕ) (r : Bool) : Type 0 where
-  pub right : r ≡ true → crewFault crews n ≡ none
-  pub wrong : r ≡ false → crewFault crews n ≡ some 21
 
 -- The answer is that of document 01's rules, and it is yes exactly where the bytes are those of a cover by the crews, with its heaviest weight.
 pub record CheckPromise (kind : Kind) (k : ℕ) (b c : List ℕ) (r : Verdict) : Type 0 where

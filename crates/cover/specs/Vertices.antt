@@ -21,14 +21,14 @@ Covered g c v = (t : Tree) × (t ∈ decode c) × Covers g t v
 abbrev pub OnlyCovered : Graph → List ℕ → List ℕ → Type 0
 OnlyCovered g c marks = (v : ℕ) → Marked marks v → Covered g c v
 
--- The starts of all trees were marked, and nothing but vertices that are covered.
-pub record StartsMarked (c before after : List ℕ) : Type 0 where
-  pub starts : (j : ℕ) → j < treesIn c → Marked after (startIn c j)
+-- The starts of the first n trees were marked, and nothing but vertices that are covered.
+pub record StartsMarked (c : List ℕ) (n : ℕ) (before after : List ℕ) : Type 0 where
+  pub starts : (j : ℕ) → j < n → Marked after (startIn c j)
   pub only : (g : Graph) → OnlyCovered g c before → OnlyCovered g c after
 
--- The ends of all entries' edges were marked, and, where each entry names a tree, nothing but vertices that are covered.
+-- The ends of the edges of the first n entries were marked, and, where each entry names a tree, nothing but vertices that are covered.
 -- What was marked stays so.
-pub record EndsMarked (g : Graph) (c before after : List ℕ) : Type 0 where
-  pub ends : (i : ℕ) → i < entriesIn c → Marked after (oneEnd g (entryEdge c i)) × Marked after (otherEnd g (entryEdge c i))
+pub record EndsMarked (g : Graph) (c : List ℕ) (n : ℕ) (before after : List ℕ) : Type 0 where
+  pub ends : (i : ℕ) → i < n → Marked after (oneEnd g (entryEdge c i)) × Marked after (otherEnd g (entryEdge c i))
   pub only : ((i : ℕ) → i < entriesIn c → entryTree c i < treesIn c) → OnlyCovered g c before → OnlyCovered g c after
   pub kept : (v : ℕ) → Marked before v → Marked after v

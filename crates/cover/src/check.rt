@@ -1,4 +1,6 @@
 // The check of a filed cover: the graph's bytes (11 to 16), the crews (21), then the cover's bytes (31 to 35), in that order.
+use crate::crews::Kind;
+use crate::crews::crews_right;
 use crate::entries::entries_right;
 use crate::heaviest::heaviest_tree;
 use crate::read::cover_length;
@@ -13,13 +15,8 @@ ghost use Rattle.graph.specs.Bytes.{graphOf};
 ghost use Rattle.graph.specs.Valid.{IsGraph};
 ghost use Rattle.rules.specs.CheckCover.{startsRight, coverFault};
 ghost use Rattle.cover.specs.Trees.{CoverGiven};
-ghost use Rattle.cover.specs.Promise.{crewsOf, says, answer, treesFault, CrewsTested, CheckPromise};
-
-// Whom a cover is for: crews with a root each ("yard"), or without ("roving").
-pub enum Kind {
-    Rooted,
-    Unrooted,
-}
+ghost use Rattle.cover.specs.Crews.{crewsOf};
+ghost use Rattle.cover.specs.Promise.{says, answer, treesFault, CheckPromise};
 
 // What the check answers, by cause.
 pub enum Verdict {
@@ -39,22 +36,6 @@ pub enum Verdict {
     Trees,
     // A vertex is not covered.
     Vertices,
-}
-
-// Says whether there are 1 to 32 crews, and no more roots than the n vertices.
-fn crews_right(kind: Kind, k: usize, n: usize) -> bool
-    ensures { λ r. ⌜ CrewsTested (crewsOf kind k) n r ⌝ }
-{
-    if k < 1 {
-        return false;
-    }
-    if 32 < k {
-        return false;
-    }
-    match kind {
-        Kind::Rooted => k <= n,
-        Kind::Unrooted => true,
-    }
 }
 
 // Says whether the number of trees and their starts keep the kind's rule.

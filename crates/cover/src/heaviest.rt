@@ -1,13 +1,17 @@
-// The heaviest tree of a filed cover. The entries of one tree stand side by side, so that one walk through the entries serves all trees.
+// The heaviest tree: of a filed cover, and of trees chosen among those that arrays hold.
+use crate::index::edges_at;
+use crate::index::number_at;
 use crate::read::entry_edge;
 use crate::read::trees_in;
 use crate::trees::run_end;
 ghost use mathlib.Core.Path.{_≡_};
-ghost use Prim.Native.Nat.{max};
+ghost use Prim.Native.Nat.{_^_, _<_, max};
+ghost use lib.ListN.{length};
 ghost use Rattle.graph.specs.Bytes.{graphOf};
 ghost use Rattle.rules.specs.Walk.{totalWeight};
 ghost use Rattle.rules.specs.Cover.{heaviest};
 ghost use Rattle.rules.specs.CoverBytes.{decode};
+ghost use Rattle.cover.specs.Chosen.{AllHeld, HeaviestChosen};
 ghost use Rattle.cover.specs.Runs.{runEdges, InEntries};
 ghost use Rattle.cover.specs.Trees.{CoverGiven};
 
@@ -32,7 +36,8 @@ fn larger(x: u64, y: u64) -> u64
     if x < y { y } else { x }
 }
 
-// The weight of the heaviest tree.
+// The weight of the heaviest tree of a cover. The entries of one tree stand side by side, so that one walk through the entries serves all
+// trees.
 pub fn heaviest_tree(b: &[u8], c: &[u8]) -> u64
     requires { ⌜ CoverGiven (now b) (now c) ⌝ }
     ensures { λ r. ⌜ r ≡ heaviest (graphOf (now (b .entry))) (decode (now (c .entry))) ⌝ }
@@ -45,6 +50,35 @@ pub fn heaviest_tree(b: &[u8], c: &[u8]) -> u64
         let to = run_end(c, j, from);
         most = larger(most, run_weight(b, c, from, to));
         from = to;
+        j += 1;
+    }
+    most
+}
+
+// The weight of the edges of a list.
+fn edges_weight(b: &[u8], edges: &[u16]) -> u64
+    requires { ⌜ length (now edges) < 2 ^ 16 ⌝ }
+    ensures { λ r. ⌜ r ≡ totalWeight (graphOf (now (b .entry))) (now (edges .entry)) ⌝ }
+{
+    let mut sum: u64 = 0;
+    let mut i = 0;
+    while i < edges.len() {
+        sum += graph::weight(b, number_at(edges, i));
+        i += 1;
+    }
+    sum
+}
+
+// The weight of the heaviest of the chosen trees.
+pub fn heaviest_chosen(b: &[u8], bounds: &[u16], edges: &[u16], chosen: &[u16]) -> u64
+    requires { ⌜ AllHeld (now bounds) (now edges) (now chosen) ⌝ }
+    ensures { λ r. ⌜ HeaviestChosen (graphOf (now (b .entry))) (now (bounds .entry)) (now (edges .entry)) (now (chosen .entry)) r ⌝ }
+{
+    let mut most: u64 = 0;
+    let mut j = 0;
+    while j < chosen.len() {
+        let c = number_at(chosen, j);
+        most = larger(most, edges_weight(b, edges_at(bounds, edges, c)));
         j += 1;
     }
     most

@@ -8,7 +8,7 @@ ghost use mathlib.Core.Path.{_≡_};
 ghost use Prim.Native.Nat.{ℕ, _<_};
 ghost use lib.ListN.{length};
 ghost use Rattle.graph.specs.Bytes.{graphOf};
-ghost use Rattle.rules.specs.CoverBytes.{treesIn, startIn, decode};
+ghost use Rattle.rules.specs.CoverBytes.{treesIn, entriesIn, startIn, decode};
 ghost use Rattle.rules.specs.CheckCover.{verticesCovered};
 ghost use Rattle.forest.specs.Keeping.{Labelable};
 ghost use Rattle.cover.specs.Trees.{CoverGiven};
@@ -17,7 +17,7 @@ ghost use Rattle.cover.specs.Vertices.{StartsMarked, EndsMarked};
 // Marks the starts of the trees.
 fn mark_starts(c: &[u8], marks: &mut [u8])
     requires { ⌜ ((j : ℕ) → j < treesIn (now c) → startIn (now c) j < length (now marks)) ⌝ }
-    ensures { λ _. ⌜ StartsMarked (now (c .entry)) (now (marks .entry)) (now (marks .exit)) ⌝ }
+    ensures { λ _. ⌜ StartsMarked (now (c .entry)) (treesIn (now (c .entry))) (now (marks .entry)) (now (marks .exit)) ⌝ }
 {
     let t = trees_in(c);
     let mut j = 0;
@@ -31,7 +31,7 @@ fn mark_starts(c: &[u8], marks: &mut [u8])
 // Marks both ends of each entry's edge.
 fn mark_ends(b: &[u8], c: &[u8], marks: &mut [u8])
     requires { ⌜ Labelable (now b) (now marks) ⌝ }
-    ensures { λ _. ⌜ EndsMarked (graphOf (now (b .entry))) (now (c .entry)) (now (marks .entry)) (now (marks .exit)) ⌝ }
+    ensures { λ _. ⌜ EndsMarked (graphOf (now (b .entry))) (now (c .entry)) (entriesIn (now (c .entry))) (now (marks .entry)) (now (marks .exit)) ⌝ }
 {
     let q = entries_in(c);
     let mut i = 0;

@@ -42,7 +42,7 @@ module _ (g : Graph) (crews : Crews) (b : List ℕ) (p : Passed g crews b) where
   read-tree : (t : Tree) → t ∈ decode b → IsTree g t
   read-tree t m =
       let r = read-edges b t m in
-      let rising = subst Rising (sym (r .1)) (edges-rise (r .0) (entries .rises)) in
+      let rising = subst Rising (sym (r .1)) (edges-rise (r .0) (entries .ordered .rises)) in
       let q = passed-trees g (decode b) (p .trees) t m rising in
       record {
         start-inside = passed-inside (g .vertices) b (p .inside) t m;
@@ -80,8 +80,11 @@ module _ (g : Graph) (crews : Crews) (trees : List Tree) (cover : IsCover g crew
   cover-named : Named (edgeCount g) (encode trees)
   cover-named =
       record {
-        rises = rw (entries-read-again trees fits) (rises-entries 0 trees (λ t m. are t m .rising));
-        trees = λ x m. omega (arith, trees-again trees fits, of-entries 0 trees (listed m) .1);
+        ordered =
+            record {
+              rises = rw (entries-read-again trees fits) (rises-entries 0 trees (λ t m. are t m .rising));
+              trees = λ x m. omega (arith, trees-again trees fits, of-entries 0 trees (listed m) .1);
+            };
         edges = λ x m. let q = of-entries 0 trees (listed m) .2 in are (q .0) (q .1) .edges-inside (x .edge) (q .2);
       }
     where

@@ -1,5 +1,5 @@
--- How large a cover is: a tree has fewer edges than there are vertices, so a cover has at most 32 trees of at most 255 edges, and its bytes are
--- at most 32,708.
+-- How large trees and covers are: a tree has fewer edges than there are vertices, so at most 32 trees have at most 255 edges each, and their
+-- bytes are at most 32,708.
 -- Assumes nothing.
 use Prim.Native.Nat.{ℕ, _*_, _≤_, _<_}
 use mathlib.Core.Path.{_≡_, refl, ap}
@@ -38,45 +38,55 @@ unfolding crewCount
 trees-few (rooted roots) trees s = omega (arith, length-map trees (λ (t : Tree). t .start), ap length s)
 trees-few (unrooted k) trees s = s .1
 
+-- Trees of at most 255 edges each have at most so many entries together,
+pub entries-few : (trees : List Tree) → ((t : Tree) → t ∈ trees → length (t .edges) ≤ 255) → length (entryEdges trees) ≤ 255 * length trees
+unfolding entryEdges flat
+entries-few [] each = omega arith
+entries-few (t ∷ ts) each =
+    omega (
+      arith,
+      length-append (t .edges) (flat (map (λ (s : Tree). s .edges) ts)),
+      each t (List·Memᴰ·head refl),
+      entries-few ts (λ s m. each s (List·Memᴰ·tail m)),
+    )
+
+-- and the bytes of at most 32 of them are at most 32,708.
+pub bytes-few : (trees : List Tree) → length trees ≤ 32 → ((t : Tree) → t ∈ trees → length (t .edges) ≤ 255) → length (encode trees) ≤ 32708
+bytes-few trees few each = omega (arith, length-encode trees, entries-few trees each)
+
+-- So are the bytes of at most 33 parts with fewer than 256 edges in all.
+pub parts-bytes-few : (parts : List Tree) → length parts ≤ 33 → length (entryEdges parts) < 256 → length (encode parts) ≤ 32708
+parts-bytes-few parts few light = omega (arith, length-encode parts)
+
 module _ (g : Graph) (valid : Valid g) where
   -- A tree has fewer edges than there are vertices.
   pub tree-edges-few : (t : Tree) → IsTree g t → length (t .edges) < g .vertices
   tree-edges-few t is = loopless-few valid (rising-once (is .rising)) (is .no-loop)
 
-  -- Trees have at most 255 entries each.
-  pub entries-few : (trees : List Tree) → ((t : Tree) → t ∈ trees → IsTree g t) → length (entryEdges trees) ≤ 255 * length trees
-  unfolding entryEdges flat
-  entries-few [] are = omega arith
-  entries-few (t ∷ ts) are =
-      omega (
-        arith,
-        length-append (t .edges) (flat (map (λ (s : Tree). s .edges) ts)),
-        valid .vertices-most,
-        tree-edges-few t (are t (List·Memᴰ·head refl)),
-        entries-few ts (λ s m. are s (List·Memᴰ·tail m)),
-      )
+  -- At most 32 trees, a cover's or not: their numbers fit fields of two bytes, and their bytes are at most 32,708.
+  module _ (trees : List Tree) (few : length trees ≤ 32) (are : (t : Tree) → t ∈ trees → IsTree g t) where
+    each-few : (t : Tree) → t ∈ trees → length (t .edges) ≤ 255
+    each-few t m = omega (arith, tree-edges-few t (are t m), valid .vertices-most)
 
-  module _ (crews : Crews) (sound : crewFault crews (g .vertices) ≡ none) (trees : List Tree) (cover : IsCover g crews trees) where
-    are : (t : Tree) → t ∈ trees → IsTree g t
-    are = cover .all-covered .are-trees
-
-    few : length trees ≤ 32
-    few = omega (arith, trees-few crews trees (cover .starts), crews-few crews (g .vertices) sound .1)
-
-    -- A cover has at most 32 · 255 entries.
-    pub cover-entries : length (entryEdges trees) ≤ 32 * 255
-    cover-entries = omega (arith, few, entries-few trees are)
-
-    -- The numbers of a cover fit fields of two bytes.
-    pub cover-fits : Fits trees
-    cover-fits =
+    pub trees-fit : Fits trees
+    trees-fit =
         record {
-          trees = omega (arith, few);
-          entries = omega (arith, cover-entries);
+          trees = omega arith;
+          entries = omega (arith, entries-few trees each-few);
           starts = λ t m. omega (arith, are t m .start-inside, valid .vertices-most);
           edges = λ t m e k. omega (arith, are t m .edges-inside e k, valid .edges-most);
         }
 
-    -- A cover's bytes are at most 32,708.
+    pub trees-length : length (encode trees) ≤ 32708
+    trees-length = bytes-few trees few each-few
+
+  -- So for a cover.
+  module _ (crews : Crews) (sound : crewFault crews (g .vertices) ≡ none) (trees : List Tree) (cover : IsCover g crews trees) where
+    pub cover-few : length trees ≤ 32
+    cover-few = omega (arith, trees-few crews trees (cover .starts), crews-few crews (g .vertices) sound .1)
+
+    pub cover-fits : Fits trees
+    cover-fits = trees-fit trees cover-few (cover .all-covered .are-trees)
+
     pub cover-length : length (encode trees) ≤ 32708
-    cover-length = omega (arith, length-encode trees, few, cover-entries)
+    cover-length = trees-length trees cover-few (cover .all-covered .are-trees)

@@ -24,7 +24,7 @@ use Rattle.rules.proofs.Fields.{Bytes}
 use Rattle.cover_laws.proofs.Entries.{Entry}
 use Rattle.cover_laws.proofs.RisingEntries.{Before, Rises}
 use Rattle.cover_laws.proofs.Reading.{entryIn, entriesRead}
-use Rattle.cover_laws.proofs.WrittenAgain.{encode-decode}
+use Rattle.cover_laws.proofs.WrittenAgain.{Ordered, encode-decode}
 
 -- To come before is transitive.
 before-on : (x y z : Entry) → Before x y → Before y z → Before x z
@@ -103,8 +103,7 @@ rises-first b = refl
 
 -- The entries of the bytes rise, and name trees that there are and edges below m.
 pub record Named (m : ℕ) (b : List ℕ) : Type 0 where
-  pub rises : Rises (entriesRead b)
-  pub trees : (x : Entry) → x ∈ entriesRead b → x .tree < treesIn b
+  pub ordered : Ordered b
   pub edges : (x : Entry) → x ∈ entriesRead b → x .edge < m
 
 module _ (m : ℕ) (b : List ℕ) where
@@ -129,8 +128,11 @@ module _ (m : ℕ) (b : List ℕ) where
   unfolding entriesRight entriesRead entryIn below Asked
   passed-named t =
       record {
-        rises = rises-run (entryIn b) 0 (entriesIn b) (λ k l h. rises k (passes (suc k) (omega arith) .2));
-        trees = λ x k. let r = read x k in subst (λ y. y < treesIn b) (sym (ap (λ (y : Entry). y .tree) (r .2))) (passes (r .0) (r .1) .0);
+        ordered =
+            record {
+              rises = rises-run (entryIn b) 0 (entriesIn b) (λ k l h. rises k (passes (suc k) (omega arith) .2));
+              trees = λ x k. let r = read x k in subst (λ y. y < treesIn b) (sym (ap (λ (y : Entry). y .tree) (r .2))) (passes (r .0) (r .1) .0);
+            };
         edges = λ x k. let r = read x k in subst (λ y. y < m) (sym (ap (λ (y : Entry). y .edge) (r .2))) (passes (r .0) (r .1) .1);
       }
     where
@@ -148,14 +150,13 @@ module _ (m : ℕ) (b : List ℕ) where
   unfolding entriesRight entriesRead entryIn below Asked
   named-passes n =
       all-below (entryRight m b) (entriesIn b)
-      (λ i l. let k = in-map (entryIn b) (in-below (entriesIn b) l) in asked-right i (n .trees (entryIn b i) k, n .edges (entryIn b i) k, rises i l))
+      (λ i l. let k = in-map (entryIn b) (in-below (entriesIn b) l) in asked-right i (n .ordered .trees (entryIn b i) k, n .edges (entryIn b i) k, rises i l))
     where
       rises : (i : ℕ) → i < entriesIn b → entryRises b i ≡ true
       rises zero l = rises-first b
-      rises (suc i) l = rises-comes b i ∙ before-comes (entryIn b i) (entryIn b (suc i)) (run-rises (entryIn b) 0 (entriesIn b) (n .rises) i (omega arith) (omega arith))
+      rises (suc i) l = rises-comes b i ∙ before-comes (entryIn b i) (entryIn b (suc i)) (run-rises (entryIn b) 0 (entriesIn b) (n .ordered .rises) i (omega arith) (omega arith))
 
   -- Bytes of the length that they say, whose entries pass the test: read and written again, they are the same bytes.
   pub passed-again : Bytes b → length b ≡ coverLength b → entriesRight m b ≡ true → encode (decode b) ≡ b
   passed-again bytes sized t =
-      let n = passed-named t in
-      encode-decode b (record { bytes = bytes; sized = sized; rises = n .rises; named = n .trees })
+      encode-decode b (record { bytes = bytes; sized = sized; ordered = passed-named t .ordered })

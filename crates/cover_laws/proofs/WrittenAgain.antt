@@ -19,18 +19,22 @@ use Rattle.cover_laws.proofs.Writing.{fields, arrays, encode-fields}
 pieces : (b : List ℕ) (p n m : ℕ) → take n (drop p b) ++ take m (drop (p + n) b) ≡ take (n + m) (drop p b)
 pieces b p n m = sym (take-add n m (drop p b) ∙ ap (λ l. take n (drop p b) ++ take m l) (drop-drop n p b))
 
--- The bytes are well laid out: of the length that they say, and the entries rise and name trees that there are.
+-- The entries of the bytes rise, and name trees that there are.
+pub record Ordered (b : List ℕ) : Type 0 where
+  pub rises : Rises (entriesRead b)
+  pub trees : (x : Entry) → x ∈ entriesRead b → x .tree < treesIn b
+
+-- The bytes are well laid out: of the length that they say, with such entries.
 pub record LaidOut (b : List ℕ) : Type 0 where
   pub bytes : Bytes b
   pub sized : length b ≡ coverLength b
-  pub rises : Rises (entriesRead b)
-  pub named : (x : Entry) → x ∈ entriesRead b → x .tree < treesIn b
+  pub ordered : Ordered b
 
 module _ (b : List ℕ) (o : LaidOut b) where
   -- The entries of the trees that are read are the entries that are read.
   pub entries-kept : entriesOf 0 (decode b) ≡ entriesRead b
   unfolding below
-  entries-kept = rw decode-grouped (entries-again (startIn b) 0 (treesIn b) (o .rises) (λ x m. omega arith) (λ x m. omega (arith, o .named x m)))
+  entries-kept = rw decode-grouped (entries-again (startIn b) 0 (treesIn b) (o .ordered .rises) (λ x m. omega arith) (λ x m. omega (arith, o .ordered .trees x m)))
 
   -- The fields of the trees that are read, in the order of the bytes.
   fields-kept : fields (decode b)

@@ -1,8 +1,8 @@
 // Puts filed covers to the check and prints its answers, a line each: `yes` with the heaviest weight, or the number.
 // Standard input holds records, one behind the other: kind (1 rooted, otherwise unrooted), k, the sheet's length, the cover's length
 // (2 bytes each, lowest byte first), the sheet, the cover.
-use cover::check::Kind;
 use cover::check::Verdict;
+use cover::crews::Kind;
 use libc::STDIN_FILENO;
 use libc::STDOUT_FILENO;
 

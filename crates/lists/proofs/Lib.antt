@@ -77,7 +77,13 @@ pub mod EachChosen
 pub mod Chosen
 -- what stands at a place, and the place of what stands in a list
 pub mod Places
--- the largest value against a bound
+-- the largest value over a list
 pub mod Largest
 -- lengths as sums
 pub mod Lengths
+-- one more element at the end of a list
+pub mod OneMore
+-- how long segments are
+pub mod SegmentSizes
+-- lists made for each element from its place, and joined
+pub mod EachPlace

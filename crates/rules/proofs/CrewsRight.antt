@@ -16,7 +16,7 @@ use Rattle.graph.specs.Graph.{Graph}
 use Rattle.rules.specs.Cover.{Crews, rooted, unrooted}
 use Rattle.rules.specs.Questions.{crewCount, tooManyRoots, crewFault}
 use Rattle.rules.specs.Meaning.{CrewsFit}
-use Rattle.rules.proofs.Faults.{quiet-if}
+use Rattle.graph.proofs.Faults.{quiet-if}
 
 -- There is at least one crew, and there are no more roots than vertices.
 quiet-crews : (crews : Crews) (n : ℕ) → crewFault crews n ≡ none → (1 ≤ crewCount crews) × (tooManyRoots crews n ≡ false)

@@ -1,5 +1,4 @@
 -- `cover::check::check_cover` meets its contract: the graph's bytes, the crews, then the cover's bytes decide. Assumes nothing.
-use Prim.Native.Nat.{ℕ}
 use mathlib.Core.Path.{_≡_, sym, ap, _∙_}
 use native.Mathlib.Omega.{arith}
 use borrow.Author.Tests.{not-true, not-false}
@@ -8,7 +7,7 @@ use Rattle.graph.proofs.Exactly.{yes-graph}
 use Rattle.rules.proofs.Fields.{Bytes}
 use Rattle.rules.specs.Questions.{crewFault}
 use Rattle.cover.specs.declared.check.Verdict.the-variants as verdict
-use Rattle.cover.specs.Promise.{crewsOf}
+use Rattle.cover.specs.Crews.{crewsOf}
 use Rattle.cover.proofs.CheckSteps.{sheet-refused, crews-refused, cover-decides, promised}
 use borrow.Author.Needs.{needs}
 use Rattle.cover.proofs.check.check_cover.Statement.{statement}
@@ -19,16 +18,20 @@ module _ (t : tie.After-shared-slice-known2) where
   cover-bytes : Bytes (t .before .before .args .c .now)
   cover-bytes i h = omega (arith, t .shared-slice-known2 .given i)
 
--- The graph's bytes passed, with these counts.
+-- The graph's bytes were checked.
+abbrev start : tie.After-check-graph → tie.Start
+start t = t .before .before .before
+
+-- They passed, with these counts.
 module _ (t : tie.After-n) where
-  abbrev n : ℕ
-  n = t .n .given .0 .0
+  abbrev checked : tie.After-check-graph
+  checked = t .before .before
 
   abbrev s : tie.Start
-  s = t .before .before .before .before .before
+  s = start checked
 
-  sheet-passed : sheet.checkOf (s .args .b .now) ≡ sheet.says (t .before .before .check-graph .result)
-  sheet-passed = sym (t .before .before .check-graph .ensures)
+  sheet-passed : sheet.checkOf (s .args .b .now) ≡ sheet.says (checked .check-graph .result)
+  sheet-passed = sym (checked .check-graph .ensures)
 
 check-graph-requires : tie.Need-check-graph-requires
 check-graph-requires c κs = search needs
@@ -48,7 +51,7 @@ returns c =
     let t = c .before .before .before in
     let q = sheet-passed t ∙ ap sheet.says (t .n .given .1) in
     let g = s t .args in
-    promised (g .kind) (g .k) (g .b .now) (g .c .now) verdict.Crews (cover-bytes (t .before .before .before))
+    promised (g .kind) (g .k) (g .b .now) (g .c .now) verdict.Crews (cover-bytes (checked t .before))
     (crews-refused (g .b .now) (crewsOf (g .kind) (g .k)) (g .c .now) q
     (ap (crewFault (crewsOf (g .kind) (g .k))) (sym (yes-graph (g .b .now) q .vertices-are)) ∙ r .ensures .wrong (not-true (r .result) (c .if1 .taken))))
 
@@ -61,7 +64,7 @@ returns-2 : tie.Need-returns-2
 returns-2 c =
     let f = c .before .f .given in
     let r = c .before .before .before in
-    let g = r .before .before .before .args in
+    let g = start r .args in
     promised (g .kind) (g .k) (g .b .now) (g .c .now) (verdict.Sheet (f .0 .0)) (cover-bytes (r .before))
     (sheet-refused (g .b .now) (crewsOf (g .kind) (g .k)) (g .c .now) (sym (r .check-graph .ensures) ∙ ap sheet.says (f .1)))
 
@@ -71,7 +74,7 @@ returns-3 c =
     let t = c .before .before .before .before in
     let q = sheet-passed t ∙ ap sheet.says (t .n .given .1) in
     let g = s t .args in
-    promised (g .kind) (g .k) (g .b .now) (g .c .now) (c .check-filed .result) (cover-bytes (t .before .before .before))
+    promised (g .kind) (g .k) (g .b .now) (g .c .now) (c .check-filed .result) (cover-bytes (checked t .before))
     (c .check-filed .ensures
     ∙ cover-decides (g .b .now) (crewsOf (g .kind) (g .k)) (g .c .now) q
     (ap (crewFault (crewsOf (g .kind) (g .k))) (sym (yes-graph (g .b .now) q .vertices-are)) ∙ r .ensures .right (not-false (r .result) (c .before .if1 .left))))

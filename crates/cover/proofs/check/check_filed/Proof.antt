@@ -7,7 +7,7 @@ use Rattle.graph.specs.Graph.{Graph, edgeCount}
 use Rattle.graph.specs.Bytes.{graphOf}
 use Rattle.rules.specs.Cover.{Crews}
 use Rattle.rules.specs.CheckCover.{startsRight, startsBelow, entriesRight}
-use Rattle.cover.specs.Promise.{crewsOf}
+use Rattle.cover.specs.Crews.{crewsOf}
 use Rattle.cover.proofs.CheckSteps.{short-cover, other-length, other-starts, starts-above, entries-wrong, entries-pass}
 use borrow.Author.Needs.{needs}
 use Rattle.cover.proofs.check.check_filed.Statement.{statement}
@@ -20,10 +20,14 @@ g s = graphOf (s .args .b .now)
 abbrev crews : tie.Start → Crews
 crews s = crewsOf (s .args .kind) (s .args .k)
 
+-- The bytes have the length that they say.
+abbrev s₂ : tie.Else2 → tie.Start
+s₂ t = let e = t .before .before in e .before .before .before
+
 -- The starts keep the kind's rule.
 module _ (t : tie.Else3) where
   abbrev s₃ : tie.Start
-  s₃ = t .before .before .before .before .before .before .before
+  s₃ = s₂ (t .before .before)
 
   starts-right-passed : startsRight (crews s₃) (s₃ .args .c .now) ≡ true
   starts-right-passed = sym (t .before .starts-right .ensures) ∙ not-false (t .before .starts-right .result) (t .if3 .left)
@@ -55,7 +59,7 @@ cover-length-requires : tie.Need-cover-length-requires
 cover-length-requires c κs = search needs
 
 returns-2 : tie.Need-returns-2
-returns-2 c = let s = c .before .before .before .before .before in other-length (g s) (crews s) (s .args .c .now) (omega arith) (omega arith)
+returns-2 c = let e = c .before .before in let s = e .before .before .before in other-length (g s) (crews s) (s .args .c .now) (omega arith) (omega arith)
 
 starts-right-requires : tie.Need-starts-right-requires
 starts-right-requires c κs = search needs
@@ -63,7 +67,7 @@ starts-right-requires c κs = search needs
 returns-3 : tie.Need-returns-3
 returns-3 c =
     let t = c .before in
-    let s = t .before .before .before .before .before .before in
+    let s = s₂ (t .before) in
     other-starts (g s) (crews s) (s .args .c .now) (omega arith) (omega arith)
     (sym (t .starts-right .ensures) ∙ not-true (t .starts-right .result) (c .if3 .taken))
 

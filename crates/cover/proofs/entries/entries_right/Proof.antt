@@ -17,6 +17,15 @@ Inv-loop c m q i₀ i = (k : ℕ) → k < i → entryRight m c k ≡ true
 abbrev μ-loop : tie.MeasureT-loop
 μ-loop c m q i₀ i = q - i
 
+-- The entries are counted.
+abbrev start : tie.After-entries-in Inv-loop μ-loop → tie.Start Inv-loop μ-loop
+start t = t .before .before
+
+-- In a turn, the next entry was tested.
+module _ (t : tie.After-entry-right Inv-loop μ-loop) where
+  abbrev turn : tie.At-loop Inv-loop μ-loop
+  turn = t .before .before
+
 entries-in-requires : tie.Need-entries-in-requires Inv-loop μ-loop
 entries-in-requires c κs = tt
 
@@ -28,8 +37,9 @@ entry-right-requires c κs = tt
 
 returns : tie.Need-returns Inv-loop μ-loop
 returns c =
-    let g = c .before .before .before .before .before .before .args in
-    sym (entry-wrong (g .c .now) (g .m) (c .before .before .before .loop .i) (omega arith) (sym (c .before .entry-right .ensures) ∙ not-true _ (c .if1 .taken)))
+    let t = turn (c .before) in
+    let g = start (t .before) .args in
+    sym (entry-wrong (g .c .now) (g .m) (t .loop .i) (omega arith) (sym (c .before .entry-right .ensures) ∙ not-true _ (c .if1 .taken)))
 
 add-i : tie.Need-add-i Inv-loop μ-loop
 add-i c = omega arith
@@ -39,11 +49,12 @@ loop-less c = omega arith
 
 loop-again : tie.Need-loop-again Inv-loop μ-loop
 loop-again c =
-    below-more _ (c .before .before .before .loop .i) (c .before .before .before .loop .inv) (sym (c .before .entry-right .ensures) ∙ not-false _ (c .if1 .left))
+    let t = turn (c .before) in
+    below-more _ (t .loop .i) (t .loop .inv) (sym (c .before .entry-right .ensures) ∙ not-false _ (c .if1 .left))
 
 returns-2 : tie.Need-returns-2 Inv-loop μ-loop
 returns-2 c =
-    let g = c .before .before .before .before .args in
+    let g = start (c .before .before) .args in
     sym (all-entries (g .c .now) (g .m) (λ k h. c .before .loop .inv k (omega arith)))
 
 pub entries-right-spec : {M : Type 1} → statement M

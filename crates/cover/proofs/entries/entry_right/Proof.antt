@@ -6,6 +6,10 @@ use borrow.Author.Needs.{needs}
 use Rattle.cover.proofs.entries.entry_right.Statement.{statement}
 use Rattle.cover.proofs.entries.entry_right.Tie as tie
 
+-- The entry's tree was read.
+abbrev start : tie.After-entry-tree → tie.Start
+start t = t .before .before .before
+
 trees-in-requires : tie.Need-trees-in-requires
 trees-in-requires c κs = search needs
 
@@ -14,7 +18,7 @@ entry-tree-requires c κs = search needs
 
 returns : tie.Need-returns
 returns c =
-    let g = c .before .before .before .before .args in
+    let g = start (c .before) .args in
     sym (no-tree (g .c .now) (g .i) (g .m) (omega arith))
 
 entry-edge-requires : tie.Need-entry-edge-requires
@@ -22,7 +26,7 @@ entry-edge-requires c κs = search needs
 
 returns-2 : tie.Need-returns-2
 returns-2 c =
-    let g = c .before .before .before .before .before .before .args in
+    let g = start (c .before .before .before) .args in
     sym (no-edge (g .c .now) (g .i) (g .m) (omega arith) (omega arith))
 
 entry-rises-requires : tie.Need-entry-rises-requires
@@ -30,7 +34,7 @@ entry-rises-requires c κs = search needs
 
 returns-3 : tie.Need-returns-3
 returns-3 c =
-    let g = c .before .before .before .before .before .before .before .args in
+    let g = start (c .before .before .before .before) .args in
     c .entry-rises .ensures ∙ sym (rise-decides (g .c .now) (g .i) (g .m) (omega arith) (omega arith))
 
 pub entry-right-spec : {M : Type 1} → statement M

@@ -7,6 +7,10 @@ use borrow.Author.Needs.{needs}
 use Rattle.cover.proofs.entries.entry_rises.Statement.{statement}
 use Rattle.cover.proofs.entries.entry_rises.Tie as tie
 
+-- Both trees were read.
+abbrev start : tie.After-entry-tree2 → tie.Start
+start t = t .before .before .before .before
+
 returns : tie.Need-returns
 returns c =
     let g = c .before .before .args in
@@ -23,12 +27,12 @@ entry-tree-requires-2 c κs = search needs
 
 returns-2 : tie.Need-returns-2
 returns-2 c =
-    let g = c .before .before .before .before .before .args in
+    let g = start (c .before) .args in
     sym (tree-rises (g .c .now) (g .i) (omega arith))
 
 returns-3 : tie.Need-returns-3
 returns-3 c =
-    let g = c .before .before .before .before .before .before .args in
+    let g = start (c .before .before) .args in
     sym (tree-falls (g .c .now) (g .i) (omega arith) (omega arith) (omega arith))
 
 sub-entry-edge : tie.Need-sub-entry-edge
@@ -42,7 +46,7 @@ entry-edge-requires-2 c κs = search needs
 
 returns-4 : tie.Need-returns-4
 returns-4 c =
-    let g = c .before .before .before .before .before .before .before .before .args in
+    let g = start (c .before .before .before .before) .args in
     ap₂ ltb (c .before .entry-edge .ensures .is) (c .entry-edge2 .ensures .is)
     ∙ sym (edge-decides (g .c .now) (g .i) (omega arith) (omega arith))
 

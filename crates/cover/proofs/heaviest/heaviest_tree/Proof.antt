@@ -3,9 +3,10 @@
 use Prim.Native.Nat.{_-_, _≤_, max}
 use mathlib.Core.Path.{_≡_, ap₂, _∙_}
 use native.Mathlib.Omega.{arith}
-use Rattle.graph.specs.Graph.{edgeCount}
+use Rattle.graph.specs.Graph.{Graph, edgeCount}
 use Rattle.graph.specs.Bytes.{graphOf}
-use Rattle.cover.specs.Runs.{BeginsAt}
+use Rattle.rules.specs.CoverBytes.{startIn, treeIn}
+use Rattle.cover.specs.Runs.{BeginsAt, runEdges}
 use Rattle.cover.proofs.TreeRuns.{begins-first, begins-next, tree-is-run}
 use Rattle.cover.proofs.Weights.{heaviestBefore, heaviest-none, heaviest-next, heaviest-all}
 use Rattle.cover.proofs.heaviest.heaviest_tree.Statement.{statement}
@@ -17,14 +18,29 @@ Inv-loop b c t most₀ from₀ j₀ most from j = (j ≤ t) × BeginsAt c j from
 abbrev μ-loop : tie.MeasureT-loop
 μ-loop b c t most₀ from₀ j₀ most from j = t - j
 
+-- Where the loop began, and the graph.
+abbrev start : tie.At-loop Inv-loop μ-loop → tie.Start Inv-loop μ-loop
+start l = l .before .before .before .before
+
+abbrev g : tie.Start Inv-loop μ-loop → Graph
+g s = graphOf (s .args .b .now)
+
+-- In a turn, the end of the next tree's run was found.
+module _ (t : tie.After-run-end Inv-loop μ-loop) where
+  abbrev turn : tie.At-loop Inv-loop μ-loop
+  turn = t .before .before
+
+  run-is-tree : treeIn (start turn .args .c .now) (turn .loop .j)
+      ≡ record { start = startIn (start turn .args .c .now) (turn .loop .j); edges = runEdges (start turn .args .c .now) (turn .loop .from) (t .run-end .result) }
+  run-is-tree = tree-is-run (start turn .args .c .now) (edgeCount (g (start turn))) (start turn .pre .entries) (turn .loop .inv .1) (t .run-end .ensures)
+
 trees-in-requires : tie.Need-trees-in-requires Inv-loop μ-loop
 trees-in-requires c κs = tt
 
 loop-holds : tie.Need-loop-holds Inv-loop μ-loop
 loop-holds c =
     let s = c .before .before .before in
-    let g = graphOf (s .args .b .now) in
-    (omega arith, begins-first (s .args .c .now) (edgeCount g) (s .pre .entries), heaviest-none g (s .args .c .now))
+    (omega arith, begins-first (s .args .c .now) (edgeCount (g s)) (s .pre .entries), heaviest-none (g s) (s .args .c .now))
 
 run-end-requires : tie.Need-run-end-requires Inv-loop μ-loop
 run-end-requires c κs = c .before .loop .inv .1 .inside
@@ -43,21 +59,19 @@ loop-less c = omega arith
 
 loop-again : tie.Need-loop-again Inv-loop μ-loop
 loop-again c =
-    let run = c .before .before .run-end in
-    let l = c .before .before .before .before .loop in
-    let s = c .before .before .before .before .before .before .before .before in
-    let g = graphOf (s .args .b .now) in
-    let tree = tree-is-run (s .args .c .now) (edgeCount g) (s .pre .entries) (l .inv .1) (run .ensures) in (
+    let run = c .before .before in
+    let l = turn run in
+    let s = start l in (
       omega arith,
-      begins-next (s .args .c .now) (edgeCount g) (s .pre .entries) (l .inv .1) (run .ensures),
-      c .larger .ensures ∙ ap₂ max (l .inv .2) (c .before .run-weight .ensures) ∙ heaviest-next g (s .args .c .now) (l .j) (l .from) (run .result) tree,
+      begins-next (s .args .c .now) (edgeCount (g (start l))) (s .pre .entries) (l .loop .inv .1) (run .run-end .ensures),
+      c .larger .ensures ∙ ap₂ max (l .loop .inv .2) (c .before .run-weight .ensures)
+          ∙ heaviest-next (g (start l)) (s .args .c .now) (l .loop .j) (l .loop .from) (run .run-end .result) (run-is-tree run),
     )
 
 returns : tie.Need-returns Inv-loop μ-loop
 returns c =
-    let l = c .before .loop in
-    let s = c .before .before .before .before .before .args in
-    l .inv .2 ∙ heaviest-all (graphOf (s .b .now)) (s .c .now) (l .j) (omega arith)
+    let l = c .before in
+    l .loop .inv .2 ∙ heaviest-all (g (start l)) (start l .args .c .now) (l .loop .j) (omega arith)
 
 pub heaviest-tree-spec : {M : Type 1} → statement M
 heaviest-tree-spec =

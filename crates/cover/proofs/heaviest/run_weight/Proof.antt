@@ -3,11 +3,11 @@
 use Prim.Native.Nat.{_*_, _-_, _≤_}
 use mathlib.Core.Path.{_≡_, ap, _∙_}
 use native.Mathlib.Omega.{arith}
-use Rattle.graph.specs.Graph.{weightOf}
+use Rattle.graph.specs.Graph.{Graph, weightOf}
 use Rattle.graph.specs.Bytes.{graphOf}
 use Rattle.rules.specs.Walk.{totalWeight}
 use Rattle.cover.specs.Runs.{runEdges}
-use Rattle.cover.proofs.Weights.{weight-none, weight-next}
+use Rattle.cover.proofs.Weights.{run-weight-none, run-weight-next}
 use Rattle.cover.proofs.heaviest.run_weight.Statement.{statement}
 use Rattle.cover.proofs.heaviest.run_weight.Tie as tie
 
@@ -18,10 +18,17 @@ Inv-loop b c from to sum₀ i₀ sum i =
 abbrev μ-loop : tie.MeasureT-loop
 μ-loop b c from to sum₀ i₀ sum i = to - i
 
+-- Where the loop began, and the graph.
+abbrev start : tie.At-loop Inv-loop μ-loop → tie.Start Inv-loop μ-loop
+start l = l .before .before .before
+
+abbrev g : tie.Start Inv-loop μ-loop → Graph
+g s = graphOf (s .args .b .now)
+
 loop-holds : tie.Need-loop-holds Inv-loop μ-loop
 loop-holds c =
     let s = c .before .before in
-    (omega arith, omega (arith, s .pre .forward), omega arith, weight-none (graphOf (s .args .b .now)) (s .args .c .now) (s .args .from))
+    (omega arith, omega (arith, s .pre .forward), omega arith, run-weight-none (g s) (s .args .c .now) (s .args .from))
 
 entry-edge-requires : tie.Need-entry-edge-requires Inv-loop μ-loop
 entry-edge-requires c κs = tt
@@ -40,21 +47,26 @@ loop-less c = omega arith
 
 loop-again : tie.Need-loop-again Inv-loop μ-loop
 loop-again c =
-    let l = c .before .before .before .loop in
-    let s = c .before .before .before .before .before .before .args in
-    let g = graphOf (s .b .now) in (
+    let l = c .before .before .before in
+    let s = start l .args in (
       omega arith,
       omega arith,
       omega arith,
-      omega (arith, weight-next g (s .c .now) (s .from) (l .i) (omega arith), c .weight .ensures .is, ap (weightOf g) (c .before .entry-edge .ensures .is), l .inv .3),
+      omega (
+        arith,
+        run-weight-next (g (start l)) (s .c .now) (s .from) (l .loop .i) (omega arith),
+        c .weight .ensures .is,
+        ap (weightOf (g (start l))) (c .before .entry-edge .ensures .is),
+        l .loop .inv .3,
+      ),
     )
 
 returns : tie.Need-returns Inv-loop μ-loop
 returns c =
-    let l = c .before .loop in
-    let s = c .before .before .before .before in
-    let end : l .i ≡ s .args .to = omega arith in
-    l .inv .3 ∙ ap (λ k. totalWeight (graphOf (s .args .b .now)) (runEdges (s .args .c .now) (s .args .from) k)) end
+    let l = c .before in
+    let s = start l .args in
+    let end : l .loop .i ≡ s .to = omega arith in
+    l .loop .inv .3 ∙ ap (λ k. totalWeight (g (start l)) (runEdges (s .c .now) (s .from) k)) end
 
 pub run-weight-spec : {M : Type 1} → statement M
 run-weight-spec =

@@ -15,6 +15,10 @@ Inv-loop c k t j₀ j = (t ≡ k) × ((i : ℕ) → i < j → startIn c i ≡ i)
 abbrev μ-loop : tie.MeasureT-loop
 μ-loop c k t j₀ j = t - j
 
+-- Where the loop began.
+abbrev start : tie.At-loop Inv-loop μ-loop → tie.Start Inv-loop μ-loop
+start l = l .before .before .before .before
+
 trees-in-requires : tie.Need-trees-in-requires Inv-loop μ-loop
 trees-in-requires c κs = tt
 
@@ -31,8 +35,9 @@ start-in-requires c κs = tt
 
 returns-2 : tie.Need-returns-2 Inv-loop μ-loop
 returns-2 c =
-    let g = c .before .before .before .before .before .before .before .args in
-    sym (other-start (g .c .now) (g .k) (omega arith) (c .before .before .before .loop .j) (omega arith) (omega arith))
+    let l = c .before .before .before in
+    let g = start l .args in
+    sym (other-start (g .c .now) (g .k) (omega arith) (l .loop .j) (omega arith) (omega arith))
 
 add-j : tie.Need-add-j Inv-loop μ-loop
 add-j c = omega arith
@@ -46,7 +51,7 @@ loop-again c =
 
 returns-3 : tie.Need-returns-3 Inv-loop μ-loop
 returns-3 c =
-    let g = c .before .before .before .before .before .args in
+    let g = start (c .before) .args in
     sym (same-starts (g .c .now) (g .k) (omega arith) (λ k h. c .before .loop .inv .1 k (omega arith)))
 
 pub starts-at-roots-spec : {M : Type 1} → statement M

@@ -15,6 +15,10 @@ Inv-loop c n t j₀ j = (k : ℕ) → k < j → startIn c k < n
 abbrev μ-loop : tie.MeasureT-loop
 μ-loop c n t j₀ j = t - j
 
+-- Where the loop began.
+abbrev start : tie.At-loop Inv-loop μ-loop → tie.Start Inv-loop μ-loop
+start l = l .before .before .before
+
 trees-in-requires : tie.Need-trees-in-requires Inv-loop μ-loop
 trees-in-requires c κs = tt
 
@@ -26,8 +30,9 @@ start-in-requires c κs = tt
 
 returns : tie.Need-returns Inv-loop μ-loop
 returns c =
-    let g = c .before .before .before .before .before .before .args in
-    sym (start-above (g .c .now) (g .n) (c .before .before .before .loop .j) (omega arith) (omega arith))
+    let l = c .before .before .before in
+    let g = start l .args in
+    sym (start-above (g .c .now) (g .n) (l .loop .j) (omega arith) (omega arith))
 
 add-j : tie.Need-add-j Inv-loop μ-loop
 add-j c = omega arith

@@ -6,7 +6,7 @@ use native.Mathlib.Omega.{arith}
 use lib.ListN.{getD}
 use borrow.Author.Count.{below-more}
 use borrow.Author.Needs.{needs}
-use Rattle.graph.specs.Graph.{oneEnd}
+use Rattle.graph.specs.Graph.{Graph, oneEnd}
 use Rattle.graph.specs.Bytes.{graphOf}
 use Rattle.graph.proofs.Ranges.{one-end-below}
 use Rattle.rules.specs.CoverBytes.{entryEdge}
@@ -21,17 +21,26 @@ Inv-loop b c from to start label i₀ i =
 abbrev μ-loop : tie.MeasureT-loop
 μ-loop b c from to start label i₀ i = to - i
 
+-- Where the loop began, and the graph.
+abbrev start : tie.At-loop Inv-loop μ-loop → tie.Start Inv-loop μ-loop
+start l = l .before .before .before .before
+
+abbrev g : tie.Start Inv-loop μ-loop → Graph
+g s = graphOf (s .args .b .now)
+
 -- In a turn, one end of the entry's edge was read: the label there is that of the edge's end.
 module _ (t : tie.After-one-end Inv-loop μ-loop) where
+  abbrev turn : tie.At-loop Inv-loop μ-loop
+  turn = t .before .before .before
+
   abbrev s : tie.Start Inv-loop μ-loop
-  s = t .before .before .before .before .before .before .before
+  s = start turn
 
   abbrev e : ℕ
-  e = entryEdge (s .args .c .now) (t .before .before .before .loop .i)
+  e = entryEdge (s .args .c .now) (turn .loop .i)
 
-  read-label : getD (s .args .label .now) (t .one-end .result) 0 ≡ getD (s .args .label .now) (oneEnd (graphOf (s .args .b .now)) e) 0
-  read-label =
-      ap (λ u. getD (s .args .label .now) u 0) (t .one-end .ensures .is ∙ ap (oneEnd (graphOf (s .args .b .now))) (t .before .entry-edge .ensures .is))
+  read-label : getD (s .args .label .now) (t .one-end .result) 0 ≡ getD (s .args .label .now) (oneEnd (g (start turn)) e) 0
+  read-label = ap (λ u. getD (s .args .label .now) u 0) (t .one-end .ensures .is ∙ ap (oneEnd (g (start turn))) (t .before .entry-edge .ensures .is))
 
 loop-holds : tie.Need-loop-holds Inv-loop μ-loop
 loop-holds c = (omega arith, λ k h l. absurd (omega arith))
@@ -61,7 +70,7 @@ returns c =
     let t = c .before .before .before in
     let b = s t in
     run-apart (b .pre .1 .graph) (b .args .c .now) (b .args .from) (b .args .to) (b .args .start) (b .args .label .now) (b .pre .0)
-    (t .before .before .before .loop .i) (omega arith) (omega arith) (λ q. c .if1 .taken (q ∙ sym (read-label t)))
+    (turn t .loop .i) (omega arith) (omega arith) (λ q. c .if1 .taken (q ∙ sym (read-label t)))
 
 add-i : tie.Need-add-i Inv-loop μ-loop
 add-i c = omega arith
@@ -72,12 +81,12 @@ loop-less c = omega arith
 loop-again : tie.Need-loop-again Inv-loop μ-loop
 loop-again c =
     let t = c .before .before .before in
-    let l = t .before .before .before .loop in
+    let l = turn t .loop in
     (omega arith, below-more _ (l .i) (l .inv .1) (λ _. c .if1 .left ∙ read-label t))
 
 returns-2 : tie.Need-returns-2 Inv-loop μ-loop
 returns-2 c =
-    let b = c .before .before .before .before .before in
+    let b = start (c .before) in
     run-together (b .pre .1 .graph) (b .args .c .now) (b .args .from) (b .args .to) (b .args .start) (b .args .label .now) (b .pre .0)
     (λ k h l. c .before .loop .inv .1 k (omega arith) h)
 

@@ -1,9 +1,14 @@
 -- `cover::trees::run_loop_free` meets its contract. The loop's invariant: the entries before i are taken. The measure is how many are left.
 -- Assumes nothing.
 use Prim.Native.Nat.{_-_}
+use mathlib.Core.Path.{_≡_}
 use native.Mathlib.Omega.{arith}
+use lib.ListN.{length}
 use borrow.Author.Tests.{not-true, not-false}
+use Rattle.graph.specs.Graph.{Graph}
 use Rattle.graph.specs.Bytes.{graphOf}
+use Rattle.rules.specs.CoverBytes.{entryEdge}
+use Rattle.forest.specs.Labelled.{Joined}
 use Rattle.cover.proofs.RunTests.{RunSoFar, run-start, run-loop, run-next, run-done}
 use Rattle.cover.proofs.trees.run_loop_free.Statement.{statement}
 use Rattle.cover.proofs.trees.run_loop_free.Tie as tie
@@ -14,29 +19,52 @@ Inv-loop b c from to label₀ i₀ label i = RunSoFar (graphOf b) c from to i la
 abbrev μ-loop : tie.MeasureT-loop
 μ-loop b c from to label₀ i₀ label i = to - i
 
+-- Where the loop began, and the graph.
+abbrev start : tie.At-loop Inv-loop μ-loop → tie.Start Inv-loop μ-loop
+start l = l .before .before .before .before
+
+abbrev g : tie.Start Inv-loop μ-loop → Graph
+g s = graphOf (s .args .b .now)
+
+-- In a turn, the ends of the entry's edge were joined where they were not.
+module _ (t : tie.After-join-ends Inv-loop μ-loop) where
+  abbrev read : tie.After-entry-edge Inv-loop μ-loop
+  read = t .before .before
+
+  abbrev turn : tie.At-loop Inv-loop μ-loop
+  turn = read .before .before
+
+  joined : Joined (g (start turn)) (entryEdge (start turn .args .c .now) (turn .loop .i)) (turn .loop .label) (t .join-ends .last .1 .1 .0) (t .join-ends .result)
+  joined = rw (read .entry-edge .ensures .is) at (t .join-ends .ensures)
+
+  as-long : length (t .join-ends .last .1 .1 .0) ≡ length (turn .loop .label)
+  as-long = t .join-ends .kept .1 .1 .0
+
 loop-holds : tie.Need-loop-holds Inv-loop μ-loop
 loop-holds c =
     let s = c .before .before .before in
-    run-start (graphOf (s .args .b .now)) (s .args .c .now) (s .args .from) (s .args .to) (s .pre .0) (s .args .label .now)
+    run-start (g s) (s .args .c .now) (s .args .from) (s .args .to) (s .pre .0) (s .args .label .now)
 
 entry-edge-requires : tie.Need-entry-edge-requires Inv-loop μ-loop
 entry-edge-requires c κs = tt
 
 join-ends-requires : tie.Need-join-ends-requires Inv-loop μ-loop
 join-ends-requires c κs =
-    let s = c .before .before .before .before .before .before .before in
-    record { graph = s .pre .1 .graph; room = omega (arith, s .pre .1 .room, c .before .before .before .loop .inv .as-long) }
+    let l = c .before .before .before in
+    let p = start l .pre .1 in
+    record { graph = p .graph; room = omega (arith, p .room, l .loop .inv .as-long) }
 
 same-length : tie.Need-same-length Inv-loop μ-loop
-same-length c = omega (arith, c .before .before .before .join-ends .kept .1 .1 .0, c .before .before .before .before .before .before .before .loop .inv .as-long)
+same-length c =
+    let t = c .before .before .before in
+    omega (arith, as-long t, turn t .loop .inv .as-long)
 
 returns : tie.Need-returns Inv-loop μ-loop
 returns c =
-    let j = c .before .before .before .join-ends in
-    let t = c .before .before .before .before .before in
-    let s = t .before .before .before .before .before .before .args in
-    run-loop (graphOf (s .b .now)) (s .c .now) (s .from) (s .to) (t .before .before .loop .inv) (omega arith)
-    (rw (t .entry-edge .ensures .is) at (j .ensures)) (not-true (j .result) (c .if1 .taken))
+    let t = c .before .before .before in
+    let l = turn t in
+    let s = start l .args in
+    run-loop (g (start l)) (s .c .now) (s .from) (s .to) (l .loop .inv) (omega arith) (joined t) (not-true (t .join-ends .result) (c .if1 .taken))
 
 add-i : tie.Need-add-i Inv-loop μ-loop
 add-i c = omega arith
@@ -46,19 +74,19 @@ loop-less c = omega arith
 
 loop-again : tie.Need-loop-again Inv-loop μ-loop
 loop-again c =
-    let j = c .before .before .before .join-ends in
-    let t = c .before .before .before .before .before in
-    let s = t .before .before .before .before .before .before .args in
-    run-next (graphOf (s .b .now)) (s .c .now) (s .from) (s .to) (t .before .before .loop .inv) (omega arith)
-    (rw (t .entry-edge .ensures .is) at (j .ensures)) (j .kept .1 .1 .0) (not-false (j .result) (c .if1 .left))
+    let t = c .before .before .before in
+    let l = turn t in
+    let s = start l .args in
+    run-next (g (start l)) (s .c .now) (s .from) (s .to) (l .loop .inv) (omega arith) (joined t) (as-long t) (not-false (t .join-ends .result) (c .if1 .left))
 
 same-length-2 : tie.Need-same-length-2 Inv-loop μ-loop
 same-length-2 c = c .before .loop .inv .as-long
 
 returns-2 : tie.Need-returns-2 Inv-loop μ-loop
 returns-2 c =
-    let s = c .before .before .before .before .before .args in
-    run-done (graphOf (s .b .now)) (s .c .now) (s .from) (s .to) (c .before .loop .inv) (omega arith)
+    let l = c .before in
+    let s = start l .args in
+    run-done (g (start l)) (s .c .now) (s .from) (s .to) (l .loop .inv) (omega arith)
 
 pub run-loop-free-spec : {M : Type 1} → statement M
 run-loop-free-spec =

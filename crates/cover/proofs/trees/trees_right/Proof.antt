@@ -26,20 +26,32 @@ Inv-loop b c label₀ t from₀ j₀ label from j =
 abbrev μ-loop : tie.MeasureT-loop
 μ-loop b c label₀ t from₀ j₀ label from j = t - j
 
+-- Where the loop began, and the graph.
+abbrev start : tie.At-loop Inv-loop μ-loop → tie.Start Inv-loop μ-loop
+start l = let t = l .before in t .before .before .before .before
+
+abbrev g : tie.Start Inv-loop μ-loop → Graph
+g s = graphOf (s .args .b .now)
+
 -- In a turn, tree j was tested: the answer is that of the tree of the bytes.
 module _ (t : tie.After-tree-right Inv-loop μ-loop) where
+  abbrev found : tie.After-run-end Inv-loop μ-loop
+  found = t .before .before
+
+  abbrev turn : tie.At-loop Inv-loop μ-loop
+  turn = found .before .before
+
   abbrev s : tie.Start Inv-loop μ-loop
-  s = t .before .before .before .before .before .before .before .before .before
+  s = start turn
 
-  abbrev g : Graph
-  g = graphOf (s .args .b .now)
-
-  tested : t .tree-right .result ≡ treeRight g (treeIn (s .args .c .now) (t .before .before .before .before .loop .j))
+  tested : t .tree-right .result ≡ treeRight (g (start turn)) (treeIn (s .args .c .now) (turn .loop .j))
   tested =
-      let l = t .before .before .before .before .loop in
       t .tree-right .ensures
-      ∙ ap (λ (x : Tree). treeRight g x)
-      (sym (tree-is-run (s .args .c .now) (edgeCount g) (s .pre .cover .entries) (l .inv .1) (t .before .before .run-end .ensures)))
+      ∙ ap (λ (x : Tree). treeRight (g (start turn)) x)
+      (sym (tree-is-run (s .args .c .now) (edgeCount (g (start turn))) (s .pre .cover .entries) (turn .loop .inv .1) (found .run-end .ensures)))
+
+  as-long : length (t .tree-right .last .1 .1 .1 .1 .1 .0) ≡ length (s .args .label .now)
+  as-long = t .tree-right .kept .1 .1 .1 .1 .1 .0 ∙ turn .loop .inv .0
 
 trees-in-requires : tie.Need-trees-in-requires Inv-loop μ-loop
 trees-in-requires c κs = tt
@@ -47,29 +59,28 @@ trees-in-requires c κs = tt
 loop-holds : tie.Need-loop-holds Inv-loop μ-loop
 loop-holds c =
     let s = c .before .before .before .before in
-    (omega arith, begins-first (s .args .c .now) (edgeCount (graphOf (s .args .b .now))) (s .pre .cover .entries), below-none _)
+    (omega arith, begins-first (s .args .c .now) (edgeCount (g s)) (s .pre .cover .entries), below-none _)
 
 run-end-requires : tie.Need-run-end-requires Inv-loop μ-loop
 run-end-requires c κs = c .before .loop .inv .1 .inside
 
 tree-right-requires : tie.Need-tree-right-requires Inv-loop μ-loop
 tree-right-requires c κs =
-    let l = c .before .before .before .loop in
-    let s = c .before .before .before .before .before .before .before .before in
+    let l = c .before .before .before in
+    let s = start l in
     record {
-      labelable = record { graph = s .pre .cover .graph; room = omega (arith, l .inv .0, s .pre .room) };
-      start = start-passed (s .args .c .now) (graphOf (s .args .b .now) .vertices) (s .pre .cover .starts) (l .j) (omega arith);
+      labelable = record { graph = s .pre .cover .graph; room = omega (arith, l .loop .inv .0, s .pre .room) };
+      start = start-passed (s .args .c .now) (g (start l) .vertices) (s .pre .cover .starts) (l .loop .j) (omega arith);
       forward = c .before .run-end .ensures .run .forward;
     }
 
 same-length : tie.Need-same-length Inv-loop μ-loop
-same-length c = omega (arith, c .before .before .before .tree-right .kept .1 .1 .1 .1 .1 .0, c .before .before .before .before .before .before .before .loop .inv .0)
+same-length c = as-long (c .before .before .before)
 
 returns : tie.Need-returns Inv-loop μ-loop
 returns c =
     let t = c .before .before .before in
-    sym (tree-wrong (g t) (s t .args .c .now) (t .before .before .before .before .loop .j) (omega arith)
-    (sym (tested t) ∙ not-true (t .tree-right .result) (c .if1 .taken)))
+    sym (tree-wrong (g (start (turn t))) (s t .args .c .now) (turn t .loop .j) (omega arith) (sym (tested t) ∙ not-true (t .tree-right .result) (c .if1 .taken)))
 
 add-j : tie.Need-add-j Inv-loop μ-loop
 add-j c = omega arith
@@ -80,9 +91,9 @@ loop-less c = omega arith
 loop-again : tie.Need-loop-again Inv-loop μ-loop
 loop-again c =
     let t = c .before .before .before in
-    let l = t .before .before .before .before .loop in (
-      omega (arith, t .tree-right .kept .1 .1 .1 .1 .1 .0, l .inv .0),
-      begins-next (s t .args .c .now) (edgeCount (g t)) (s t .pre .cover .entries) (l .inv .1) (t .before .before .run-end .ensures),
+    let l = turn t .loop in (
+      as-long t,
+      begins-next (s t .args .c .now) (edgeCount (g (start (turn t)))) (s t .pre .cover .entries) (l .inv .1) (found t .run-end .ensures),
       below-more _ (l .j) (l .inv .2) (sym (tested t) ∙ not-false (t .tree-right .result) (c .if1 .left)),
     )
 
@@ -91,8 +102,8 @@ same-length-2 c = c .before .loop .inv .0
 
 returns-2 : tie.Need-returns-2 Inv-loop μ-loop
 returns-2 c =
-    let s = c .before .before .before .before .before .before .args in
-    sym (all-trees (graphOf (s .b .now)) (s .c .now) (λ k h. c .before .loop .inv .2 k (omega arith)))
+    let l = c .before in
+    sym (all-trees (g (start l)) (start l .args .c .now) (λ k h. l .loop .inv .2 k (omega arith)))
 
 pub trees-right-spec : {M : Type 1} → statement M
 trees-right-spec =

@@ -1,7 +1,7 @@
 -- `cover::vertices::vertices_covered` meets its contract: the starts and the ends are marked, and nothing else is. Assumes nothing.
 use native.Mathlib.Omega.{arith}
 use lib.ListN.{replicate}
-use Rattle.graph.specs.Graph.{edgeCount}
+use Rattle.graph.specs.Graph.{Graph, edgeCount}
 use Rattle.graph.specs.Bytes.{graphOf}
 use Rattle.cover.proofs.StartTests.{start-passed}
 use Rattle.cover.proofs.TreeRuns.{tree-named}
@@ -10,13 +10,17 @@ use borrow.Author.Needs.{needs}
 use Rattle.cover.proofs.vertices.vertices_covered.Statement.{statement}
 use Rattle.cover.proofs.vertices.vertices_covered.Tie as tie
 
+-- The graph.
+abbrev g : tie.Start → Graph
+g s = graphOf (s .args .b .now)
+
 slice-aggregate-mark-starts : tie.Need-slice-aggregate-mark-starts
 slice-aggregate-mark-starts c = search needs
 
 mark-starts-requires : tie.Need-mark-starts-requires
 mark-starts-requires c κs =
     let s = c .before .before .before in
-    λ j h. omega (arith, start-passed (s .args .c .now) (graphOf (s .args .b .now) .vertices) (s .pre .starts) j h, s .pre .graph .valid .vertices-most)
+    λ j h. omega (arith, start-passed (s .args .c .now) (g s .vertices) (s .pre .starts) j h, s .pre .graph .valid .vertices-most)
 
 slice-aggregate-mark-ends : tie.Need-slice-aggregate-mark-ends
 slice-aggregate-mark-ends c = search needs
@@ -38,9 +42,8 @@ returns c =
     let ends = c .before .before .before .before in
     let starts = ends .before .before .before in
     let s = starts .before .before .before .before in
-    let g = graphOf (s .args .b .now) in
-    all-marked-covered g (s .args .c .now) (replicate 256 0) _ _ (none-marked 256) (starts .mark-starts .ensures) (ends .mark-ends .ensures)
-    (tree-named (s .args .c .now) (edgeCount g) (s .pre .entries)) (c .all-marked .result) (rw (c .before .vertex-count .ensures .is) at (c .all-marked .ensures))
+    all-marked-covered (g s) (s .args .c .now) (replicate 256 0) _ _ (none-marked 256) (starts .mark-starts .ensures) (ends .mark-ends .ensures)
+    (tree-named (s .args .c .now) (edgeCount (g s)) (s .pre .entries)) (c .all-marked .result) (rw (c .before .vertex-count .ensures .is) at (c .all-marked .ensures))
 
 pub vertices-covered-spec : {M : Type 1} → statement M
 vertices-covered-spec =

@@ -1,10 +1,8 @@
 -- `cover::write::put_u16` meets its contract: two stores, side by side.
 -- Assumes nothing.
-use Prim.Native.Nat.{_/_, _%_}
 use native.Mathlib.Omega.{arith}
 use lib.ListN.{length-set}
-use Rattle.rules.specs.CoverBytes.{u16Bytes}
-use Rattle.cover.proofs.Writing.{written-two}
+use Rattle.cover.proofs.Writing.{field-put}
 use borrow.Author.Needs.{needs}
 use Rattle.cover.proofs.write.put_u16.Statement.{statement}
 use Rattle.cover.proofs.write.put_u16.Tie as tie
@@ -24,16 +22,16 @@ add-buf c = search needs
 slice-write-buf-2 : tie.Need-slice-write-buf-2
 slice-write-buf-2 c = rw length-set (omega arith)
 
+add-result : tie.Need-add-result
+add-result c = search needs
+
 same-length : tie.Need-same-length
 same-length c = search needs
 
 returns : tie.Need-returns
-unfolding u16Bytes
-returns c =
-    let g = c .args in
-    written-two (g .buf .now) (g .at) (g .x % 256) (g .x / 256 % 256) (omega arith)
+returns c = let g = c .args in field-put (g .buf .now) (g .at) (g .x) (omega arith)
 
 pub put-u16-spec : {M : Type 1} → statement M
 put-u16-spec =
     tie.close
-    (tie.spec cast-buf slice-write-buf cast-buf-2 add-buf slice-write-buf-2 same-length returns)
+    (tie.spec cast-buf slice-write-buf cast-buf-2 add-buf slice-write-buf-2 add-result same-length returns)
