@@ -47,3 +47,7 @@ pub mod Stores
 pub mod Put
 -- several lists in one array: one more bound adds one more list
 pub mod Segments
+-- what stands in a list stands at a place of it
+pub mod Places
+-- what stands in a part of a list stands at a place of it
+pub mod SlicePlaces
