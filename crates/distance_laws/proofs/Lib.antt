@@ -23,3 +23,7 @@ pub mod Shortest
 pub mod Within
 -- a covered vertex is within its tree's weight
 pub mod Covered
+-- what a path weighs, turned round, and at most
+pub mod PathWeights
+-- a shortest path to the nearest vertex of a part
+pub mod NearestVertex

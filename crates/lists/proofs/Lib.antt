@@ -87,3 +87,5 @@ pub mod OneMore
 pub mod SegmentSizes
 -- lists made for each element from its place, and joined
 pub mod EachPlace
+-- what stands in a part of a list stands at a place of it
+pub mod SlicePlaces

@@ -9,7 +9,7 @@ use Rattle.graph.specs.Graph.{Graph, oneEnd, otherEnd}
 use Rattle.rules.specs.Walk.{Joins, onward, back, Walk, stay, step, Linked}
 
 -- a list of edges, the last first
-pub turned : List ℕ → List ℕ
+unfoldable pub turned : List ℕ → List ℕ
 turned [] = []
 turned (e ∷ p) = turned p ++ (e ∷ [])
 

@@ -1,0 +1,89 @@
+-- `distance::relax::relax_arc` meets its contract: the two ways are the two cases of `ArcRelaxed`. What is stored is below what stood there,
+-- so it fits. Assumes nothing.
+use native.Mathlib.Omega.{arith}
+use borrow.Author.Tests.{leb-true, leb-false}
+use borrow.Author.Needs.{needs}
+use Rattle.forest.specs.Around.{arcWeight}
+use Rattle.distance.proofs.Relaxing.{arc-kept, arc-lowered}
+use Rattle.distance.proofs.relax.relax_arc.Statement.{statement}
+use Rattle.distance.proofs.relax.relax_arc.Tie as tie
+use Rattle.distance.proofs.relax.relax_arc.Reads as reads
+use Rattle.distance.proofs.relax.relax_arc.Lts as lts
+
+arc-head-requires : tie.Need-arc-head-requires
+arc-head-requires c κs = search needs
+
+arc-weight-requires : tie.Need-arc-weight-requires
+arc-weight-requires c κs = search needs
+
+add-over : tie.Need-add-over
+unfolding arcWeight
+add-over c = search needs
+
+mul-wide-distance : tie.Need-mul-wide-distance
+mul-wide-distance c = search needs
+
+slice-read-wide-distance : tie.Need-slice-read-wide-distance
+slice-read-wide-distance c = search needs
+
+wide-distance-requires : tie.Need-wide-distance-requires
+wide-distance-requires c κs = search needs
+
+returns : tie.Need-returns
+returns c =
+    let k = c .before .before .before in
+    arc-kept (k .before .arc-head .ensures) (k .arc-weight .ensures) _ _ (omega (arith, leb-true))
+
+cast-dist : tie.Need-cast-dist
+cast-dist c = search needs
+
+mul-dist : tie.Need-mul-dist
+mul-dist c = search needs
+
+slice-write-dist : tie.Need-slice-write-dist
+slice-write-dist c = search needs
+
+arc-edge-requires : tie.Need-arc-edge-requires
+arc-edge-requires c κs = search needs
+
+last-of-requires : tie.Need-last-of-requires
+last-of-requires c κs = search needs
+
+mul-last : tie.Need-mul-last
+mul-last c = search needs
+
+slice-write-last : tie.Need-slice-write-last
+slice-write-last c = search needs
+
+same-length : tie.Need-same-length
+same-length c = search needs
+
+same-length-2 : tie.Need-same-length-2
+same-length-2 c = search needs
+
+returns-2 : tie.Need-returns-2
+returns-2 c =
+    let k = c .before .before .before .before .before in
+    arc-lowered (k .before .arc-head .ensures) (k .arc-weight .ensures) _ _ (omega (arith, leb-false)) (c .before .arc-edge .ensures) (c .last-of .ensures)
+
+pub relax-arc-spec : {M : Type 1} → statement M
+relax-arc-spec =
+    tie.close
+    (tie.spec
+    arc-head-requires
+    arc-weight-requires
+    add-over
+    mul-wide-distance
+    slice-read-wide-distance
+    wide-distance-requires
+    returns
+    cast-dist
+    mul-dist
+    slice-write-dist
+    arc-edge-requires
+    last-of-requires
+    mul-last
+    slice-write-last
+    same-length
+    same-length-2
+    returns-2)

@@ -1,0 +1,9 @@
+-- What the contracts of `distance` say, in reading order.
+-- the last edges of paths, followed back to the root
+pub mod Trail
+-- what the two arrays say of a graph
+pub mod Shortest
+-- relaxing the arcs of a vertex
+pub mod Relaxing
+-- the list of the vertices that wait
+pub mod Waiting

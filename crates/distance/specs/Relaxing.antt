@@ -1,0 +1,57 @@
+-- Relaxing arcs: where a vertex is nearer over an arc, it takes that distance, and the arc's edge as its last.
+-- Assumes nothing.
+use Prim.Native.Nat.{ℕ, _+_, _≤_, _<_}
+use mathlib.Core.Path.{_≡_}
+use mathlib.Core.List.{List}
+use lib.ListN.{length, getD, set}
+use Rattle.forest.specs.Around.{arcEdge, arcHead, arcWeight}
+use Rattle.distance.specs.Trail.{lastOf}
+
+-- a is one of the arcs at the places from lo up to hi.
+pub record ArcIn (arcs : List ℕ) (lo hi a : ℕ) : Type 0 where
+  pub place : ℕ
+  pub from : lo ≤ place
+  pub to : place < hi
+  pub is : a ≡ getD arcs place 0
+
+-- a is one of the arcs of u.
+abbrev pub ArcAt : List ℕ → List ℕ → ℕ → ℕ → Type 0
+ArcAt bounds arcs u a = ArcIn arcs (getD bounds u 0) (getD bounds (u + 1) 0) a
+
+-- What relaxing one arc of u asks: its head has a place in both arrays, and the numbers fit.
+pub record ArcRelaxable (a u d : ℕ) (dist last : List ℕ) : Type 0 where
+  pub small : u < 65536
+  pub distance-fits : d < 4294967296
+  pub head-dist : arcHead a < length dist
+  pub head-last : arcHead a < length last
+
+-- Relaxing one arc of u, which has distance d: all is as it was, where the head is no nearer over the arc; or the head alone changes.
+pub data ArcRelaxed (a u d : ℕ) (dist last dist-after last-after : List ℕ) : Type 0 where
+  kept : getD dist (arcHead a) 0 ≤ d + arcWeight a → dist-after ≡ dist → last-after ≡ last → ArcRelaxed a u d dist last dist-after last-after
+  lowered : d + arcWeight a < getD dist (arcHead a) 0 → dist-after ≡ set dist (arcHead a) (d + arcWeight a)
+      → last-after ≡ set last (arcHead a) (lastOf (arcEdge a) u) → ArcRelaxed a u d dist last dist-after last-after
+
+-- What becomes of a vertex v when arcs of u are relaxed: it keeps its distance and its last edge, or is nearer than before over one of the arcs.
+pub data Becomes (arcs : List ℕ) (lo hi u v : ℕ) (dist last dist-after last-after : List ℕ) : Type 0 where
+  same : getD dist-after v 0 ≡ getD dist v 0 → getD last-after v 0 ≡ getD last v 0 → Becomes arcs lo hi u v dist last dist-after last-after
+  nearer : {a : ℕ} → ArcIn arcs lo hi a → v ≡ arcHead a → getD dist-after v 0 ≡ getD dist u 0 + arcWeight a → getD dist-after v 0 < getD dist v 0
+      → getD last-after v 0 ≡ lastOf (arcEdge a) u → Becomes arcs lo hi u v dist last dist-after last-after
+
+-- The arcs of u at the places from lo up to hi are relaxed: each vertex becomes what it may, and none could be lower over any of the arcs.
+pub record Relaxed (arcs : List ℕ) (lo hi u : ℕ) (dist last dist-after last-after : List ℕ) : Type 0 where
+  pub each : (v : ℕ) → Becomes arcs lo hi u v dist last dist-after last-after
+  pub lowest : (a : ℕ) → ArcIn arcs lo hi a → getD dist-after (arcHead a) 0 ≤ getD dist u 0 + arcWeight a
+
+-- What relaxing all arcs of u asks.
+pub record Relaxable (bounds arcs : List ℕ) (u : ℕ) (dist last : List ℕ) : Type 0 where
+  pub small : u < 65536
+  pub bounded : u + 1 < length bounds
+  pub rising : getD bounds u 0 ≤ getD bounds (u + 1) 0
+  pub within : getD bounds (u + 1) 0 ≤ length arcs
+  pub own-room : u < length dist
+  pub dist-room : (a : ℕ) → ArcAt bounds arcs u a → arcHead a < length dist
+  pub last-room : (a : ℕ) → ArcAt bounds arcs u a → arcHead a < length last
+
+-- All arcs of u are relaxed.
+abbrev pub AllRelaxed : List ℕ → List ℕ → ℕ → List ℕ → List ℕ → List ℕ → List ℕ → Type 0
+AllRelaxed bounds arcs u dist last dist-after last-after = Relaxed arcs (getD bounds u 0) (getD bounds (u + 1) 0) u dist last dist-after last-after

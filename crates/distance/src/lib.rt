@@ -1,0 +1,64 @@
+// Distances from a root ("yard") over the edges around each vertex, and the shortest paths back to it (document 01, step 5).
+// The method is Dijkstra's: of the vertices that wait the nearest is taken from their list, and its arcs are relaxed. No bytes are read.
+// The words of the contracts stand in specs/.
+mod last;
+mod relax;
+mod waiting;
+mod wide;
+
+use crate::last::last_edge;
+use crate::last::vertex_before;
+use crate::relax::relax_arcs;
+use crate::waiting::nearest;
+use crate::waiting::start;
+use crate::wide::wide;
+ghost use lib.ListN.{length};
+ghost use Rattle.lists.specs.Put.{PutTo};
+ghost use Rattle.distance.specs.Trail.{trailOf, CanGoBack};
+ghost use Rattle.distance.specs.Shortest.{Searchable, Searched};
+
+// What stands in `dist` for a vertex that no walk leads to. Every distance is below it.
+pub const UNREACHED: u32 = 4294967295;
+
+// The distance of each of n vertices from the root, and the last edge of a shortest path to each that is reached, with the vertex before it.
+pub fn distances_from(
+    n: usize,
+    bounds: &[u16],
+    arcs: &[u64],
+    root: usize,
+    dist: &mut [u32],
+    last: &mut [u32],
+)
+    requires { ⌜ Searchable n (now bounds) (now arcs) root (now dist) (now last) ⌝ }
+    ensures { λ _. ⌜ Searched n (now (bounds .entry)) (now (arcs .entry)) root (now (dist .entry)) (now (last .entry)) (now (dist .exit)) (now (last .exit)) ⌝ }
+{
+    let mut waiting = [0u16; 256];
+    start(n, root, dist, &mut waiting);
+    let mut k = n;
+    while 0 < k {
+        let at = nearest(&waiting, k, dist);
+        let u = wide(waiting[at]);
+        if dist[u] == UNREACHED {
+            return;
+        }
+        k -= 1;
+        waiting[at] = waiting[k];
+        relax_arcs(bounds, arcs, u, dist, last);
+    }
+}
+
+// The edges of the trail from v back to the root, written to the front of the array, the last edge first. Says how many.
+pub fn path_back(last: &[u32], root: usize, v: usize, out: &mut [u16]) -> usize
+    requires { ⌜ CanGoBack (now last) root v (length (now out)) ⌝ }
+    ensures { λ r. ⌜ PutTo 0 (trailOf (now (last .entry)) root v) (now (out .entry)) (now (out .exit)) r ⌝ }
+{
+    let mut at = v;
+    let mut r = 0;
+    while at != root {
+        let x = last[at];
+        out[r] = last_edge(x);
+        r += 1;
+        at = vertex_before(x);
+    }
+    r
+}
