@@ -17,3 +17,5 @@ pub mod Comparing
 pub mod Halves
 -- two lists merged, element by element
 pub mod Interleaving
+-- what an arc holds is read from it again
+pub mod Arcs
