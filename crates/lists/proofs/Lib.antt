@@ -47,3 +47,11 @@ pub mod Stores
 pub mod Put
 -- several lists in one array: one more bound adds one more list
 pub mod Segments
+-- buckets, item by item
+pub mod Buckets
+-- what counting and filling give
+pub mod Filling
+-- a list in order is the only one
+pub mod OneOrder
+-- numbers put into buckets: the same numbers, by bucket
+pub mod ByBucket
