@@ -11,11 +11,7 @@ pub mod Taking
 pub mod Looking
 -- the edges within a limit, edge by edge
 pub mod Sifting
--- which of two edges comes first
-pub mod Comparing
--- a sorted list is its sorted halves merged
-pub mod Halves
--- two lists merged, element by element
-pub mod Interleaving
+-- two passes order the edges
+pub mod Passes
 -- what an arc holds is read from it again
 pub mod Arcs

@@ -9,7 +9,9 @@ pub mod Keeping
 pub mod Lowest
 -- edges within a limit
 pub mod Light
--- all edges by weight, then number, and lists merged
+-- one element put into its bucket
+pub mod Buckets
+-- all edges by weight, then number
 pub mod Order
 -- vertices marked
 pub mod Marks
