@@ -15,3 +15,7 @@ pub mod Sifting
 pub mod Passes
 -- what an arc holds is read from it again
 pub mod Arcs
+-- the arcs of edges as items
+pub mod ArcItems
+-- buckets filled with them hold the edges around each vertex
+pub mod FilledAround

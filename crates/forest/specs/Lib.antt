@@ -9,11 +9,11 @@ pub mod Keeping
 pub mod Lowest
 -- edges within a limit
 pub mod Light
--- one element put into its bucket
-pub mod Buckets
 -- all edges by weight, then number
 pub mod Order
 -- vertices marked
 pub mod Marks
 -- the edges around each vertex
 pub mod Around
+-- the edges around each vertex, as they are put
+pub mod PutAround
