@@ -9,13 +9,11 @@ pub mod LowestVertices
 pub mod WithinLimit
 -- the forest of a trial is what keeping leaves over the order, whole and at a limit
 pub mod TrialForest
--- what is left of a list from a place on
-pub mod Rest
--- a list written to the front of an array, element by element
-pub mod Writing
--- which of two edges comes first
-pub mod Comparing
--- a sorted list is its sorted halves merged
-pub mod Halves
--- two lists merged, element by element
-pub mod Interleaving
+-- two passes order the edges
+pub mod Passes
+-- what an arc holds is read from it again
+pub mod Arcs
+-- the arcs of edges as items
+pub mod ArcItems
+-- buckets filled with them hold the edges around each vertex
+pub mod FilledAround

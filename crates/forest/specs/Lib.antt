@@ -9,9 +9,11 @@ pub mod Keeping
 pub mod Lowest
 -- edges within a limit
 pub mod Light
--- all edges by weight, then number, and lists merged
+-- all edges by weight, then number
 pub mod Order
 -- vertices marked
 pub mod Marks
 -- the edges around each vertex
 pub mod Around
+-- the edges around each vertex, as they are put
+pub mod PutAround

@@ -89,3 +89,23 @@ pub mod SegmentSizes
 pub mod EachPlace
 -- what stands in a part of a list stands at a place of it
 pub mod SlicePlaces
+-- buckets, item by item
+pub mod Buckets
+-- items counted, and the counts summed up
+pub mod Counting
+-- what filling gives
+pub mod Filling
+-- a list in order is the only one
+pub mod OneOrder
+-- numbers put into buckets: the same numbers, by bucket
+pub mod ByBucket
+-- a list gone through element by element
+pub mod Passing
+-- running sums in place
+pub mod Summing
+-- insertion in place
+pub mod Inserting
+-- numbers counted and put one after the other
+pub mod FillingBy
+-- a mapped list put element by element
+pub mod PutMapped

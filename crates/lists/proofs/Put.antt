@@ -119,3 +119,8 @@ module _ {A : Type 0} where
         let count : length (take n b) ≡ n = length-take-le n b (omega (arith, only-first-length)) in
         let q : 0 + length (take n b) ≡ n = zero-add _ ∙ count in
         ap (drop n) (o .put .is ∙ ap (λ k. take n b ++ drop k a) q) ∙ drop-at (take n b) (drop n a) n count
+
+  -- So where a list as long stands for them.
+  pub only-front : (n : ℕ) (s a : List A) → length s ≡ n → n ≤ length a → OnlyFirst n a (s ++ drop n a)
+  only-front n s a q h =
+      only-first n h (length-append s (drop n a) ∙ omega (arith, length-drop n a)) (drop-at s (drop n a) n q)

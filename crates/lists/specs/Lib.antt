@@ -13,3 +13,5 @@ pub mod Sort
 pub mod Put
 -- several lists in one array, cut by bounds
 pub mod Segments
+-- items put into buckets by counting and filling
+pub mod Buckets
