@@ -7,5 +7,4 @@ pub mod read;
 pub mod starts;
 pub mod trees;
 pub mod vertices;
-mod wide;
 pub mod write;

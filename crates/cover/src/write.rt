@@ -1,5 +1,5 @@
 // Writing a cover's bytes into the first bytes of a lent buffer. Everything behind them stays.
-use crate::wide::wide;
+use forest::index::wide;
 ghost use Prim.Native.Nat.{_+_, _*_, _≤_, _<_};
 ghost use lib.ListN.{length, replicate};
 ghost use Rattle.rules.specs.CoverBytes.{u16Bytes, u16List, encode};

@@ -50,7 +50,7 @@ sub-put-same c = omega (arith, above (c .before .before .before))
 put-same-requires : tie.Need-put-same-requires Inv-loop μ-loop
 put-same-requires c κs =
     let t = c .before .before .before in
-    rw (c .before .wide .ensures) (omega (arith, above t), room t)
+    rw (c .before .wide .ensures .is) (omega (arith, above t), room t)
 
 add-j : tie.Need-add-j Inv-loop μ-loop
 add-j c = omega arith
@@ -61,7 +61,7 @@ loop-less c = omega arith
 loop-again : tie.Need-loop-again Inv-loop μ-loop
 loop-again c =
     let t = c .before .before .before .before .before .before in
-    let is-end = c .before .before .before .before .wide .ensures in
+    let is-end = c .before .before .before .before .wide .ensures .is in
     rw is-end (numbered-next (t .before .loop .inv) (more t) (rw is-end at (c .before .before .put-same .ensures)))
 
 same-length : tie.Need-same-length Inv-loop μ-loop
