@@ -1,0 +1,3 @@
+-- What the contracts of `planner` say, in reading order.
+-- the forest of the whole graph, which serves all limits
+pub mod Whole
