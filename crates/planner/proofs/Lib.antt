@@ -3,3 +3,7 @@
 pub mod EdgesJoined
 -- the forest of the whole graph
 pub mod WholeForest
+-- the weights of the edges with each label, edge by edge
+pub mod LabelWeights
+-- what the components need, vertex by vertex
+pub mod NeedsSummed

@@ -1,0 +1,63 @@
+-- What the components need, vertex by vertex: the sum so far, and what the vertices ahead add, is the sum of all; and this sum is what
+-- the rules say, where labels and weights are those of the forest's edges.
+-- Assumes nothing.
+use Prim.Native.Nat.{ℕ, _+_, _*_, _/_, _^_, _≤_, _<_}
+use mathlib.Core.Path.{_≡_, refl, sym, ap, _∙_}
+use mathlib.Core.Bool.{Bool, true, false}
+use mathlib.Core.List.{List, []}
+use native.Mathlib.Nat.{mul-comm, div-zero, div-le-self, div-div-eq-div-mul, mul-le-mul-right}
+use native.Mathlib.Omega.{arith}
+use lib.ListN.{length, getD}
+use lib.Dec.{eqb}
+use borrow.Author.Tests.{eq-eqb, ne-eqb}
+use Rattle.lists.specs.Count.{below}
+use Rattle.lists.specs.Lists.{filter, sumOf}
+use Rattle.lists.proofs.NextPlace.{belowFrom, numbers-all, numbers-next, numbers-none, filter-taken, filter-passed}
+use Rattle.planner.specs.Needs.{needsOf, needsByLabel}
+
+-- A component of any weight needs 1 at the limit 0, and halving may come last.
+pub needs-at-zero : (weight limit : ℕ) → limit ≡ 0 → 1 ≡ needsOf weight limit
+needs-at-zero weight limit q = rw q (omega (arith, div-zero weight))
+
+pub needs-halved : (weight limit : ℕ) → 1 + weight / limit / 2 ≡ needsOf weight limit
+needs-halved weight limit = ap (λ k. 1 + k) (div-div-eq-div-mul weight limit 2 ∙ ap (λ k. weight / k) (mul-comm limit 2))
+
+module _ (label weights : List ℕ) (n limit : ℕ) where
+  -- The vertex is its own label, and what its label's weight needs.
+  abbrev isOwn : ℕ → Bool
+  isOwn v = eqb (getD label v 0) v
+
+  abbrev value : ℕ → ℕ
+  value v = needsOf (getD weights v 0) limit
+
+  -- What the vertices from v on add.
+  abbrev ahead : ℕ → ℕ
+  ahead v = sumOf value (filter isOwn (belowFrom n v))
+
+  -- The vertices before v were summed.
+  pub record Summing (v sum : ℕ) : Type 0 where
+    pub whole : sum + ahead v ≡ needsByLabel label weights n limit
+
+module _ {label weights : List ℕ} {n limit : ℕ} where
+  pub summing-none : Summing label weights n limit 0 0
+  summing-none = record { whole = rw (numbers-all n) (omega arith) }
+
+  module _ {v sum : ℕ} (s : Summing label weights n limit v sum) where
+    module _ (h : v < n) where
+      pub summing-passed : (getD label v 0 ≡ v → ⊥) → Summing label weights n limit (v + 1) sum
+      summing-passed d =
+          record { whole = ap (λ l. sum + sumOf (value label weights n limit) l) (sym (filter-passed (isOwn label weights n limit) (numbers-next n v h) (ne-eqb (getD label v 0) v d))) ∙ s .whole }
+
+      next-value : getD label v 0 ≡ v → ahead label weights n limit v ≡ needsOf (getD weights v 0) limit + ahead label weights n limit (v + 1)
+      unfolding sumOf
+      next-value q = ap (sumOf (value label weights n limit)) (filter-taken (isOwn label weights n limit) (numbers-next n v h) (eq-eqb (getD label v 0) v q))
+
+      pub summing-fits : getD label v 0 ≡ v → sum + needsOf (getD weights v 0) limit ≤ needsByLabel label weights n limit
+      summing-fits q = omega (arith, next-value q, s .whole)
+
+      pub summing-more : getD label v 0 ≡ v → Summing label weights n limit (v + 1) (sum + needsOf (getD weights v 0) limit)
+      summing-more q = record { whole = omega (arith, next-value q, s .whole) }
+
+    pub summing-all : n ≤ v → sum ≡ needsByLabel label weights n limit
+    unfolding sumOf filter
+    summing-all h = omega (arith, rw (numbers-none n v h) at (s .whole))
