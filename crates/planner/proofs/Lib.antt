@@ -7,3 +7,5 @@ pub mod WholeForest
 pub mod LabelWeights
 -- what the components need, vertex by vertex
 pub mod NeedsSummed
+-- what the labels of the forest's edges show of the components
+pub mod ComponentsLabelled

@@ -1,55 +1,77 @@
+-- `planner::needs::needed_at` meets its contract: the forest's edges make the labels, their weights are added up at these, and what the
+-- weights need is summed. Assumes nothing.
+use native.Mathlib.Omega.{arith}
+use borrow.Author.Needs.{needs}
+use Rattle.lists.proofs.Zeros.{zeros-at}
+use Rattle.graph.specs.Graph.{Graph}
+use Rattle.graph.specs.Bytes.{graphOf}
+use Rattle.planner.proofs.ComponentsLabelled.{label-vertex, forest-weight, needed-summed, needs-fit}
 use Rattle.planner.proofs.needs.needed_at.Statement.{statement}
 use Rattle.planner.proofs.needs.needed_at.Tie as tie
-use Rattle.planner.proofs.needs.needed_at.Reads as reads
-use Rattle.planner.proofs.needs.needed_at.Lts as lts
-use Rattle.graph.proofs.vertex_count.Reads as vertex-count-reads
-use Rattle.planner.proofs.needs.add_weights.Reads as add-weights-reads
-use Rattle.planner.proofs.needs.sum_needs.Reads as sum-needs-reads
-use Rattle.planner.proofs.whole.label_edges.Reads as label-edges-reads
 
--- src/needs.rt:60:20
 slice-aggregate-label-edges : tie.Need-slice-aggregate-label-edges
-slice-aggregate-label-edges c = ?
+slice-aggregate-label-edges c = search needs
 
--- src/needs.rt:60:32
 slice-aggregate-label-edges-2 : tie.Need-slice-aggregate-label-edges-2
-slice-aggregate-label-edges-2 c = ?
+slice-aggregate-label-edges-2 c = search needs
 
--- src/needs.rt:60:5
 label-edges-requires : tie.Need-label-edges-requires
-label-edges-requires c κs = ?
+label-edges-requires c κs = search needs
 
--- src/needs.rt:61:27
 slice-aggregate-add-weights : tie.Need-slice-aggregate-add-weights
-slice-aggregate-add-weights c = ?
+slice-aggregate-add-weights c = search needs
 
--- src/needs.rt:61:35
 slice-aggregate-add-weights-2 : tie.Need-slice-aggregate-add-weights-2
-slice-aggregate-add-weights-2 c = ?
+slice-aggregate-add-weights-2 c = search needs
 
--- src/needs.rt:61:5
+-- Where the labels are made: what was given.
+module _ (l : tie.After-label-edges) where
+  abbrev start : tie.Start
+  start = l .before .before .before .before .before
+
+  abbrev g : Graph
+  g = graphOf (start .args .b .now)
+
 add-weights-requires : tie.Need-add-weights-requires
-add-weights-requires c κs = ?
+add-weights-requires c κs =
+    let l = c .before .before .before in
+    let given = start l .pre in
+    let made = l .label-edges .ensures in
+    record {
+      labelable = record { graph = given .graph; room = omega (arith, given .graph .valid .vertices-most) };
+      room = λ v h. omega (arith, label-vertex made (given .graph .valid) v h, given .graph .valid .vertices-most);
+      clear = zeros-at 256;
+      fits = omega (arith, forest-weight made (given .graph .valid) (start l .args .limit) (given .are));
+    }
 
--- src/needs.rt:62:15
 slice-aggregate-sum-needs : tie.Need-slice-aggregate-sum-needs
-slice-aggregate-sum-needs c = ?
+slice-aggregate-sum-needs c = search needs
 
--- src/needs.rt:62:23
 slice-aggregate-sum-needs-2 : tie.Need-slice-aggregate-sum-needs-2
-slice-aggregate-sum-needs-2 c = ?
+slice-aggregate-sum-needs-2 c = search needs
 
--- src/needs.rt:62:33
 vertex-count-requires : tie.Need-vertex-count-requires
-vertex-count-requires c κs = ?
+vertex-count-requires c κs = search needs
 
--- src/needs.rt:62:5
 sum-needs-requires : tie.Need-sum-needs-requires
-sum-needs-requires c κs = ?
+sum-needs-requires c κs =
+    let w = c .before .before .before .before in
+    let l = w .before .before .before .before in
+    let given = start l .pre in
+    record {
+      labels-room = omega (arith, given .graph .valid .vertices-most, c .vertex-count .ensures .is);
+      weights-room = omega (arith, given .graph .valid .vertices-most, c .vertex-count .ensures .is);
+      fits = needs-fit (l .label-edges .ensures) (given .graph .valid) (start l .args .limit) (given .are) (w .add-weights .ensures) (c .vertex-count .ensures .is);
+    }
 
--- src/needs.rt:54:1
 returns : tie.Need-returns
-returns c = ?
+returns c =
+    let v = c .before in
+    let w = v .before .before .before .before in
+    let l = w .before .before .before .before in
+    let given = start l .pre in
+    needed-summed (l .label-edges .ensures) (given .graph .valid) (start l .args .limit) (given .are) (w .add-weights .ensures) (v .vertex-count .ensures .is)
+    (c .sum-needs .ensures)
 
 pub needed-at-spec : {M : Type 1} → statement M
 needed-at-spec =
