@@ -2,14 +2,13 @@
 -- A class is counted by its label, which is the vertex that has itself for a label.
 -- Assumes nothing.
 use Prim.Native.Nat.{ℕ, _<_}
-use mathlib.Core.Path.{_≡_, refl, sym, ap, _∙_}
-use mathlib.Core.Bool.{Bool, true, false, cond}
+use mathlib.Core.Path.{_≡_, sym, ap, _∙_}
+use mathlib.Core.Bool.{true}
 use mathlib.Core.List.{List}
-use mathlib.Core.Logic.{_⊎_, inl, inr}
+use mathlib.Core.Logic.{inl, inr}
 use native.Mathlib.Omega.{arith}
-use lib.Dec.{eqb}
 use lib.ListN.{length}
-use borrow.Author.Tests.{eqb-true, eqb-false, eq-eqb, ne-eqb}
+use borrow.Author.Tests.{eqb-true, eq-eqb, ne-eqb}
 use Rattle.lists.specs.Count.{count}
 use Rattle.lists.proofs.Fewer.{count-bounded, count-fewer, count-some}
 use Rattle.graph.specs.Graph.{Graph, oneEnd, otherEnd}
@@ -17,51 +16,11 @@ use Rattle.graph.specs.Valid.{Valid}
 use Rattle.graph.proofs.Ranges.{one-end-below, other-end-below}
 use Rattle.rules.specs.Labels.{Labels, apart, merge, mergeEdge}
 use Rattle.rules.specs.Forest.{keep}
+use Rattle.forest_laws.proofs.VertexLabels.{VertexLabels, own, Cases, merge-each, merge-vertices, apart-vertices}
 use Rattle.forest_laws.proofs.Keeping.{Kept, nothing, skipped, taken, kept}
 use Rattle.forest_laws.proofs.Loops.{kept-whole-apart}
 
--- Labels that are vertices: a label is its own label, and the label of a vertex below n is below n.
-record VertexLabels (n : ℕ) (label : Labels) : Type 0 where
-  itself : (x : ℕ) → label (label x) ≡ label x
-  below : (x : ℕ) → x < n → label x < n
-
--- The vertices that are their own label.
-own : Labels → ℕ → Bool
-own label x = eqb (label x) x
-
--- A vertex with b's label takes a's, another keeps its own.
-abbrev Cases : Labels → ℕ → ℕ → ℕ → Type 0
-Cases label a b x = ((label x ≡ label b) × (merge label a b x ≡ label a)) ⊎ ((label x ≡ label b → ⊥) × (merge label a b x ≡ label x))
-
-merge-each : (label : Labels) (a b x : ℕ) → Cases label a b x
-unfolding merge
-merge-each label a b x = go (eqb (label x) (label b)) refl
-  where
-    go : (t : Bool) → eqb (label x) (label b) ≡ t → ((label x ≡ label b) × (cond t (label a) (label x) ≡ label a)) ⊎ ((label x ≡ label b → ⊥) × (cond t (label a) (label x) ≡ label x))
-    go true e = inl (eqb-true _ _ e, refl)
-    go false e = inr (eqb-false _ _ e, refl)
-
 module _ {n : ℕ} {label : Labels} (s : VertexLabels n label) (a b : ℕ) where
-  -- Labels stay vertices.
-  merge-vertices : a < n → VertexLabels n (merge label a b)
-  merge-vertices la = record { itself = λ x. itself x (merge-each label a b x); below = λ x l. below x l (merge-each label a b x) }
-    where
-      taken : Cases label a b (label a) → merge label a b (label a) ≡ label a
-      taken (inl c) = c .1
-      taken (inr c) = c .1 ∙ s .itself a
-
-      kept : (x : ℕ) → (label x ≡ label b → ⊥) → Cases label a b (label x) → merge label a b (label x) ≡ label x
-      kept x other (inl c) = absurd (other (sym (s .itself x) ∙ c .0))
-      kept x other (inr c) = c .1 ∙ s .itself x
-
-      itself : (x : ℕ) → Cases label a b x → merge label a b (merge label a b x) ≡ merge label a b x
-      itself x (inl c) = rw (c .1) (taken (merge-each label a b (label a)))
-      itself x (inr c) = rw (c .1) (kept x (c .0) (merge-each label a b (label x)))
-
-      below : (x : ℕ) → x < n → Cases label a b x → merge label a b x < n
-      below x l (inl c) = omega (arith, c .1, s .below a la)
-      below x l (inr c) = omega (arith, c .1, s .below x l)
-
   -- One label is lost where two classes are joined.
   merge-fewer : b < n → (label a ≡ label b → ⊥) → count n (own (merge label a b)) < count n (own label)
   unfolding own
@@ -92,8 +51,7 @@ module _ {g : Graph} (valid : Valid g) where
 
   -- There are fewer kept edges than vertices, where all vertices are apart at the start,
   pub kept-few : (E : List ℕ) → length (keep g apart E) < g .vertices
-  unfolding apart
-  kept-few E = omega (arith, fewer-than-classes (record { itself = λ x. refl; below = λ x l. l }) (kept g apart E), count-bounded (g .vertices) (own apart))
+  kept-few E = omega (arith, fewer-than-classes (apart-vertices (g .vertices)) (kept g apart E), count-bounded (g .vertices) (own apart))
 
   -- and from any labels.
   pub kept-few-from : (P : Labels) (E : List ℕ) → length (keep g P E) < g .vertices

@@ -17,6 +17,8 @@ pub mod Lightest
 pub mod Replacing
 -- no kept edge lies on a loop
 pub mod Loops
+-- labels are vertices
+pub mod VertexLabels
 -- the kept edges are fewer than the vertices
 pub mod FewEdges
 -- the kept edges are fewer than the starts to which their ends are joined

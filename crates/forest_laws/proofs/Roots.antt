@@ -8,12 +8,12 @@ use mathlib.Core.List.{List, [], _∷_, headD, List·Memᴰ·head, List·Memᴰ�
 use mathlib.Core.Logic.{_⊎_, inl, inr, Equivalence, _↔_}
 use native.Mathlib.Omega.{arith}
 use lib.ListN.{length}
-use Rattle.lists.specs.Lists.{member}
+use Rattle.lists.specs.Lists.{any, member}
 use Rattle.lists.specs.Member.{_∈_}
 use Rattle.lists.proofs.Member.{member-in, in-member}
 use Rattle.graph.specs.Graph.{Graph}
 use Rattle.rules.specs.Walk.{Linked}
-use Rattle.rules.specs.Labels.{together, mergeAll}
+use Rattle.rules.specs.Labels.{apart, together, mergeAll}
 use Rattle.rules.proofs.Linked.{linked-same, linked-back, linked-on, linked-ends}
 use Rattle.forest_laws.proofs.Merging.{merged-coarser, merged-least}
 use Rattle.forest_laws.proofs.Walks.{linked-merged}
@@ -28,6 +28,11 @@ pub some-head : (roots : List ℕ) → 1 ≤ length roots → headD roots 0 ∈ 
 unfolding headD
 some-head [] h = absurd (omega arith)
 some-head (r ∷ roots) h = List·Memᴰ·head refl
+
+-- without roots all vertices are apart
+pub together-none : together [] ≡ apart
+unfolding together apart member any
+together-none = refl
 
 -- the roots are joined
 pub together-joins : (roots : List ℕ) {r s : ℕ} → r ∈ roots → s ∈ roots → together roots r ≡ together roots s

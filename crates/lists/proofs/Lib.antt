@@ -109,3 +109,5 @@ pub mod Inserting
 pub mod FillingBy
 -- a mapped list put element by element
 pub mod PutMapped
+-- an array of zeros
+pub mod Zeros

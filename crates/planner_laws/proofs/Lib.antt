@@ -25,6 +25,8 @@ pub mod RootedSize
 pub mod ComponentEdges
 -- what the components need, from the labels and the forest
 pub mod ComponentNeeds
+-- the same, over the vertices that are their own label
+pub mod OwnLabels
 -- Unrooted, too low:
 -- a cover within the limit has in each component as many trees as it needs
 pub mod ComponentShare
