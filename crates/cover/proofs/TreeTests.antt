@@ -21,7 +21,7 @@ use Rattle.rules.specs.CoverBytes.{treesIn, startIn, entryEdge, treeIn, decode}
 use Rattle.rules.specs.Labels.{Labels, joined, apart, together, mergeAll}
 use Rattle.rules.specs.CheckCover.{allJoined, treeRight, treesRight}
 use Rattle.forest.specs.Arrays.{Agrees}
-use Rattle.forest.proofs.Looking.{joined-yes, joined-no}
+use Rattle.forest.proofs.Labelling.{joined-yes, joined-no}
 use Rattle.cover.specs.Runs.{runEdges}
 use Rattle.cover.specs.Trees.{RunTaken, RunJoined}
 

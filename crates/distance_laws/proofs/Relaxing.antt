@@ -51,7 +51,17 @@ module _ (g : Graph) (known : List Distance) (v : ℕ) where
 
       later : Out es → Out (e ∷ es)
       later (inl r) = inl r
-      later (inr o) = inr (record { edge = o .edge; listed = List·Memᴰ·tail (o .listed); neighbour = o .neighbour; joined = o .joined; before = o .before; known-there = o .known-there; added = o .added })
+      later (inr o) =
+          inr
+          (record {
+            edge = o .edge;
+            listed = List·Memᴰ·tail (o .listed);
+            neighbour = o .neighbour;
+            joined = o .joined;
+            before = o .before;
+            known-there = o .known-there;
+            added = o .added;
+          })
 
       second : (over e (otherEnd g e) (oneEnd g e) ≡ some d) ⊎ (relaxed g known v es ≡ some d) → (relaxed g known v es ≡ some d → Out es) → Out (e ∷ es)
       second (inl r) ih = inr (over-some (λ p. onward refl (sym p)) r)

@@ -44,7 +44,9 @@ module _ {g : Graph} (valid : Valid g) {r : ℕ} (start : r < g .vertices) (part
   not-near limit t v other m walk = go (either (leb (totalWeight g other) limit))
     where
       go : (leb (totalWeight g other) limit ≡ true) ⊎ (leb (totalWeight g other) limit ≡ false) → suc limit ≤ totalWeight g other
-      go (inl p) = absurd (true≢false (sym (reaches-near valid start limit part .1 (record { end = v; in-part = m; path = other; leads = walk; light = leb-true (totalWeight g other) limit p })) ∙ t))
+      go (inl p) =
+          let light = leb-true (totalWeight g other) limit p in
+          absurd (true≢false (sym (reaches-near valid start limit part .1 (record { end = v; in-part = m; path = other; leads = walk; light = light })) ∙ t))
       go (inr p) = leb-false (totalWeight g other) limit p
 
   -- Where the part is near, a shortest path to it exists, within the limit.

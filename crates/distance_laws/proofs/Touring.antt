@@ -5,9 +5,9 @@ use mathlib.Core.Path.{_≡_, sym, _∙_}
 use mathlib.Core.Bool.{Bool, true}
 use mathlib.Core.List.{List, [], _∷_}
 use mathlib.Core.Logic.{_⊎_, inl, inr}
+use native.Mathlib.Decide.{ℕ-discrete}
 use native.Mathlib.Omega.{arith}
 use Rattle.lists.specs.Lists.{sumOf}
-use Rattle.lists.proofs.Below.{equal-or-not}
 use Rattle.lists.proofs.Pigeonhole.{but, but-other}
 use Rattle.graph.specs.Graph.{Graph, edgeCount, weightOf}
 use Rattle.rules.specs.Walk.{Joins, onward, back, totalWeight}
@@ -35,18 +35,19 @@ module _ {g : Graph} where
   -- A tour never visits x, or it leaves x for the last time.
   pub last-visit : {f : ℕ → Bool} {path : List ℕ} {u v : ℕ} (x : ℕ) → Tour g f path u v → Tour g (but x f) path u v ⊎ Left g f x v (totalWeight g path)
   unfolding totalWeight sumOf
-  last-visit {f} {u = u} {v = v} x (here h t q) = go (equal-or-not u x)
+  last-visit {f} {u = u} {v = v} x (here h t q) = go (ℕ-discrete u x)
     where
-      go : (u ≡ x) ⊎ (u ≡ x → ⊥) → Tour g (but x f) [] u v ⊎ Left g f x v 0
-      go (inl p) = inr (at-end (sym p ∙ q))
-      go (inr d) = inl (here h (but-other f x u d ∙ t) q)
-  last-visit {f} {u = u} {v = v} x (on {e = e} {path = path} {w = w} h t l j rest) = go (equal-or-not u x) (last-visit x rest)
+      go : Dec (u ≡ x) → Tour g (but x f) [] u v ⊎ Left g f x v 0
+      go (yes p) = inr (at-end (sym p ∙ q))
+      go (no d) = inl (here h (but-other f x u d ∙ t) q)
+  last-visit {f} {u = u} {v = v} x (on {e = e} {path = path} {w = w} h t l j rest) = go (ℕ-discrete u x) (last-visit x rest)
     where
       from-x : {y : ℕ} → u ≡ y → Joins g e u w → Joins g e y w
       from-x p (onward a b) = onward (sym p ∙ a) b
       from-x p (back a b) = back (sym p ∙ a) b
 
-      go : (u ≡ x) ⊎ (u ≡ x → ⊥) → Tour g (but x f) path w v ⊎ Left g f x v (totalWeight g path) → Tour g (but x f) (e ∷ path) u v ⊎ Left g f x v (weightOf g e + totalWeight g path)
+      go : Dec (u ≡ x) → Tour g (but x f) path w v ⊎ Left g f x v (totalWeight g path)
+          → Tour g (but x f) (e ∷ path) u v ⊎ Left g f x v (weightOf g e + totalWeight g path)
       go p (inr later) = inr (left-more later (omega arith))
-      go (inl p) (inl avoids) = inr (leaves l (from-x p j) avoids (omega arith))
-      go (inr d) (inl avoids) = inl (on h (but-other f x u d ∙ t) l j avoids)
+      go (yes p) (inl avoids) = inr (leaves l (from-x p j) avoids (omega arith))
+      go (no d) (inl avoids) = inl (on h (but-other f x u d ∙ t) l j avoids)

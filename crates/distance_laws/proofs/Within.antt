@@ -5,11 +5,11 @@ use Prim.Native.Nat.{ℕ, zero, suc, _≤_, _<_}
 use mathlib.Core.Path.{_≡_, refl, sym, _∙_}
 use mathlib.Core.List.{List, [], _∷_, List·Memᴰ·head, List·Memᴰ·tail, List·Memᴰ·not-nil, Memᴰ·cast}
 use mathlib.Core.Logic.{_⊎_, inl, inr}
+use native.Mathlib.Decide.{ℕ-discrete}
 use native.Mathlib.Omega.{arith}
 use Rattle.lists.specs.Lists.{sumOf, without}
 use Rattle.lists.specs.Member.{_∈_}
 use Rattle.lists.proofs.Member.{of-without, in-without}
-use Rattle.lists.proofs.Below.{equal-or-not}
 use Rattle.lists.proofs.SumWithout.{sum-without}
 use Rattle.graph.specs.Graph.{Graph, oneEnd, otherEnd, weightOf}
 use Rattle.rules.specs.Walk.{Joins, onward, back, Walk, stay, step, totalWeight, Linked}
@@ -44,12 +44,12 @@ module _ {g : Graph} where
   -- A walk never uses an edge, or it uses it for the last time.
   last-use : {edges path : List ℕ} {u v : ℕ} (e : ℕ) → Walk g path u v → ((d : ℕ) → d ∈ path → d ∈ edges) → Linked g (without e edges) u v ⊎ AfterUse g edges e v
   last-use e (stay q) sub = inl (linked-same q)
-  last-use {edges} {u = u} {v = v} e (step {e = d} {w = w} j walk) sub = go (equal-or-not e d) (last-use e walk (λ f m. sub f (List·Memᴰ·tail m)))
+  last-use {edges} {u = u} {v = v} e (step {e = d} {w = w} j walk) sub = go (ℕ-discrete e d) (last-use e walk (λ f m. sub f (List·Memᴰ·tail m)))
     where
-      go : (e ≡ d) ⊎ (e ≡ d → ⊥) → Linked g (without e edges) w v ⊎ AfterUse g edges e v → Linked g (without e edges) u v ⊎ AfterUse g edges e v
+      go : Dec (e ≡ d) → Linked g (without e edges) w v ⊎ AfterUse g edges e v → Linked g (without e edges) u v ⊎ AfterUse g edges e v
       go p (inr a) = inr a
-      go (inl p) (inl l) = inr (record { end = w; is-end = to-end p j; rest = l })
-      go (inr n) (inl l) = inl (linked-on (linked-edge (in-without e (sub d (List·Memᴰ·head refl)) n) j) l)
+      go (yes p) (inl l) = inr (record { end = w; is-end = to-end p j; rest = l })
+      go (no n) (inl l) = inl (linked-on (linked-edge (in-without e (sub d (List·Memᴰ·head refl)) n) j) l)
 
   -- A light walk along the edges but e is one along the edges, with e in front or without it.
   light-same : {edges : List ℕ} {e u x v : ℕ} → e ∈ edges → u ≡ x → LightLink g (without e edges) x v → LightLink g edges u v

@@ -1,4 +1,4 @@
--- Labels in an array: the roots' at the start, and those after two vertices are joined.
+-- Labels in an array: equal elements are equal labels; the roots' labels at the start, and the labels after two vertices are joined.
 -- Assumes nothing.
 use Prim.Native.Nat.{ℕ, _+_, _≤_, _<_}
 use mathlib.Core.Path.{_≡_, refl, sym, _∙_}
@@ -6,15 +6,17 @@ use mathlib.Core.Bool.{true, false, cond, false≢true}
 use mathlib.Core.List.{List, [], _∷_, headD}
 use native.Mathlib.Omega.{arith}
 use lib.ListN.{length, getD, drop, set, length-set}
-use lib.Seq.{getD-set-same, getD-set-other, drop-set-lt}
+use lib.Seq.{getD-set-same, getD-set-other}
 use lib.Dec.{eqb}
 use borrow.Author.Count.{below-none, below-more}
 use borrow.Author.Tests.{eq-eqb, ne-eqb}
 use Rattle.lists.specs.Lists.{any, member}
-use Rattle.rules.specs.Labels.{Labels, merge, together}
+use Rattle.lists.specs.Put.{OnlyFirst}
+use Rattle.lists.proofs.OnlyFirst.{only-first-none, only-first-store}
+use Rattle.lists.proofs.NextPlace.{rest-next, rest-none}
+use Rattle.rules.specs.Labels.{Labels, joined, merge, together}
 use Rattle.forest.specs.Arrays.{Agrees}
 use Rattle.forest.specs.Labelled.{Started, Merged}
-use Rattle.forest.proofs.Rest.{rest-next, rest-none}
 
 -- Whether v stands in a list, from a place on.
 module _ (v : ℕ) (list : List ℕ) (i : ℕ) where
@@ -45,6 +47,16 @@ pub own-label : (v : ℕ) (roots : List ℕ) → member v roots ≡ false → v 
 unfolding together
 own-label v roots t = rw t
 
+-- Where an array agrees with labels, equal elements are equal labels.
+module _ {n : ℕ} (array : List ℕ) (label : Labels) (agrees : Agrees n array label) (u v : ℕ) (hu : u < n) (hv : v < n) where
+  pub joined-yes : getD array u 0 ≡ getD array v 0 → joined label u v ≡ true
+  unfolding joined
+  joined-yes q = eq-eqb (label u) (label v) (sym (agrees u hu) ∙ q ∙ agrees v hv)
+
+  pub joined-no : (getD array u 0 ≡ getD array v 0 → ⊥) → joined label u v ≡ false
+  unfolding joined
+  joined-no d = ne-eqb (label u) (label v) (λ q. d (agrees u hu ∙ q ∙ sym (agrees v hv)))
+
 -- One label more: the array agrees below x, and x's label is stored.
 pub agrees-more : (label : Labels) (array : List ℕ) (x y : ℕ) → x < length array → Agrees x array label → y ≡ label x
     → Agrees (x + 1) (set array x y) label
@@ -53,38 +65,38 @@ agrees-more label array x y h agrees q =
     (λ k l. getD-set-other array x k y 0 (omega arith) ∙ agrees k l)
     (getD-set-same array x y 0 h ∙ q)
 
--- Below x the labels of the start are stored, and nothing past the n vertices changed.
+-- Below x the labels of the start are stored, and only labels of the n vertices changed.
 pub record Starting (roots : List ℕ) (n x : ℕ) (before after : List ℕ) : Type 0 where
   pub labels : Agrees x after (together roots)
-  pub rest : drop n after ≡ drop n before
+  pub others : OnlyFirst n before after
   pub same : length after ≡ length before
 
 module _ {roots : List ℕ} {n : ℕ} where
   pub starting-none : (before : List ℕ) → Starting roots n 0 before before
-  starting-none before = record { labels = below-none _; rest = refl; same = refl }
+  starting-none before = record { labels = below-none _; others = only-first-none n before; same = refl }
 
   module _ {x : ℕ} {before after : List ℕ} (s : Starting roots n x before after) where
     pub starting-more : {y : ℕ} → x < n → n ≤ length before → y ≡ together roots x → Starting roots n (x + 1) before (set after x y)
     starting-more {y} h room q =
         record {
           labels = agrees-more (together roots) after x y (omega arith) (s .labels) q;
-          rest = drop-set-lt n after x y h ∙ s .rest;
+          others = only-first-store (s .others) x y h;
           same = length-set after x y ∙ s .same;
         }
 
     pub starting-all : n ≤ x → Started roots n before after
-    starting-all h = record { labels = λ v l. s .labels v (omega arith); rest = s .rest }
+    starting-all h = record { labels = λ v l. s .labels v (omega arith); others = s .others }
 
 -- Below x the labels are merged, and from x on they are as they were.
 pub record Merging (n u v x : ℕ) (before after : List ℕ) : Type 0 where
   pub labels : (label : Labels) → Agrees n before label → Agrees x after (merge label u v)
   pub ahead : (k : ℕ) → x ≤ k → getD after k 0 ≡ getD before k 0
-  pub rest : drop n after ≡ drop n before
+  pub others : OnlyFirst n before after
   pub same : length after ≡ length before
 
 module _ {n u v : ℕ} where
   pub merging-none : (before : List ℕ) → Merging n u v 0 before before
-  merging-none before = record { labels = λ label a. below-none _; ahead = λ k l. refl; rest = refl; same = refl }
+  merging-none before = record { labels = λ label a. below-none _; ahead = λ k l. refl; others = only-first-none n before; same = refl }
 
   module _ {x : ℕ} {before after : List ℕ} (m : Merging n u v x before after) where
     merged-label : (label : Labels) → u < n → v < n → x < n → Agrees n before label
@@ -97,11 +109,14 @@ module _ {n u v : ℕ} where
         → Merging n u v (x + 1) before (set after x y)
     merging-more {y} hu hv room hx q =
         record {
-          labels = λ label a. agrees-more (merge label u v) after x y (omega arith) (m .labels label a) (q ∙ merged-label label hu hv hx a);
+          labels =
+              λ label a.
+              agrees-more (merge label u v) after x y (omega arith) (m .labels label a)
+              (q ∙ merged-label label hu hv hx a);
           ahead = λ k l. getD-set-other after x k y 0 (omega arith) ∙ m .ahead k (omega arith);
-          rest = drop-set-lt n after x y hx ∙ m .rest;
+          others = only-first-store (m .others) x y hx;
           same = length-set after x y ∙ m .same;
         }
 
     pub merging-all : n ≤ x → Merged n u v before after
-    merging-all h = record { labels = λ label a k l. m .labels label a k (omega arith); rest = m .rest }
+    merging-all h = record { labels = λ label a k l. m .labels label a k (omega arith); others = m .others }

@@ -1,16 +1,16 @@
 -- Laws that belong to no one function, in reading order.
+-- labels in an array
+pub mod Labelling
+-- edges taken one by one, and kept where their ends are apart
+pub mod KeptOneByOne
+-- the lowest vertices, as loops over the vertices find them
+pub mod LowestVertices
+-- the edges within a limit
+pub mod WithinLimit
 -- what is left of a list from a place on
 pub mod Rest
 -- a list written to the front of an array, element by element
 pub mod Writing
--- labels in an array
-pub mod Labelling
--- edges kept one after the other
-pub mod Taking
--- the lowest vertices, vertex by vertex
-pub mod Looking
--- the edges within a limit, edge by edge
-pub mod Sifting
 -- which of two edges comes first
 pub mod Comparing
 -- a sorted list is its sorted halves merged

@@ -1,63 +1,16 @@
--- What is left from a place on: of a list, of the numbers below a bound, and of those that pass a test.
+-- Laws of lists under the names that the proofs of the order cite.
 -- Assumes nothing.
-use Prim.Native.Nat.{ℕ, zero, suc, _+_, _-_, _≤_, _<_}
-use mathlib.Core.Path.{_≡_, refl, ap}
-use mathlib.Core.Bool.{Bool, true, false, _||_}
-use mathlib.Core.List.{List, [], _∷_}
-use native.Mathlib.Nat.{sub-zero}
-use native.Mathlib.Numerals.{add-one}
-use native.Mathlib.Omega.{arith}
-use lib.ListN.{length, getD, drop, drop-of-length-le}
-use lib.Seq.{drop-cons}
-use Rattle.lists.specs.Count.{anyBelow, from, below}
-use Rattle.lists.specs.Lists.{filter}
+use Prim.Native.Nat.{ℕ}
+use mathlib.Core.Path.{_≡_}
+use mathlib.Core.List.{List}
+use lib.ListN.{length}
+use Rattle.lists.specs.Count.{below}
+use Rattle.lists.proofs.NextPlace.{belowFrom}
+use Rattle.lists.proofs.Runs.{length-below}
+pub use Rattle.lists.proofs.NextPlace.{rest-next, rest-none, numbers-all, numbers-next, numbers-none}
 
-module _ (list : List ℕ) (i : ℕ) where
-  -- of a list: the element at the place, and what is left from the next place on
-  pub rest-next : i < length list → drop i list ≡ getD list i 0 ∷ drop (i + 1) list
-  rest-next h = rw (add-one, drop-cons list i 0)
-
-  pub rest-none : length list ≤ i → drop i list ≡ []
-  rest-none h = drop-of-length-le list h
-
--- of the numbers below n: those from v on
 abbrev pub numbersFrom : ℕ → ℕ → List ℕ
-numbersFrom n v = from v (n - v)
+numbersFrom = belowFrom
 
-length-from : (a n : ℕ) → length (from a n) ≡ n
-unfolding from
-length-from a zero = refl
-length-from a (suc n) = ap suc (length-from (suc a) n)
-
-module _ (n : ℕ) where
-  pub length-numbers : length (below n) ≡ n
-  unfolding below
-  length-numbers = length-from 0 n
-
-  pub numbers-all : below n ≡ numbersFrom n 0
-  unfolding below
-  numbers-all = rw sub-zero
-
-  pub numbers-next : (v : ℕ) → v < n → numbersFrom n v ≡ v ∷ numbersFrom n (v + 1)
-  unfolding from
-  numbers-next v h = let one-more : n - v ≡ suc (n - suc v) = omega arith in rw (add-one, one-more)
-
-  pub numbers-none : (v : ℕ) → n ≤ v → numbersFrom n v ≡ []
-  unfolding from
-  numbers-none v h = let none-left : n - v ≡ 0 = omega arith in rw none-left
-
--- of those that pass a test
-module _ (f : ℕ → Bool) {x : ℕ} {rest other : List ℕ} (q : rest ≡ x ∷ other) where
-  pub filter-taken : f x ≡ true → filter f rest ≡ x ∷ filter f other
-  unfolding filter
-  filter-taken t = rw (q, t)
-
-  pub filter-passed : f x ≡ false → filter f rest ≡ filter f other
-  unfolding filter
-  filter-passed t = rw (q, t)
-
--- the tests of the numbers below u, one by one from the last
-pub any-below-next : (f : ℕ → Bool) (u : ℕ) → 0 < u → anyBelow u f ≡ (f (u - 1) || anyBelow (u - 1) f)
-unfolding anyBelow
-any-below-next f zero h = absurd (omega arith)
-any-below-next f (suc u) h = let back : suc u - 1 ≡ u = omega arith in rw back
+pub length-numbers : (n : ℕ) → length (below n) ≡ n
+length-numbers = length-below

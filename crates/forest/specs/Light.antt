@@ -6,8 +6,8 @@ use mathlib.Core.List.{List}
 use lib.ListN.{length, take}
 use lib.Dec.{leb}
 use Rattle.lists.specs.Lists.{filter}
+use Rattle.lists.specs.Put.{PutTo}
 use Rattle.graph.specs.Graph.{Graph, weightOf}
-use Rattle.forest.specs.Arrays.{Wrote}
 
 -- The edges of weight at most the limit, in their order.
 abbrev pub lightOf : Graph → ℕ → List ℕ → List ℕ
@@ -21,4 +21,4 @@ pub record LightFront (g : Graph) (limit : ℕ) (edges : List ℕ) (r : ℕ) : T
 -- They were written, r of them.
 pub record LightWritten (g : Graph) (limit : ℕ) (edges before after : List ℕ) (r : ℕ) : Type 0 where
   pub few : r ≤ length edges
-  pub edges-are : Wrote (lightOf g limit edges) before after r
+  pub edges-are : PutTo 0 (lightOf g limit edges) before after r

@@ -6,10 +6,11 @@ use mathlib.Core.Bool.{Bool}
 use mathlib.Core.List.{List, headD}
 use mathlib.Core.Option.{Option, some, none}
 use Rattle.lists.specs.Count.{anyBelow}
+use Rattle.lists.specs.Put.{PutTo}
 use Rattle.graph.specs.Graph.{Graph}
 use Rattle.rules.specs.Labels.{Labels, joined}
 use Rattle.rules.specs.Forest.{unjoined, lowest}
-use Rattle.forest.specs.Arrays.{Agrees, Wrote}
+use Rattle.forest.specs.Arrays.{Agrees}
 use Rattle.forest.specs.declared.lowest.Found.{Found}
 use Rattle.forest.specs.declared.lowest.Found.the-variants.{At, Nothing}
 
@@ -26,7 +27,7 @@ pub record Unjoined (array : List ℕ) (n root : ℕ) (r : Found) : Type 0 where
 -- The lowest vertex of each component was written, rising, in every graph of n vertices. There are at most n components.
 pub record Components (array : List ℕ) (n : ℕ) (before after : List ℕ) (r : ℕ) : Type 0 where
   pub few : r ≤ n
-  pub are : (g : Graph) (label : Labels) → g .vertices ≡ n → Agrees n array label → Wrote (lowest g label) before after r
+  pub are : (g : Graph) (label : Labels) → g .vertices ≡ n → Agrees n array label → PutTo 0 (lowest g label) before after r
 
 -- v is joined to a lower vertex, exactly where r says so.
 pub record JoinedBelow (array : List ℕ) (v : ℕ) (r : Bool) : Type 0 where

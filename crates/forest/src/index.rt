@@ -4,14 +4,14 @@ ghost use Rattle.graph.specs.Graph.{weightOf};
 ghost use Rattle.graph.specs.Bytes.{graphOf, Reads};
 
 // An element as an index.
-pub(crate) fn wide(x: u16) -> usize
+pub fn wide(x: u16) -> usize
     ensures { λ r. ⌜ Reads x (2 ^ 16) r ⌝ }
 {
     x as usize
 }
 
 // The weight of an edge; 0 past the last edge.
-pub(crate) fn weight_of(b: &[u8], e: u16) -> u64
+pub fn weight_of(b: &[u8], e: u16) -> u64
     ensures { λ r. ⌜ Reads (weightOf (graphOf (now (b .entry))) e) (2 ^ 32) r ⌝ }
 {
     graph::weight(b, wide(e))

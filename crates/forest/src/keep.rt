@@ -3,7 +3,7 @@ use crate::index::wide;
 use crate::labels::merge_labels;
 ghost use Rattle.graph.specs.Bytes.{graphOf};
 ghost use Rattle.forest.specs.Labelled.{Joined};
-ghost use Rattle.forest.specs.Keeping.{Labelable, Keepable, Kept};
+ghost use Rattle.forest.specs.Keeping.{Labelable, Keepable, KeptWritten};
 
 // Joins the ends of edge e, and says whether they were not yet joined. Where they were, no label changes.
 pub fn join_ends(b: &[u8], e: usize, label: &mut [u16]) -> bool
@@ -22,8 +22,8 @@ pub fn join_ends(b: &[u8], e: usize, label: &mut [u16]) -> bool
 
 // "Take lines .. and keep each whose ends are not yet joined": the edges in the order given, from the labels given. Says how many are kept.
 pub fn keep_edges(b: &[u8], edges: &[u16], label: &mut [u16], kept: &mut [u16]) -> usize
-    requires { ⌜ Keepable (now b) (now edges) (now label) (now kept) ⌝ }
-    ensures { λ r. ⌜ Kept (graphOf (now (b .entry))) (now (edges .entry)) (now (label .entry)) (now (label .exit)) (now (kept .entry)) (now (kept .exit)) r ⌝ }
+    requires { ⌜ Keepable (now b) (now label) (now kept) ⌝ }
+    ensures { λ r. ⌜ KeptWritten (graphOf (now (b .entry))) (now (edges .entry)) (now (label .entry)) (now (label .exit)) (now (kept .entry)) (now (kept .exit)) r ⌝ }
 {
     let mut r = 0;
     let mut i = 0;

@@ -3,7 +3,7 @@ use crate::index::weight_of;
 ghost use Prim.Native.Nat.{_≤_};
 ghost use lib.ListN.{length};
 ghost use Rattle.graph.specs.Bytes.{graphOf};
-ghost use Rattle.forest_laws.proofs.Lightest.{ByWeight};
+ghost use Rattle.rules.specs.Order.{ByWeight};
 ghost use Rattle.forest.specs.Light.{LightFront, LightWritten};
 
 // How many edges at the front are within the limit, of edges that stand by weight: these are all that are.

@@ -4,8 +4,8 @@
 use Prim.Native.Nat.{ℕ}
 use mathlib.Core.Path.{_≡_, refl, sym, ap, _∙_}
 use mathlib.Core.List.{List, [], _∷_, _++_}
-use mathlib.Core.Logic.{_⊎_, inl, inr}
-use Rattle.lists.proofs.Below.{equal-or-not}
+use mathlib.Core.Logic.{_⊎_, inl, inr, dite}
+use native.Mathlib.Decide.{ℕ-discrete}
 use Rattle.graph.specs.Graph.{Graph, oneEnd, otherEnd}
 use Rattle.rules.specs.Labels.{Labels, merge, mergeEdge, mergeAll}
 use Rattle.forest_laws.proofs.Merging.{JoinsEnds, _⊑_, ⊑-trans, merge-coarser, merge-joins, merge-cases, merge-finest, edge-coarser, edge-joins, edge-joined, merged-monotone}
@@ -50,7 +50,7 @@ pub first-joining : (g : Graph) (P : Labels) (F : List ℕ) (a b : ℕ) → (P a
 unfolding mergeAll mergeEdge
 first-joining g P [] a b apart tied = absurd (apart tied)
 first-joining g P (f ∷ F) a b apart tied =
-    go (equal-or-not (mergeEdge g P f a) (mergeEdge g P f b)) (λ d. first-joining g (mergeEdge g P f) F a b d tied)
+    dite (ℕ-discrete (mergeEdge g P f a) (mergeEdge g P f b)) now (λ d. later (first-joining g (mergeEdge g P f) F a b d tied))
   where
     now : mergeEdge g P f a ≡ mergeEdge g P f b → FirstJoining g P (f ∷ F) a b
     now p = record {
@@ -72,8 +72,3 @@ first-joining g P (f ∷ F) a b apart tied =
       exchanged = merged-monotone g (merge (mergeEdge g P f) a b) (mergeEdge g (merge P a b) f) (r .before) (r .before) (join-earlier g P f a b) (λ e m. m)
           (oneEnd g (r .edge)) (otherEnd g (r .edge)) (r .exchanged);
     }
-
-    go : (mergeEdge g P f a ≡ mergeEdge g P f b) ⊎ (mergeEdge g P f a ≡ mergeEdge g P f b → ⊥)
-        → ((mergeEdge g P f a ≡ mergeEdge g P f b → ⊥) → FirstJoining g (mergeEdge g P f) F a b) → FirstJoining g P (f ∷ F) a b
-    go (inl p) ih = now p
-    go (inr d) ih = later (ih d)

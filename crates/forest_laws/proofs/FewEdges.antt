@@ -18,9 +18,10 @@ use Rattle.graph.proofs.Ranges.{one-end-below, other-end-below}
 use Rattle.rules.specs.Labels.{Labels, apart, merge, mergeEdge}
 use Rattle.rules.specs.Forest.{keep}
 use Rattle.forest_laws.proofs.Keeping.{Kept, nothing, skipped, taken, kept}
+use Rattle.forest_laws.proofs.Loops.{kept-whole-apart}
 
--- A label is its own label, and the label of a vertex below n is below n.
-record Settled (n : ℕ) (label : Labels) : Type 0 where
+-- Labels that are vertices: a label is its own label, and the label of a vertex below n is below n.
+record VertexLabels (n : ℕ) (label : Labels) : Type 0 where
   itself : (x : ℕ) → label (label x) ≡ label x
   below : (x : ℕ) → x < n → label x < n
 
@@ -40,10 +41,10 @@ merge-each label a b x = go (eqb (label x) (label b)) refl
     go true e = inl (eqb-true _ _ e, refl)
     go false e = inr (eqb-false _ _ e, refl)
 
-module _ {n : ℕ} {label : Labels} (s : Settled n label) (a b : ℕ) where
-  -- Labels stay settled.
-  merge-settled : a < n → Settled n (merge label a b)
-  merge-settled la = record { itself = λ x. itself x (merge-each label a b x); below = λ x l. below x l (merge-each label a b x) }
+module _ {n : ℕ} {label : Labels} (s : VertexLabels n label) (a b : ℕ) where
+  -- Labels stay vertices.
+  merge-vertices : a < n → VertexLabels n (merge label a b)
+  merge-vertices la = record { itself = λ x. itself x (merge-each label a b x); below = λ x l. below x l (merge-each label a b x) }
     where
       taken : Cases label a b (label a) → merge label a b (label a) ≡ label a
       taken (inl c) = c .1
@@ -78,18 +79,22 @@ module _ {n : ℕ} {label : Labels} (s : Settled n label) (a b : ℕ) where
 
 module _ {g : Graph} (valid : Valid g) where
   -- There are fewer kept edges than classes.
-  fewer-than-classes : {P : Labels} {E K : List ℕ} → Settled (g .vertices) P → Kept g P E K → length K < count (g .vertices) (own P)
+  fewer-than-classes : {P : Labels} {E K : List ℕ} → VertexLabels (g .vertices) P → Kept g P E K → length K < count (g .vertices) (own P)
   unfolding mergeEdge own
   fewer-than-classes {P = P} s nothing = count-some (g .vertices) (own P) (P 0) (s .below 0 (valid .vertices-some)) (eq-eqb _ _ (s .itself 0))
   fewer-than-classes s (skipped p k) = fewer-than-classes s k
   fewer-than-classes s (taken {e = e} apart k) =
       omega (
         arith,
-        fewer-than-classes (merge-settled s (oneEnd g e) (otherEnd g e) (one-end-below valid e)) k,
+        fewer-than-classes (merge-vertices s (oneEnd g e) (otherEnd g e) (one-end-below valid e)) k,
         merge-fewer s (oneEnd g e) (otherEnd g e) (other-end-below valid e) apart,
       )
 
-  -- There are fewer kept edges than vertices.
+  -- There are fewer kept edges than vertices, where all vertices are apart at the start,
   pub kept-few : (E : List ℕ) → length (keep g apart E) < g .vertices
   unfolding apart
   kept-few E = omega (arith, fewer-than-classes (record { itself = λ x. refl; below = λ x l. l }) (kept g apart E), count-bounded (g .vertices) (own apart))
+
+  -- and from any labels.
+  pub kept-few-from : (P : Labels) (E : List ℕ) → length (keep g P E) < g .vertices
+  kept-few-from P E = rw (kept-whole-apart g P E) at (kept-few (keep g P E))

@@ -4,11 +4,10 @@
 use Prim.Native.Nat.{ℕ}
 use mathlib.Core.Path.{_≡_, refl, sym, ap, _∙_}
 use mathlib.Core.List.{List, [], _∷_, List·Memᴰ·head, List·Memᴰ·tail, List·Memᴰ·not-nil}
-use mathlib.Core.Logic.{_⊎_, inl, inr}
+use native.Mathlib.Decide.{ℕ-discrete}
 use borrow.Author.Tests.{eq-eqb, ne-eqb}
 use Rattle.lists.specs.Member.{_∈_}
 use Rattle.lists.proofs.InOrder.{InOrder, none, next, Once, first-before, rest-in-order}
-use Rattle.lists.proofs.Below.{equal-or-not}
 use Rattle.graph.specs.Graph.{Graph, oneEnd, otherEnd}
 use Rattle.rules.specs.Labels.{Labels, joined, endsJoined, mergeEdge, mergeAll}
 use Rattle.rules.specs.Forest.{keep}
@@ -35,12 +34,12 @@ pub data Kept (g : Graph) : Labels → List ℕ → List ℕ → Type 0 where
 pub kept : (g : Graph) (P : Labels) (E : List ℕ) → Kept g P E (keep g P E)
 unfolding keep
 kept g P [] = nothing
-kept g P (e ∷ E) = go (equal-or-not (P (oneEnd g e)) (P (otherEnd g e))) (kept g P E) (kept g (mergeEdge g P e) E)
+kept g P (e ∷ E) = go (ℕ-discrete (P (oneEnd g e)) (P (otherEnd g e))) (kept g P E) (kept g (mergeEdge g P e) E)
   where
-    go : JoinsEnds g P e ⊎ (JoinsEnds g P e → ⊥) → Kept g P E (keep g P E) → Kept g (mergeEdge g P e) E (keep g (mergeEdge g P e) E)
+    go : Dec (JoinsEnds g P e) → Kept g P E (keep g P E) → Kept g (mergeEdge g P e) E (keep g (mergeEdge g P e) E)
         → Kept g P (e ∷ E) (keep g P (e ∷ E))
-    go (inl p) skip take = rw (keep-joined g P e E p) (skipped p skip)
-    go (inr p) skip take = rw (keep-apart g P e E p) (taken p take)
+    go (yes p) skip take = rw (keep-joined g P e E p) (skipped p skip)
+    go (no p) skip take = rw (keep-apart g P e E p) (taken p take)
 
 module _ {g : Graph} where
   -- and nothing else does

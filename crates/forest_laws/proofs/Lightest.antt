@@ -8,19 +8,16 @@ use mathlib.Core.Logic.{_⊎_, inl, inr}
 use native.Mathlib.Omega.{arith}
 use Rattle.lists.specs.Lists.{sumOf}
 use Rattle.lists.specs.Member.{_∈_}
-use Rattle.lists.proofs.InOrder.{InOrder, first-before, rest-in-order}
+use Rattle.lists.proofs.InOrder.{first-before, rest-in-order}
 use Rattle.lists.proofs.Middle.{middle-in, around-in, middle-cases, sum-middle}
 use Rattle.graph.specs.Graph.{Graph, oneEnd, otherEnd, weightOf}
 use Rattle.rules.specs.Walk.{totalWeight}
+use Rattle.rules.specs.Order.{ByWeight}
 use Rattle.rules.specs.Labels.{Labels, mergeEdge, mergeAll}
 use Rattle.rules.specs.Forest.{keep}
 use Rattle.forest_laws.proofs.Merging.{JoinsEnds, _⊑_, ⊑-trans, edge-coarser, edge-joins, edge-joined, merged-coarser, merged-joins, merged-finest, merged-monotone}
 use Rattle.forest_laws.proofs.Keeping.{Kept, nothing, skipped, taken, kept}
 use Rattle.forest_laws.proofs.Exchange.{FirstJoining, first-joining}
-
--- each edge of the list weighs no more than those that follow it
-abbrev pub ByWeight : Graph → List ℕ → Type 0
-ByWeight g L = InOrder (λ (e f : ℕ). weightOf g e ≤ weightOf g f) L
 
 -- each edge of F stands in L, or its ends are joined from the start
 abbrev pub Among : Graph → Labels → List ℕ → List ℕ → Type 0

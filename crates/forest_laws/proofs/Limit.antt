@@ -16,10 +16,9 @@ use Rattle.lists.proofs.InOrder.{InOrder, Once, first-before, rest-in-order, fi
 use Rattle.lists.proofs.Filters.{filter-none}
 use Rattle.graph.specs.Graph.{Graph, edgeCount, weightOf}
 use Rattle.rules.specs.Labels.{Labels, mergeEdge}
-use Rattle.rules.specs.Order.{ordered, light}
+use Rattle.rules.specs.Order.{ordered, ByWeight, light}
 use Rattle.rules.specs.Forest.{keep, forest}
 use Rattle.forest_laws.proofs.Keeping.{Kept, nothing, skipped, taken, kept, is-kept, kept-in}
-use Rattle.forest_laws.proofs.Lightest.{ByWeight}
 use Rattle.forest_laws.proofs.Ordering.{Precedes, in-ordered, of-ordered, ordered-once, ordered-in-order, ordered-by-weight}
 
 module _ (g : Graph) (limit : ℕ) where

@@ -3,19 +3,19 @@
 -- list does not depend on the order, and says just that no edge's ends are linked by the others.
 -- Assumes nothing.
 use Prim.Native.Nat.{ℕ}
-use mathlib.Core.Path.{_≡_, refl, sym}
+use mathlib.Core.Path.{_≡_, refl, sym, ap}
 use mathlib.Core.List.{List, [], _∷_, _++_, List·Memᴰ·head, List·Memᴰ·tail, List·Memᴰ·not-nil}
-use mathlib.Core.Logic.{_⊎_, inl, inr, _↔_}
+use mathlib.Core.Logic.{_↔_}
+use native.Mathlib.Decide.{ℕ-discrete}
 use Rattle.lists.specs.Lists.{without}
 use Rattle.lists.specs.Member.{_∈_}
 use Rattle.lists.proofs.Without.{without-other, without-first, without-within}
 use Rattle.lists.proofs.InOrder.{none, next, Once}
-use Rattle.lists.proofs.Below.{equal-or-not}
 use Rattle.graph.specs.Graph.{Graph, oneEnd, otherEnd}
 use Rattle.rules.specs.Walk.{Linked}
 use Rattle.rules.specs.Labels.{Labels, apart, mergeEdge, mergeAll}
 use Rattle.rules.specs.Forest.{keep}
-use Rattle.forest_laws.proofs.Merging.{JoinsEnds, merged-coarser, merged-monotone}
+use Rattle.forest_laws.proofs.Merging.{JoinsEnds, _⊑_, merged-coarser, merged-monotone}
 use Rattle.forest_laws.proofs.Walks.{linked-merged, merged-linked}
 use Rattle.forest_laws.proofs.Keeping.{Kept, nothing, skipped, taken, kept, is-kept}
 use Rattle.forest_laws.proofs.Exchange.{first-joining}
@@ -43,6 +43,14 @@ module _ {g : Graph} where
   pub whole-all-kept : (P : Labels) (E : List ℕ) → keep g P E ≡ E → AllKept g P E
   whole-all-kept P E q = rw q at (kept-all (kept g P E))
 
+  -- what is kept whole from some labels is kept whole from labels that join less
+  pub all-kept-finer : {P : Labels} (Q : Labels) {E : List ℕ} → Q ⊑ P → AllKept g P E → AllKept g Q E
+  unfolding mergeAll
+  all-kept-finer Q finer all-none = all-none
+  all-kept-finer {P} Q finer (all-next {e = e} p k) =
+      all-next (λ q. p (finer (oneEnd g e) (otherEnd g e) q))
+      (all-kept-finer (mergeEdge g Q e) (merged-monotone g Q P (e ∷ []) (e ∷ []) finer (λ x m. m)) k)
+
   -- an edge in the middle finds its ends apart
   middle-apart : {P : Labels} (before : List ℕ) (e : ℕ) (after : List ℕ) → AllKept g P (before ++ e ∷ after) → JoinsEnds g (mergeAll g P before) e → ⊥
   unfolding mergeAll
@@ -60,12 +68,12 @@ module _ {g : Graph} where
   all-kept-apart : {P : Labels} {E : List ℕ} {e : ℕ} → AllKept g P E → e ∈ E → JoinsEnds g (mergeAll g P (without e E)) e → ⊥
   unfolding mergeAll
   all-kept-apart all-none m q = List·Memᴰ·not-nil m
-  all-kept-apart {e = e} (all-next {P = P} {e = x} {E = E} p k) m q = go (equal-or-not e x) (λ n t. all-kept-apart k n t) m
+  all-kept-apart {e = e} (all-next {P = P} {e = x} {E = E} p k) m q = go (ℕ-discrete e x) (λ n t. all-kept-apart k n t) m
     where
-      go : (e ≡ x) ⊎ (e ≡ x → ⊥) → (e ∈ E → JoinsEnds g (mergeAll g (mergeEdge g P x) (without e E)) e → ⊥) → e ∈ (x ∷ E) → ⊥
-      go (inl d) ih n = first-apart (all-next p k) (rw (← d) (merged-monotone g P P (without e (x ∷ E)) E (λ u v r. r) (λ f r. without-first e x E d r) (oneEnd g e) (otherEnd g e) q))
-      go (inr d) ih (List·Memᴰ·head r) = d r
-      go (inr d) ih (List·Memᴰ·tail n) = ih n (rw (without-other e x E d) at q)
+      go : Dec (e ≡ x) → (e ∈ E → JoinsEnds g (mergeAll g (mergeEdge g P x) (without e E)) e → ⊥) → e ∈ (x ∷ E) → ⊥
+      go (yes d) ih n = first-apart (all-next p k) (rw (← d) (merged-monotone g P P (without e (x ∷ E)) E (λ u v r. r) (λ f r. without-first e x E d r) (oneEnd g e) (otherEnd g e) q))
+      go (no d) ih (List·Memᴰ·head r) = d r
+      go (no d) ih (List·Memᴰ·tail n) = ih n (rw (without-other e x E d) at q)
 
   -- where the others join no edge's ends, and no edge is there twice, all are kept
   apart-all-kept : (P : Labels) {E : List ℕ} → Once E → ((e : ℕ) → e ∈ E → JoinsEnds g (mergeAll g P (without e E)) e → ⊥) → AllKept g P E
@@ -87,6 +95,11 @@ module _ (g : Graph) where
   -- the kept edges, taken again, are all kept
   pub kept-whole : (P : Labels) (L : List ℕ) → keep g P (keep g P L) ≡ keep g P L
   kept-whole P L = all-kept-whole (kept-all (kept g P L))
+
+  -- they are all kept from all vertices apart, too
+  pub kept-whole-apart : (P : Labels) (L : List ℕ) → keep g apart (keep g P L) ≡ keep g P L
+  unfolding apart
+  kept-whole-apart P L = all-kept-whole (all-kept-finer apart (λ u v q. ap P q) (kept-all (kept g P L)))
 
   -- edges of a list that is kept whole, each once, in whatever order, are kept whole
   pub kept-whole-within : (P : Labels) (E : List ℕ) {F : List ℕ} → keep g P E ≡ E → Once F → ((e : ℕ) → e ∈ F → e ∈ E) → keep g P F ≡ F

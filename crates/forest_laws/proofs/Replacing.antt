@@ -14,11 +14,12 @@ use Rattle.lists.proofs.InOrder.{Once}
 use Rattle.lists.proofs.Sums.{sum-append, sum-split, sum-within}
 use Rattle.graph.specs.Graph.{Graph, weightOf}
 use Rattle.rules.specs.Walk.{totalWeight}
+use Rattle.rules.specs.Order.{ByWeight}
 use Rattle.rules.specs.Labels.{Labels, mergeAll}
 use Rattle.rules.specs.Forest.{keep}
 use Rattle.forest_laws.proofs.Merging.{JoinsEnds, _⊑_, JoinsAll, merged-coarser, merged-joins, merged-finest}
 use Rattle.forest_laws.proofs.Keeping.{kept-subset, kept-merges}
-use Rattle.forest_laws.proofs.Lightest.{ByWeight, Among, kept-lightest}
+use Rattle.forest_laws.proofs.Lightest.{Among, kept-lightest}
 
 -- the part is the kept edges that pass a test; T are edges of the list that join its edges' ends with the kept edges that fail the test
 module _ (g : Graph) (P : Labels) (L : List ℕ) (s : ℕ → Bool) (T : List ℕ) (inside : (e : ℕ) → e ∈ T → e ∈ L)

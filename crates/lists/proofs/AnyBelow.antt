@@ -3,10 +3,11 @@
 use Prim.Native.Nat.{ℕ, zero, suc, _<_}
 use mathlib.Core.Path.{_≡_, refl, ap, sym, _∙_}
 use mathlib.Core.Bool.{Bool, true, false, _||_, false≢true}
-use mathlib.Core.Logic.{_⊎_, inl, inr}
+use mathlib.Core.Logic.{dite}
+use native.Mathlib.Decide.{ℕ-discrete}
 use native.Mathlib.Omega.{arith}
 use Rattle.lists.specs.Count.{anyBelow}
-use Rattle.lists.proofs.Below.{equal-or-not}
+use Rattle.lists.proofs.Every.{right-true}
 
 module _ (f : ℕ → Bool) where
   -- some number below n passes, where the test says so, and the other way round
@@ -22,12 +23,5 @@ module _ (f : ℕ → Bool) where
   pub found-any-below : (n : ℕ) {k : ℕ} → k < n → f k ≡ true → anyBelow n f ≡ true
   unfolding anyBelow
   found-any-below zero h p = absurd (omega arith)
-  found-any-below (suc n) {k} h p = go (equal-or-not k n) (λ l. found-any-below n l p)
-    where
-      either-way : (b : Bool) → anyBelow n f ≡ true → (b || anyBelow n f) ≡ true
-      either-way true r = refl
-      either-way false r = r
-
-      go : (k ≡ n) ⊎ (k ≡ n → ⊥) → (k < n → anyBelow n f ≡ true) → (f n || anyBelow n f) ≡ true
-      go (inl q) ih = rw (ap f (sym q) ∙ p)
-      go (inr d) ih = either-way (f n) (ih (omega arith))
+  found-any-below (suc n) {k} h p =
+      dite (ℕ-discrete k n) (λ q. rw (ap f (sym q) ∙ p)) (λ d. right-true (f n) (found-any-below n {k = k} (omega arith) p))

@@ -1,24 +1,17 @@
--- Two numbers are equal or not, and the list `below n` holds the numbers below n, rising, and nothing else.
+-- The list `below n` holds the numbers below n, rising, and nothing else.
 -- Assumes nothing.
 use Prim.Native.Nat.{ℕ, zero, suc, _+_, _≤_, _<_}
 use mathlib.Core.Path.{_≡_}
-use mathlib.Core.Bool.{true, false}
 use mathlib.Core.List.{_∷_, List·Memᴰ·head, List·Memᴰ·tail, List·Memᴰ·not-nil}
-use mathlib.Core.Logic.{_⊎_, inl, inr}
+use mathlib.Core.Logic.{_⊎_, inl, inr, dite}
+use native.Mathlib.Decide.{ℕ-discrete}
 use native.Mathlib.Omega.{arith}
-use lib.Dec.{eqb}
-use borrow.Author.Tests.{eqb-true, eqb-false}
 use Rattle.lists.specs.Count.{from, below}
 use Rattle.lists.specs.Member.{_∈_, Rising, none, next}
-use Rattle.lists.proofs.Member.{either}
 
 -- two numbers are equal or not
 pub equal-or-not : (m n : ℕ) → (m ≡ n) ⊎ (m ≡ n → ⊥)
-equal-or-not m n = go (either (eqb m n))
-  where
-    go : (eqb m n ≡ true) ⊎ (eqb m n ≡ false) → (m ≡ n) ⊎ (m ≡ n → ⊥)
-    go (inl t) = inl (eqb-true m n t)
-    go (inr t) = inr (eqb-false m n t)
+equal-or-not m n = dite (ℕ-discrete m n) inl inr
 
 -- the numbers from a on, n of them, are those from a to a + n - 1
 pub of-from : (a n : ℕ) {x : ℕ} → x ∈ from a n → (a ≤ x) × (x < a + n)
@@ -33,11 +26,8 @@ of-from a (suc n) {x} m = go (λ r. of-from (suc a) n r) m
 pub in-from : (a n : ℕ) {x : ℕ} → a ≤ x → x < a + n → x ∈ from a n
 unfolding from
 in-from a zero h l = absurd (omega arith)
-in-from a (suc n) {x} h l = go (equal-or-not x a) (λ p q. in-from (suc a) n p q)
-  where
-    go : (x ≡ a) ⊎ (x ≡ a → ⊥) → (suc a ≤ x → x < suc a + n → x ∈ from (suc a) n) → x ∈ (a ∷ from (suc a) n)
-    go (inl e) ih = List·Memᴰ·head e
-    go (inr d) ih = List·Memᴰ·tail (ih (omega arith) (omega arith))
+in-from a (suc n) {x} h l =
+    dite (ℕ-discrete x a) (λ e. List·Memᴰ·head e) (λ d. List·Memᴰ·tail (in-from (suc a) n {x = x} (omega arith) (omega arith)))
 
 -- what stands in `below n` is below n, and the other way round
 pub of-below : (n : ℕ) {x : ℕ} → x ∈ below n → x < n

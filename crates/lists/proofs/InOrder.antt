@@ -10,15 +10,7 @@ use native.Mathlib.Omega.{arith}
 use Rattle.lists.specs.Lists.{filter}
 use Rattle.lists.specs.Member.{_∈_, Rising, none as rising-none, next as rising-next}
 use Rattle.lists.proofs.Member.{of-filter}
-
--- each element stands in the relation to all that follow it
-pub data InOrder {ℓ κ} {A : Type ℓ} (R : A → A → Type κ) : List A → Type (ℓ ⊔ κ) where
-  none : InOrder R []
-  next : {x : A} {xs : List A} → ((y : A) → y ∈ xs → R x y) → InOrder R xs → InOrder R (x ∷ xs)
-
--- no element stands in the list twice
-abbrev pub Once {ℓ} : {A : Type ℓ} → List A → Type ℓ
-Once {A = A} xs = InOrder (λ (x y : A). x ≡ y → ⊥) xs
+pub use Rattle.lists.specs.InOrder.{InOrder, none, next, Once}
 
 module _ {ℓ κ} {A : Type ℓ} {R : A → A → Type κ} where
   -- the first element stands in the relation to the others, and these are in order

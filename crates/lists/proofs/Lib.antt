@@ -25,9 +25,11 @@ pub mod Sorting
 pub mod Below
 -- lists written place by place along a run of numbers
 pub mod Runs
+-- a list from a place on, and from the next place on
+pub mod NextPlace
 -- what holds after one store
 pub mod AfterStore
--- what holds after a store; numbers sent apart to others are no more than these
+-- numbers sent to others, no two to one, are no more than those others
 pub mod Pigeonhole
 -- a test that passes fewer numbers counts less
 pub mod Fewer
@@ -47,8 +49,12 @@ pub mod AnyBelow
 pub mod Numbered
 -- segments of a list, and runs of stores
 pub mod Stores
--- a list put into an array, element by element and list behind list
+-- a list put into an array: what stands before, in and behind it; one list behind the other
 pub mod Put
+-- a list put into an array element by element
+pub mod PutOneByOne
+-- only the first elements of an array changed
+pub mod OnlyFirst
 -- several lists in one array: one more bound adds one more list
 pub mod Segments
 -- values against a bound, their largest and their sum

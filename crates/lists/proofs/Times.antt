@@ -5,7 +5,8 @@ use Prim.Native.Nat.{ℕ, zero, suc, _+_, _≤_}
 use mathlib.Core.Path.{_≡_, refl}
 use mathlib.Core.Bool.{Bool, true, false, cond}
 use mathlib.Core.List.{List, [], _∷_, _++_, List·Memᴰ·head, List·Memᴰ·tail, Memᴰ·cast}
-use mathlib.Core.Logic.{_⊎_, inl, inr}
+use mathlib.Core.Logic.{dite}
+use native.Mathlib.Decide.{ℕ-discrete}
 use native.Mathlib.Omega.{arith}
 use lib.Dec.{eqb}
 use borrow.Author.Tests.{eqb-true, eq-eqb, ne-eqb}
@@ -15,7 +16,6 @@ use Rattle.lists.specs.Sort.{rise}
 use Rattle.lists.proofs.InOrder.{none, next, Once}
 use Rattle.lists.proofs.Sums.{sum-append}
 use Rattle.lists.proofs.Sorting.{sum-rise}
-use Rattle.lists.proofs.Below.{equal-or-not}
 
 -- how often x stands in the list
 unfoldable pub times : ℕ → List ℕ → ℕ
@@ -72,11 +72,10 @@ times-other x y n = rw (ne-eqb x y n)
 -- in a list without repeats every number stands at most once, and the other way round
 pub once-times : {xs : List ℕ} → Once xs → (x : ℕ) → times x xs ≤ 1
 once-times none x = omega (arith, times-none x)
-once-times (next {x = y} {xs = ys} others rest) x = go (equal-or-not x y) (once-times rest x)
-  where
-    go : (x ≡ y) ⊎ (x ≡ y → ⊥) → times x ys ≤ 1 → times x (y ∷ ys) ≤ 1
-    go (inl q) ih = rw q (omega (arith, times-cons y y ys, times-one y, not-in-times y ys (λ m. others y m refl)))
-    go (inr n) ih = omega (arith, times-cons x y ys, times-other x y n)
+once-times (next {x = y} {xs = ys} others rest) x =
+    dite (ℕ-discrete x y)
+    (λ q. rw q (omega (arith, times-cons y y ys, times-one y, not-in-times y ys (λ m. others y m refl))))
+    (λ n. omega (arith, times-cons x y ys, times-other x y n, once-times rest x))
 
 pub times-once : (xs : List ℕ) → ((x : ℕ) → times x xs ≤ 1) → Once xs
 times-once [] most = none

@@ -5,6 +5,8 @@ pub mod Count
 pub mod Lists
 -- standing in a list, and rising lists of numbers
 pub mod Member
+-- lists in which each element stands in a relation to all that follow
+pub mod InOrder
 -- sorting
 pub mod Sort
 -- a list put into an array, with everything else as it came

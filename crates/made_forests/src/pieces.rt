@@ -2,6 +2,7 @@
 use crate::text::print_line;
 use crate::text::print_list;
 use crate::text::print_tree;
+use forest::index::wide;
 use forest::keep::keep_edges;
 use forest::labels::start_labels;
 use forest::light::light_count;
@@ -15,13 +16,6 @@ ghost use Prim.Native.Nat.{_≤_};
 ghost use lib.ListN.{length};
 ghost use Rattle.forest.specs.Keeping.{Keepable};
 ghost use Rattle.made_forests.specs.Asked.{Asked, Orderable, Forestable, Rooted, Cut, Numbered};
-
-// An element as an index.
-fn wide(x: u16) -> usize
-    ensures { λ r. ⌜ r ≡ x ⌝ }
-{
-    x as usize
-}
 
 // Writes the edges within the limit, by weight, then number, to the front of the array. Says how many.
 fn order_light(b: &[u8], limit: u64, order: &mut [u16], spare: &mut [u16]) -> usize

@@ -7,9 +7,12 @@ use mathlib.Core.Logic.{inl, inr}
 use mathlib.Core.List.{List}
 use native.Mathlib.Omega.{arith}
 use native.Mathlib.Nat.{le-refl}
-use lib.ListN.{length, getD, set, drop, length-set}
-use lib.Seq.{getD-set-same, getD-set-other, drop-set-lt}
+use lib.ListN.{length, getD, set, length-set}
+use lib.Seq.{getD-set-same, getD-set-other}
+use Rattle.lists.specs.Put.{OnlyFirst}
 use Rattle.lists.proofs.AfterStore.{after-store}
+use Rattle.lists.proofs.Put.{only-first-length}
+use Rattle.lists.proofs.OnlyFirst.{only-first-none, only-first-store}
 use Rattle.matching.specs.State.{none, Place, Places, Exchangeable, HadOrReached, Exchanged}
 
 -- The state between two turns: `root` is vacant, and was reached from `place`.
@@ -24,12 +27,12 @@ pub record Exchanging (i : ℕ) (parts via from before owner roots : List ℕ) (
   pub away : (k : ℕ) → k < i → getD roots k 0 ≡ root → ⊥
   pub owner-of : (r : ℕ) → r < 32 → (r ≡ root → ⊥) → (getD owner r 0 ≡ none → ⊥) → (getD owner r 0 < i) × (getD roots (getD owner r 0) 0 ≡ r)
   pub by : (k : ℕ) → k < i → HadOrReached parts from before i k (getD roots k 0)
-  pub rest : drop (i + 1) roots ≡ drop (i + 1) before
-  pub size : length roots ≡ length before
+  pub others : OnlyFirst (i + 1) before roots
 
 -- The path's root is vacant before the first turn.
-pub exchange-start : {i j : ℕ} {parts via from owner roots : List ℕ} → Exchangeable i j parts via from owner roots → Exchanging i parts via from roots owner roots j (getD from j 0)
-exchange-start {i} {j} {owner = owner} e =
+pub exchange-start : {i j : ℕ} {parts via from owner roots : List ℕ} → Exchangeable i j parts via from owner roots
+    → Exchanging i parts via from roots owner roots j (getD from j 0)
+exchange-start {i} {j} {owner = owner} {roots = roots} e =
     record {
       vacant = e .is-root;
       reached = refl;
@@ -41,12 +44,16 @@ exchange-start {i} {j} {owner = owner} e =
       away = λ k h q. omega (arith, e .few, sym (e .mirror .owned k h) ∙ ap (λ r. getD owner r 0) q ∙ e .free);
       owner-of = λ r h _. e .mirror .owner-of r h;
       by = λ k h. inl (h, refl);
-      rest = refl;
-      size = refl;
+      others = only-first-none (i + 1) roots;
     }
 
-module _ {i : ℕ} {parts via from before owner roots : List ℕ} {root place : ℕ} (e : Exchanging i parts via from before owner roots root place) (few : i < none) (fits : i < length before) where
-  open Exchanging e using (vacant, reached, near, places, all, is-root, owned, away, owner-of, by, rest, size)
+module _ {i : ℕ} {parts via from before owner roots : List ℕ} {root place : ℕ}
+    (e : Exchanging i parts via from before owner roots root place) (few : i < none) (fits : i < length before) where
+  open Exchanging e using (vacant, reached, near, places, all, is-root, owned, away, owner-of, by, others)
+
+  -- There is a root for part i and for each before it.
+  room : i < length roots
+  room = omega (arith, only-first-length others)
 
   -- The vacant root goes to a part that is i or before it: what the roots and their owners are then.
   module _ (part : ℕ) (is-part : part < i + 1) where
@@ -57,30 +64,32 @@ module _ {i : ℕ} {parts via from before owner roots : List ℕ} {root place : 
     owner′ = set owner root part
 
     root-at : getD roots′ part 0 ≡ root
-    root-at = getD-set-same roots part root 0 (omega arith)
+    root-at = getD-set-same roots part root 0 (omega (arith, room))
 
     owner-at : getD owner′ root 0 ≡ part
     owner-at = getD-set-same owner root part 0 (omega arith)
 
     -- every part that has a root, this one among them, has one that is its own
     is-root′ : (k : ℕ) → ((k ≡ part → ⊥) → k < i) → getD roots′ k 0 < 32
-    is-root′ k h = after-store (λ _ r. r < 32) roots part root k (omega arith) vacant (λ ne. is-root k (h ne))
+    is-root′ k h = after-store (λ _ r. r < 32) roots part root k (omega (arith, room)) vacant (λ ne. is-root k (h ne))
 
     owned′ : (k : ℕ) → ((k ≡ part → ⊥) → k < i) → getD owner′ (getD roots′ k 0) 0 ≡ k
-    owned′ k h = after-store (λ k r. getD owner′ r 0 ≡ k) roots part root k (omega arith) owner-at (λ ne. getD-set-other owner root (getD roots k 0) part 0 (away k (h ne)) ∙ owned k (h ne))
+    owned′ k h =
+        after-store (λ k r. getD owner′ r 0 ≡ k) roots part root k (omega (arith, room)) owner-at
+        (λ ne. getD-set-other owner root (getD roots k 0) part 0 (away k (h ne)) ∙ owned k (h ne))
 
     by′ : getD parts place 0 ≡ part → (k : ℕ) → ((k ≡ part → ⊥) → k < i) → HadOrReached parts from before i k (getD roots′ k 0)
-    by′ q k h = after-store (HadOrReached parts from before i) roots part root k (omega arith) (inr ((λ none′. omega arith), ap (λ a. getD parts a 0) reached ∙ q)) (λ ne. by k (h ne))
+    by′ q k h =
+        after-store (HadOrReached parts from before i) roots part root k (omega (arith, room))
+        (inr ((λ none′. omega arith), ap (λ a. getD parts a 0) reached ∙ q)) (λ ne. by k (h ne))
 
     -- and nothing past part i is written
-    rest′ : drop (i + 1) roots′ ≡ drop (i + 1) before
-    rest′ = drop-set-lt (i + 1) roots part root is-part ∙ rest
-
-    size′ : length roots′ ≡ length before
-    size′ = length-set roots part root ∙ size
+    others′ : OnlyFirst (i + 1) before roots′
+    others′ = only-first-store others part root is-part
 
     -- a root that is not vacant stays with its part, unless this is the part that gets the vacant one
-    owner-of′ : (r : ℕ) → r < 32 → (r ≡ root → ⊥) → (getD owner r 0 ≡ none → ⊥) → (getD owner r 0 ≡ part → ⊥) → (getD owner r 0 < i) × (getD roots′ (getD owner r 0) 0 ≡ r)
+    owner-of′ : (r : ℕ) → r < 32 → (r ≡ root → ⊥) → (getD owner r 0 ≡ none → ⊥) → (getD owner r 0 ≡ part → ⊥)
+        → (getD owner r 0 < i) × (getD roots′ (getD owner r 0) 0 ≡ r)
     owner-of′ r h off some other =
         let q = owner-of r h off some in
         (q .0, getD-set-other roots part (getD owner r 0) root 0 other ∙ q .1)
@@ -104,7 +113,9 @@ module _ {i : ℕ} {parts via from before owner roots : List ℕ} {root place : 
 
     -- The part has another root so far, the next to be vacant.
     its-root : getD roots part 0 ≡ next
-    its-root = ap (λ k. getD roots k 0) (sym (here .has)) ∙ owner-of next (here .is-root) next-off (λ q. omega (arith, here .is-part, here .has)) .1
+    its-root =
+        ap (λ k. getD roots k 0) (sym (here .has))
+        ∙ owner-of next (here .is-root) next-off (λ q. omega (arith, here .is-part, here .has)) .1
 
     -- Places before the next root's are as they were: the vacant root was reached from a later one.
     kept : (a : ℕ) → 0 < a → a ≤ getD from next 0 → Place i (set owner root part) parts via from a
@@ -113,7 +124,10 @@ module _ {i : ℕ} {parts via from before owner roots : List ℕ} {root place : 
         record {
           is-root = old .is-root;
           earlier = old .earlier;
-          has = getD-set-other owner root (getD via a 0) part 0 (λ q. omega (arith, old .earlier, here .earlier, ap (λ r. getD from r 0) q)) ∙ old .has;
+          has =
+              getD-set-other owner root (getD via a 0) part 0
+              (λ q. omega (arith, old .earlier, here .earlier, ap (λ r. getD from r 0) q))
+              ∙ old .has;
           is-part = old .is-part;
         }
 
@@ -128,11 +142,20 @@ module _ {i : ℕ} {parts via from before owner roots : List ℕ} {root place : 
           all = length-set owner root part ∙ all;
           is-root = λ k h. is-root′ part is-part k (λ _. h);
           owned = λ k h. owned′ part is-part k (λ _. h);
-          away = λ k h. after-store (λ k r. k < i → r ≡ next → ⊥) roots part root k (omega (arith, is-part)) (λ _ q. next-off (sym q)) (λ ne h q. ne (sym (owned k h) ∙ ap (λ r. getD owner r 0) q ∙ here .has)) h;
-          owner-of = λ r h. after-store (λ r o. r < 32 → (r ≡ next → ⊥) → (o ≡ none → ⊥) → (o < i) × (getD (set roots part root) o 0 ≡ r)) owner root part r (omega arith) (λ _ _ _. (here .is-part, root-at part is-part)) (λ off h other some. owner-of′ part is-part r h off some (λ q. other (sym (owner-of r h off some .1) ∙ ap (λ k. getD roots k 0) q ∙ its-root))) h;
+          away =
+              λ k h.
+              after-store (λ k r. k < i → r ≡ next → ⊥) roots part root k (omega (arith, is-part, room))
+              (λ _ q. next-off (sym q))
+              (λ ne h q. ne (sym (owned k h) ∙ ap (λ r. getD owner r 0) q ∙ here .has)) h;
+          owner-of =
+              λ r h.
+              after-store (λ r o. r < 32 → (r ≡ next → ⊥) → (o ≡ none → ⊥) → (o < i) × (getD (set roots part root) o 0 ≡ r))
+              owner root part r (omega arith)
+              (λ _ _ _. (here .is-part, root-at part is-part))
+              (λ off h other some. owner-of′ part is-part r h off some
+              (λ q. other (sym (owner-of r h off some .1) ∙ ap (λ k. getD roots k 0) q ∙ its-root))) h;
           by = λ k h. by′ part is-part refl k (λ _. h);
-          rest = rest′ part is-part;
-          size = size′ part is-part;
+          others = others′ part is-part;
         }
 
   -- The last turn: the vacant root goes to part i, and no root is vacant.
@@ -145,9 +168,14 @@ module _ {i : ℕ} {parts via from before owner roots : List ℕ} {root place : 
               all = length-set owner root i ∙ all;
               is-root = λ k h. is-root′ i last k (λ ne. omega arith);
               owned = λ k h. owned′ i last k (λ ne. omega arith);
-              owner-of = λ r h. after-store (λ r o. r < 32 → (o ≡ none → ⊥) → (o < i + 1) × (getD (set roots i root) o 0 ≡ r)) owner root i r (omega arith) (λ _ _. (last, root-at i last)) (λ off h some. let o = owner-of′ i last r h off some (λ e. omega (arith, owner-of r h off some .0)) in (omega arith, o .1)) h;
+              owner-of =
+                  λ r h.
+                  after-store (λ r o. r < 32 → (o ≡ none → ⊥) → (o < i + 1) × (getD (set roots i root) o 0 ≡ r)) owner root i r (omega arith)
+                  (λ _ _. (last, root-at i last))
+                  (λ off h some.
+                  let o = owner-of′ i last r h off some (λ e. omega (arith, owner-of r h off some .0)) in
+                  (omega arith, o .1)) h;
             };
         by = λ k h. by′ i last (ap (λ a. getD parts a 0) q ∙ places .first) k (λ ne. omega arith);
-        rest = rest′ i last;
-        size = size′ i last;
+        others = others′ i last;
       }

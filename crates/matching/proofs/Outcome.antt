@@ -1,14 +1,14 @@
 -- What a search's two ends come to: part i has a root that is allowed, and with the last part there is an assignment;
 -- or the parts reached are a deficient set.
 -- Assumes nothing.
-use Prim.Native.Nat.{ℕ, _+_, _-_, _<_, _≤_}
+use Prim.Native.Nat.{ℕ, _+_, _<_, _≤_}
 use mathlib.Core.Path.{_≡_, _∙_, sym, ap}
 use mathlib.Core.Logic.{⊎-elim}
 use mathlib.Core.Bool.{Bool, true, _&&_}
 use mathlib.Core.List.{List}
 use native.Mathlib.Omega.{arith}
-use lib.ListN.{length, getD, take, drop}
-use lib.Seq.{getD-take, length-take-le, drop-drop}
+use lib.ListN.{length, getD, take}
+use lib.Seq.{getD-take, length-take-le}
 use borrow.Author.Tests.{eqb-true, eq-eqb}
 use Rattle.lists.specs.Count.{count, anyBelow}
 use Rattle.lists.proofs.Every.{first-true, second-true}
@@ -19,20 +19,14 @@ use Rattle.matching.specs.Assignment.{IsAssignment, IsDeficient, marked}
 use Rattle.matching.specs.Marks.{Marks}
 use Rattle.matching.specs.State.{none, Mirror, May, Edges, Closed, Exchanged}
 
--- What is the same past n is the same past more.
-pub drop-past : (n m : ℕ) (a b : List ℕ) → n ≤ m → drop n a ≡ drop n b → drop m a ≡ drop m b
-drop-past n m a b l e = sym (drop-more a) ∙ ap (drop (m - n)) e ∙ drop-more b
-  where
-    drop-more : (x : List ℕ) → drop (m - n) (drop n x) ≡ drop m x
-    drop-more x = let q : n + (m - n) ≡ m = omega arith in drop-drop (m - n) n x ∙ ap (λ k. drop k x) q
-
 -- The parts that a search has reached are parts.
 pub closed-part : {p y i t : ℕ} {allowed : ℕ → ℕ → Bool} {owner parts : List ℕ} → Closed y allowed i owner parts t → i < p → (a : ℕ) → a < t → getD parts a 0 < p
 closed-part {p} {t = t} {parts = parts} closed is-part a h =
     at-or-not (λ x. x < t → getD parts x 0 < p) 0 a (λ _. omega (arith, closed .first)) (λ ne h. omega (arith, closed .behind a (omega arith) h)) h
 
 -- After the exchange each part's root is allowed to it: it had the root before, or has reached it.
-pub exchanged-may : {i : ℕ} (y : ℕ) (allowed : ℕ → ℕ → Bool) {parts from before owner after : List ℕ} → Exchanged i parts from before owner after → Edges y allowed parts from → May y allowed i before → May y allowed (i + 1) after
+pub exchanged-may : {i : ℕ} (y : ℕ) (allowed : ℕ → ℕ → Bool) {parts from before owner after : List ℕ} → Exchanged i parts from before owner after
+    → Edges y allowed parts from → May y allowed i before → May y allowed (i + 1) after
 exchanged-may y allowed {after = after} e edges may k h =
     ⊎-elim
     (λ had. rw (had .1) (may k (had .0)))
@@ -40,7 +34,8 @@ exchanged-may y allowed {after = after} e edges may k h =
     (e .by k h)
 
 -- Once all p parts have roots, these are an assignment.
-pub mirror-assignment : {p y : ℕ} (allowed : ℕ → ℕ → Bool) {owner roots : List ℕ} → Mirror p owner roots → May y allowed p roots → p ≤ length roots → IsAssignment p y allowed (take p roots)
+pub mirror-assignment : {p y : ℕ} (allowed : ℕ → ℕ → Bool) {owner roots : List ℕ} → Mirror p owner roots → May y allowed p roots → p ≤ length roots
+    → IsAssignment p y allowed (take p roots)
 mirror-assignment {p} {y} allowed {owner} {roots} mirror may fits =
     let at : (k : ℕ) → k < p → getD (take p roots) k 0 ≡ getD roots k 0 = λ k h. getD-take p roots k 0 h in
     record {
@@ -51,7 +46,9 @@ mirror-assignment {p} {y} allowed {owner} {roots} mirror may fits =
     }
 
 -- The parts reached, where each root allowed to one of them is that of one behind the first.
-module _ {p y i t : ℕ} {allowed : ℕ → ℕ → Bool} {owner parts roots before after : List ℕ} (closed : Closed y allowed i owner parts t) (mirror : Mirror i owner roots) (marks : Marks p t parts before after) (few : y ≤ 32) (is-part : i < p) (parts-few : p ≤ none) (fits : p ≤ length after) where
+module _ {p y i t : ℕ} {allowed : ℕ → ℕ → Bool} {owner parts roots before after : List ℕ}
+    (closed : Closed y allowed i owner parts t) (mirror : Mirror i owner roots) (marks : Marks p t parts before after)
+    (few : y ≤ 32) (is-part : i < p) (parts-few : p ≤ none) (fits : p ≤ length after) where
   one-of : (k : ℕ) → k < p → marked (take p after) k ≡ true → getD after k 0 ≡ 1
   one-of k h m = sym (getD-take p after k 0 h) ∙ eqb-true (getD (take p after) k 0) 1 m
 

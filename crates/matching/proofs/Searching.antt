@@ -56,7 +56,8 @@ pub record Searching (y : ℕ) (allowed : ℕ → ℕ → Bool) (i : ℕ) (owner
   pub passing : (r : ℕ) → r < j → allowed (getD parts at 0) r ≡ true → getD from r 0 ≡ none → ⊥
 
 -- At the start part i alone is reached, and no root.
-pub search-start : {y i : ℕ} {bytes owner parts via from : List ℕ} (allowed : ℕ → ℕ → Bool) → Searchable y i bytes owner parts via from → Searching y allowed i owner (set parts 0 i) via from 1 0 0
+pub search-start : {y i : ℕ} {bytes owner parts via from : List ℕ} (allowed : ℕ → ℕ → Bool) → Searchable y i bytes owner parts via from
+    → Searching y allowed i owner (set parts 0 i) via from 1 0 0
 search-start {i = i} {parts = parts} allowed s =
     record {
       queue =
@@ -104,7 +105,10 @@ module _ {y : ℕ} {allowed : ℕ → ℕ → Bool} {i : ℕ} {owner parts via f
         queue = queue;
         within = omega arith;
         root = omega arith;
-        passed = λ a r l. at-or-not (λ x. x < at + 1 → r < y → allowed (getD parts x 0) r ≡ true → getD from r 0 ≡ none → ⊥) at a (λ _ b. passing r (omega arith)) (λ ne l. passed a r (omega arith)) l;
+        passed =
+            λ a r l.
+            at-or-not (λ x. x < at + 1 → r < y → allowed (getD parts x 0) r ≡ true → getD from r 0 ≡ none → ⊥) at a
+            (λ _ b. passing r (omega arith)) (λ ne l. passed a r (omega arith)) l;
         passing = λ r l. absurd (omega arith);
       }
 
@@ -170,7 +174,15 @@ module _ {y : ℕ} {allowed : ℕ → ℕ → Bool} {i : ℕ} {owner parts via f
           places =
               record {
                 first = first;
-                behind = λ a l u. let old = behind a l (omega (arith, from-at)) in record { is-root = old .is-root; earlier = earlier′ a l (omega (arith, from-at)); has = old .has; is-part = old .is-part };
+                behind =
+                    λ a l u.
+                    let old = behind a l (omega (arith, from-at)) in
+                    record {
+                      is-root = old .is-root;
+                      earlier = earlier′ a l (omega (arith, from-at));
+                      has = old .has;
+                      is-part = old .is-part;
+                    };
               };
           edges = edges′;
         }
@@ -194,7 +206,10 @@ module _ {y : ℕ} {allowed : ℕ → ℕ → Bool} {i : ℕ} {owner parts via f
       via-off a l = getD-set-other via t a j 0 (omega arith)
 
       room′ : t + 1 ≤ 1 + count 32 (reached from′)
-      room′ = omega (arith, room, count-fewer 32 (reached from) (reached from′) (λ r l p. reached-true from′ r (still r (reached-not from r p))) j (omega arith) (reached-false from j new) (reached-true from′ j (rw from-at at-some)))
+      room′ =
+          let one-more = count-fewer 32 (reached from) (reached from′) (λ r l p. reached-true from′ r (still r (reached-not from r p)))
+          j (omega arith) (reached-false from j new) (reached-true from′ j (rw from-at at-some)) in
+          omega (arith, room)
 
       via-at : getD via′ t 0 ≡ j
       via-at = getD-set-same via t j 0 (omega (arith, search-room, via-size))
@@ -234,10 +249,17 @@ module _ {y : ℕ} {allowed : ℕ → ℕ → Bool} {i : ℕ} {owner parts via f
                   behind = λ a l u. at-or-not (λ x. 0 < x → x < t + 1 → Place i owner parts′ via′ from′ x) t a (λ _ _. place-last) (λ ne l u. place-kept a l (omega arith)) l u;
                   near = λ r l n. omega (arith, near′ r l n);
                   edges = λ r l n. let q = edges′ r l n in (q .0, rw (parts-off (getD from′ r 0) (near′ r l n)) (q .1));
-                  queued = λ r l. after-store (λ r f. (f ≡ none → ⊥) → (b : ℕ) × (0 < b) × (b < t + 1) × (getD via′ b 0 ≡ r)) from j at r (omega (arith, from-size)) (λ _. (t, some, omega arith, via-at)) (λ _ n. let q = queued r l n in (q .0, q .1, omega arith, via-off (q .0) (q .2) ∙ q .3));
+                  queued =
+                      λ r l.
+                      after-store (λ r f. (f ≡ none → ⊥) → (b : ℕ) × (0 < b) × (b < t + 1) × (getD via′ b 0 ≡ r)) from j at r (omega (arith, from-size))
+                      (λ _. (t, some, omega arith, via-at))
+                      (λ _ n. let q = queued r l n in (q .0, q .1, omega arith, via-off (q .0) (q .2) ∙ q .3));
                 };
             within = omega arith;
             root = omega arith;
             passed = λ a r l b e. still r (passed a r l b (rw (parts-off a (omega arith)) at e));
-            passing = λ r l. at-or-not (λ x. x < j + 1 → allowed (getD parts′ at 0) x ≡ true → getD from′ x 0 ≡ none → ⊥) j r (λ _ _ q. at-some (sym from-at ∙ q)) (λ ne l e. still r (passing r (omega arith) (rw (parts-off at h) at e))) l;
+            passing =
+                λ r l.
+                at-or-not (λ x. x < j + 1 → allowed (getD parts′ at 0) x ≡ true → getD from′ x 0 ≡ none → ⊥) j r
+                (λ _ _ q. at-some (sym from-at ∙ q)) (λ ne l e. still r (passing r (omega arith) (rw (parts-off at h) at e))) l;
           }

@@ -4,8 +4,9 @@ use Prim.Native.Nat.{ℕ}
 use mathlib.Core.Path.{_≡_}
 use mathlib.Core.Bool.{true, false, cond}
 use mathlib.Core.List.{List}
-use lib.ListN.{length, take, drop}
+use lib.ListN.{length, take}
 use Rattle.lists.specs.Count.{below}
+use Rattle.lists.specs.Put.{OnlyFirst}
 use Rattle.matching.specs.declared.Answer.{Answer}
 use Rattle.matching.specs.declared.Answer.the-variants.{Refused, Assigned, Deficient}
 use Rattle.matching.specs.Assignment.{IsAssignment, IsDeficient}
@@ -28,12 +29,21 @@ caseOf p y bytes before after Refused =
 caseOf p y bytes before after Assigned =
     record {
       number = 0;
-      says = record { valid : refusedOf p y bytes (length before) ≡ false; assignment : IsAssignment p y (allowedAt bytes y) (take p after) };
+      says =
+          record {
+            valid : refusedOf p y bytes (length before) ≡ false;
+            assignment : IsAssignment p y (allowedAt bytes y) (take p after);
+          };
     }
 caseOf p y bytes before after Deficient =
     record {
       number = 1;
-      says = record { valid : refusedOf p y bytes (length before) ≡ false; set : IsDeficient p y (allowedAt bytes y) (take p after); none : (roots : List ℕ) → IsAssignment p y (allowedAt bytes y) roots → ⊥ };
+      says =
+          record {
+            valid : refusedOf p y bytes (length before) ≡ false;
+            set : IsDeficient p y (allowedAt bytes y) (take p after);
+            none : (roots : List ℕ) → IsAssignment p y (allowedAt bytes y) roots → ⊥;
+          };
     }
 
 -- Which case it is: refused on an input that is, else by whether an assignment exists.
@@ -49,5 +59,4 @@ pub record Assigns (p y : ℕ) (bytes before : List ℕ) (answer : Answer) (afte
   -- and what its case says holds
   pub means : (case : Answer) → answer ≡ case → caseOf p y bytes before after case .says
   -- the buffer past its first p bytes is as it came
-  pub rest : drop p after ≡ drop p before
-  pub size : length after ≡ length before
+  pub others : OnlyFirst p before after

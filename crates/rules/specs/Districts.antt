@@ -80,13 +80,19 @@ unfolding headD
     Forest.keep Forest.forest Forest.labelsAt Forest.unjoined Forest.lowest
     Grow.branchEdges Grow.farEnd Grow.leadsOn Grow.growChildren Grow.growNode Grow.growFrom Grow.grow
     Split.reaches Split.partAt Split.smallestEdge Split.settle Split.splitAt Split.split Split.allParts
-    Distance.nearer Distance.further Distance.relaxed Distance.distancesIn Distance.distances Distance.isWithin Distance.treeVertices Distance.reachesPart
-    RootedTrial.unjoinedAt RootedTrial.rootedPieces RootedTrial.rootedParts RootedTrial.partOf RootedTrial.mayGo RootedTrial.isAssignable RootedTrial.unionTree RootedTrial.assignedEdges RootedTrial.leftAt RootedTrial.rootedCover RootedTrial.chosenParts RootedTrial.stopOr RootedTrial.rootedTrial
-    UnrootedTrial.components UnrootedTrial.needs UnrootedTrial.needed UnrootedTrial.leftovers UnrootedTrial.fromLowest UnrootedTrial.componentTrees UnrootedTrial.startsBefore UnrootedTrial.unrootedTrees UnrootedTrial.unrootedTrial
+    Distance.nearer Distance.further Distance.relaxed Distance.distancesIn Distance.distances Distance.isWithin Distance.treeVertices
+    Distance.reachesPart
+    RootedTrial.unjoinedAt RootedTrial.rootedPieces RootedTrial.rootedParts RootedTrial.partOf RootedTrial.mayGo RootedTrial.isAssignable
+    RootedTrial.unionTree RootedTrial.assignedEdges RootedTrial.leftAt RootedTrial.rootedCover RootedTrial.chosenParts RootedTrial.stopOr
+    RootedTrial.rootedTrial
+    UnrootedTrial.components UnrootedTrial.needs UnrootedTrial.needed UnrootedTrial.leftovers UnrootedTrial.fromLowest
+    UnrootedTrial.componentTrees UnrootedTrial.startsBefore UnrootedTrial.unrootedTrees UnrootedTrial.unrootedTrial
     Search.nobody Search.accepts Search.trial Search.noCover Search.narrowed Search.searched Search.bestLimit Search.best
     Fault.faultIf Fault.faultUnless Fault.firstFault Fault.refusedOr
-    CheckCover.startsRight CheckCover.startsBelow CheckCover.entryRises CheckCover.entryRight CheckCover.entriesRight CheckCover.loopFree CheckCover.allJoined CheckCover.treesRight CheckCover.verticesCovered CheckCover.coverFault
-    Questions.numberIn Questions.sheetFault Questions.crewCount Questions.tooManyRoots Questions.crewFault Questions.limitFault Questions.roomFault Questions.askTrial Questions.askBest Questions.askCheck
+    CheckCover.startsRight CheckCover.startsBelow CheckCover.entryRises CheckCover.entryRight CheckCover.entriesRight CheckCover.loopFree
+    CheckCover.allJoined CheckCover.treesRight CheckCover.verticesCovered CheckCover.coverFault
+    Questions.numberIn Questions.sheetFault Questions.crewCount Questions.tooManyRoots Questions.crewFault Questions.limitFault
+    Questions.roomFault Questions.askTrial Questions.askBest Questions.askCheck
 answer (trial sheet crews limit c) = reply (askTrial sheet crews limit 32708 c)
 answer (best sheet crews c) = reply (askBest sheet crews 32708 c)
 answer (check sheet crews cover) = verdict (askCheck sheet crews cover)

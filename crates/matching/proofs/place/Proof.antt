@@ -1,46 +1,80 @@
 -- `place` meets its contract: what the search finds is what the exchange, or the marking, asks.
 -- Assumes nothing.
-use Prim.Native.Nat.{_+_, _≤_}
+use Prim.Native.Nat.{ℕ, _+_, _≤_}
 use mathlib.Core.Path.{refl}
-use mathlib.Core.Bool.{true≢false, false≢true}
+use mathlib.Core.Bool.{Bool, true≢false, false≢true}
+use mathlib.Core.List.{List}
 use native.Mathlib.Omega.{arith}
 use native.Mathlib.Nat.{mul-le-mul-right}
 use lib.ListN.{getD-replicate}
 use borrow.Author.Needs.{needs}
+use Rattle.lists.proofs.Put.{only-first-length}
+use Rattle.lists.proofs.OnlyFirst.{only-first-of-more}
 use Rattle.matching.specs.Input.{allowedAt}
 use Rattle.matching.specs.State.{none, Reached, Closed}
-use Rattle.matching.proofs.Outcome.{exchanged-may, closed-part, closed-deficient, drop-past}
+use Rattle.matching.proofs.Outcome.{exchanged-may, closed-part, closed-deficient}
 use Rattle.matching.proofs.place.Statement.{statement}
 use Rattle.matching.proofs.place.Tie as tie
 
--- From past the search back to the start.
+-- Where the search is asked for: back to the start.
+abbrev asked : tie.After-from → tie.Start
+asked t = t .before .before .before .before .before .before
+
+-- Where it ended.
 abbrev start : tie.After-find → tie.Start
-start c = c .before .before .before .before .before .before .before
+start k = asked (k .before)
 
--- Where the search ends at a root.
-root-found : (c : tie.After-found) →
-    let a = start (c .before .before) .args in
-    let last = c .before .before .find .last .1 .1 .1 .1 in
-    Reached (a .y) (allowedAt (a .allowed .now) (a .y)) (a .i) (a .owner .now) (last .0) (last .1 .0) (last .1 .1 .0) (c .found .given .0 .0)
-root-found c = rw (c .found .given .1) at (c .before .before .find .ensures)
+-- Where it ended at a root: what it has reached.
+module _ (f : tie.After-found) where
+  abbrev ended : tie.After-find
+  ended = f .before .before
 
--- Where it ends with nothing left.
-nothing-found : (c : tie.After-found2) →
-    let a = start (c .before .before) .args in
-    Closed (a .y) (allowedAt (a .allowed .now) (a .y)) (a .i) (a .owner .now) (c .before .before .find .last .1 .1 .1 .1 .0) (c .found2 .given .0 .0)
-nothing-found c = rw (c .found2 .given .1) at (c .before .before .find .ensures)
+  abbrev at-root : tie.Start
+  at-root = start ended
+
+  -- the parts reached, the roots that they have, and the places from which roots were reached
+  abbrev parts : List ℕ
+  parts = ended .find .last .1 .1 .1 .1 .0
+
+  abbrev via : List ℕ
+  via = ended .find .last .1 .1 .1 .1 .1 .0
+
+  abbrev from : List ℕ
+  from = ended .find .last .1 .1 .1 .1 .1 .1 .0
+
+  abbrev allowed : ℕ → ℕ → Bool
+  allowed = allowedAt (at-root .args .allowed .now) (at-root .args .y)
+
+  root-found : Reached (at-root .args .y) allowed (at-root .args .i) (at-root .args .owner .now) parts via from (f .found .given .0 .0)
+  root-found = rw (f .found .given .1) at (f .before .before .find .ensures)
+
+-- Where it ended with nothing left: the set that it has reached.
+module _ (f : tie.After-found2) where
+  abbrev at-none : tie.Start
+  at-none = start (f .before .before)
+
+  nothing-found :
+      let a = at-none .args in
+      Closed (a .y) (allowedAt (a .allowed .now) (a .y)) (a .i) (a .owner .now) (f .before .before .find .last .1 .1 .1 .1 .0) (f .found2 .given .0 .0)
+  nothing-found = rw (f .found2 .given .1) at (f .before .before .find .ensures)
+
+-- Where the exchange, or the marking, is asked for: back to what was found.
+abbrev path-found : tie.After-exchange-arg2 → tie.After-found
+path-found t = t .before .before .before .before .before .before
+
+abbrev none-found : tie.After-mark-arg → tie.After-found2
+none-found t = t .before .before .before
 
 find-requires : tie.Need-find-requires
 find-requires c κs =
-    let from-start = c .before .before .before .before .before .before in
-    let pre = from-start .pre in
-    let next : from-start .args .i + 1 ≤ from-start .args .p = omega arith in
+    let s = asked c in
+    let next : s .args .i + 1 ≤ s .args .p = omega arith in
     record {
       places = (refl, refl);
       roots = refl;
-      few = pre .few;
-      enough = omega (arith, pre .enough, mul-le-mul-right (from-start .args .y) next);
-      owner-below = λ r h some. pre .mirror .owner-of r h some .0;
+      few = s .pre .few;
+      enough = omega (arith, s .pre .enough, mul-le-mul-right (s .args .y) next);
+      owner-below = λ r h some. s .pre .mirror .owner-of r h some .0;
       fresh = λ r h. getD-replicate 32 r none 0 h;
     }
 
@@ -49,9 +83,8 @@ enum-known-found c = search needs
 
 exchange-requires : tie.Need-exchange-requires
 exchange-requires c κs =
-    let at-found = c .before .before .before .before .before .before in
-    let pre = start (at-found .before .before) .pre in
-    let found = root-found at-found in
+    let pre = at-root (path-found c) .pre in
+    let found = root-found (path-found c) in
     record {
       is-root = found .is-root;
       free = found .free;
@@ -67,9 +100,8 @@ enum-known-found-2 c = search needs
 
 mark-requires : tie.Need-mark-requires
 mark-requires c κs =
-    let at-found = c .before .before .before in
-    let pre = start (at-found .before .before) .pre in
-    let closed = nothing-found at-found in
+    let pre = at-none (none-found c) .pre in
+    let closed = nothing-found (none-found c) in
     record { fits = pre .fits; few = closed .few; below = closed-part closed (pre .part) }
 
 same-length : tie.Need-same-length
@@ -77,15 +109,15 @@ same-length c = search needs
 
 returns : tie.Need-returns
 returns c =
-    let at-found = c .before .before .before .before .before .before .before .before .before in
-    let s = start (at-found .before .before) in
-    let done = c .before .before .exchange .ensures in
+    let k = c .before .before in
+    let f = path-found (k .before) in
+    let s = at-root f in
+    let done = k .exchange .ensures in
     record {
       mirror = λ _. done .mirror;
-      may = λ _. exchanged-may (s .args .y) (allowedAt (s .args .allowed .now) (s .args .y)) done (root-found at-found .edges) (s .pre .may);
+      may = λ _. exchanged-may (s .args .y) (allowed f) done (root-found f .edges) (s .pre .may);
       set = λ e. absurd (true≢false e);
-      rest = drop-past (s .args .i + 1) (s .args .p) _ _ (omega (arith, s .pre)) (done .rest);
-      size = done .size;
+      others = only-first-of-more (done .others) (s .args .p) (omega (arith, s .pre));
     }
 
 same-length-2 : tie.Need-same-length-2
@@ -93,15 +125,18 @@ same-length-2 c = search needs
 
 returns-2 : tie.Need-returns-2
 returns-2 c =
-    let at-found = c .before .before .before .before .before .before in
-    let pre = start (at-found .before .before) .pre in
-    let marks = c .before .before .mark .ensures in
+    let k = c .before .before in
+    let f = none-found (k .before) in
+    let pre = at-none f .pre in
+    let marks = k .mark .ensures in
     record {
       mirror = λ e. absurd (false≢true e);
       may = λ e. absurd (false≢true e);
-      set = λ _. closed-deficient (nothing-found at-found) (pre .mirror) marks (pre .few) (pre .part) (pre .parts) (omega (arith, pre, marks));
-      rest = marks .rest;
-      size = marks .size;
+      set =
+          λ _.
+          closed-deficient (nothing-found f) (pre .mirror) marks (pre .few) (pre .part) (pre .parts)
+          (omega (arith, pre .fits, only-first-length (marks .others)));
+      others = marks .others;
     }
 
 pub place-spec : {M : Type 1} → statement M

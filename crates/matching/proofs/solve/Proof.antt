@@ -3,8 +3,11 @@
 use Prim.Native.Nat.{_≤_, _-_}
 use mathlib.Core.Path.{_≡_, _∙_, refl}
 use native.Mathlib.Omega.{arith}
-use lib.ListN.{length, drop, getD-replicate}
+use lib.ListN.{length, getD-replicate}
 use borrow.Author.Tests.{not-true, not-false}
+use Rattle.lists.specs.Put.{OnlyFirst}
+use Rattle.lists.proofs.Put.{only-first-length}
+use Rattle.lists.proofs.OnlyFirst.{only-first-none, only-first-on}
 use Rattle.matching.specs.Input.{allowedAt}
 use Rattle.matching.specs.State.{none, Mirror, May}
 use Rattle.matching.proofs.Accepted.{Accepted, accepted}
@@ -19,7 +22,7 @@ Inv-loop p y allowed out₀ owner₀ i₀ out owner i =
       within : i ≤ p;
       mirror : Mirror i owner out;
       may : May y (allowedAt allowed y) i out;
-      rest : drop p out ≡ drop p out₀;
+      others : OnlyFirst p out₀ out;
       size : length out ≡ length out₀;
     }
 
@@ -49,7 +52,7 @@ loop-holds c =
             owner-of = λ r h some. absurd (some (getD-replicate 32 r none 0 h));
           };
       may = λ k h. absurd (omega arith);
-      rest = refl;
+      others = only-first-none _ _;
       size = refl;
     }
 
@@ -69,7 +72,9 @@ place-requires c κs =
     }
 
 same-length : tie.Need-same-length Inv-loop μ-loop
-same-length c = c .before .before .before .place .ensures .size ∙ at-loop (c .before .before .before) .loop .inv .size
+same-length c =
+    let k = c .before .before .before in
+    only-first-length (k .place .ensures .others) ∙ at-loop k .loop .inv .size
 
 returns : tie.Need-returns Inv-loop μ-loop
 returns c =
@@ -79,8 +84,7 @@ returns c =
       answered = λ e. differ (cc);
       assigned = λ e. absurd (differ (cc));
       set = λ _. placed .set (not-true _ (c .if1 .taken));
-      rest = placed .rest ∙ inv .rest;
-      size = placed .size ∙ inv .size;
+      others = only-first-on (inv .others) (placed .others);
     }
 
 add-i : tie.Need-add-i Inv-loop μ-loop
@@ -97,8 +101,8 @@ loop-again c =
       within = omega (arith, at-test (c .before .before .before) .loop-test);
       mirror = placed .mirror (not-false _ (c .if1 .left));
       may = placed .may (not-false _ (c .if1 .left));
-      rest = placed .rest ∙ inv .rest;
-      size = placed .size ∙ inv .size;
+      others = only-first-on (inv .others) (placed .others);
+      size = only-first-length (placed .others) ∙ inv .size;
     }
 
 same-length-2 : tie.Need-same-length-2 Inv-loop μ-loop
@@ -111,10 +115,12 @@ returns-2 c =
     let all : c .before .loop .i ≡ start .args .p = omega arith in
     record {
       answered = λ e. differ (cc);
-      assigned = λ _. mirror-assignment (allowedAt (start .args .allowed .now) (start .args .y)) (rw all at (inv .mirror)) (rw all at (inv .may)) (omega (arith, input start, inv));
+      assigned =
+          λ _.
+          mirror-assignment (allowedAt (start .args .allowed .now) (start .args .y)) (rw all at (inv .mirror)) (rw all at (inv .may))
+          (omega (arith, input start, inv));
       set = λ e. absurd (differ (cc));
-      rest = inv .rest;
-      size = inv .size;
+      others = inv .others;
     }
 
 pub solve-spec : {M : Type 1} → statement M

@@ -12,7 +12,8 @@ use Rattle.matching_c.proofs.matching_assign.Statement.{statement}
 use Rattle.matching_c.proofs.matching_assign.Tie as tie
 
 -- The answer's own number, in place of the one that the rules give.
-numbered : {p y : ℕ} {bytes before after : List ℕ} {answer : Answer} (case : Answer) → Assigns p y bytes before answer after → answer ≡ case → Numbered p y bytes before (caseOf p y bytes before after case .number) after
+numbered : {p y : ℕ} {bytes before after : List ℕ} {answer : Answer} (case : Answer) → Assigns p y bytes before answer after → answer ≡ case
+    → Numbered p y bytes before (caseOf p y bytes before after case .number) after
 numbered {p} {y} {bytes} {before} {after} case a q =
     record {
       number = ap (λ x. caseOf p y bytes before after x .number) (sym q ∙ a .reply);

@@ -1,20 +1,33 @@
 -- `forest::keep::join_ends` meets its contract: equal labels are joined already, and others are merged. Assumes nothing.
 use Prim.Native.Nat.{_<_}
 use native.Mathlib.Omega.{arith}
+use Rattle.graph.specs.Graph.{Graph}
 use Rattle.graph.specs.Bytes.{graphOf}
+use Rattle.graph.specs.Valid.{Valid}
 use Rattle.graph.proofs.Ranges.{one-end-below, other-end-below}
-use Rattle.forest.proofs.Taking.{joined-already, joined-now}
+use Rattle.forest.proofs.KeptOneByOne.{joined-already, joined-now}
 use borrow.Author.Needs.{needs}
 use Rattle.forest.proofs.keep.join_ends.Statement.{statement}
 use Rattle.forest.proofs.keep.join_ends.Tie as tie
 
--- With both ends read: they are vertices, so that each has a label.
-module _ (c : tie.After-other-end) where
-  ends-below : (c .before .one-end .result < graphOf (c .before .before .before .before .args .b .now) .vertices) × (c .other-end .result < graphOf (c .before .before .before .before .args .b .now) .vertices)
+-- Where both ends are read: the graph, and that the ends are vertices, so that each has a label.
+module _ (k : tie.After-other-end) where
+  abbrev start : tie.Start
+  start = k .before .before .before .before
+
+  abbrev g : Graph
+  g = graphOf (start .args .b .now)
+
+  valid : Valid g
+  valid = start .pre .graph .valid
+
+  ends-below : (k .before .one-end .result < g .vertices) × (k .other-end .result < g .vertices)
   ends-below =
-      let valid = c .before .before .before .before .pre .graph .valid in
-      let e = c .before .before .before .before .args .e in
-      omega (arith, one-end-below valid e, other-end-below valid e)
+      omega (arith, one-end-below valid (start .args .e), other-end-below valid (start .args .e))
+
+-- Where the labels differ: the ends as they were read.
+abbrev ends : tie.Else1 → tie.After-other-end
+ends t = t .before .before .before
 
 one-end-requires : tie.Need-one-end-requires
 one-end-requires c κs = search needs
@@ -36,28 +49,26 @@ slice-read-if1-2 c = omega (arith, ends-below (c .before .before))
 
 returns : tie.Need-returns
 returns c =
-    let s = c .before .before .before .before .before .before .before in
     let k = c .before .before .before in
-    joined-already (s .pre .graph .valid) (s .args .e) (k .before .one-end .ensures .is) (k .other-end .ensures .is) (s .args .label .now)
+    joined-already (valid k) (start k .args .e) (k .before .one-end .ensures .is) (k .other-end .ensures .is) (start k .args .label .now)
     (c .if1 .taken)
 
 vertex-count-requires : tie.Need-vertex-count-requires
 vertex-count-requires c κs = search needs
 
 merge-labels-requires : tie.Need-merge-labels-requires
-merge-labels-requires c κs = omega (arith, ends-below (c .before .before .before .before .before))
+merge-labels-requires c κs = omega (arith, ends-below (ends (c .before .before)))
 
 same-length : tie.Need-same-length
 same-length c = search needs
 
 returns-2 : tie.Need-returns-2
 returns-2 c =
-    let s = c .before .before .before .before .before .before .before .before .before .before .before .before in
-    let k = c .before .before .before .before .before .before .before .before in
-    let one = k .before .one-end .ensures .is in
-    let other = k .other-end .ensures .is in
-    joined-now (s .pre .graph .valid) (s .args .e) one other (s .args .label .now) (c .before .before .before .before .before .if1 .left)
-    (rw (one, other, c .before .before .before .before .vertex-count .ensures .is) at (c .before .before .merge-labels .ensures))
+    let m = c .before .before in
+    let counted = m .before .before in
+    let k = ends (counted .before) in
+    joined-now (valid k) (start k .args .e) (k .before .one-end .ensures .is) (k .other-end .ensures .is) (start k .args .label .now)
+    (counted .before .if1 .left) (counted .vertex-count .ensures .is) (m .merge-labels .ensures)
 
 pub join-ends-spec : {M : Type 1} → statement M
 join-ends-spec =

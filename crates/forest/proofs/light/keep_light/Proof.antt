@@ -5,7 +5,7 @@ use native.Mathlib.Omega.{arith}
 use lib.ListN.{length}
 use borrow.Author.Needs.{needs}
 use Rattle.graph.specs.Bytes.{graphOf}
-use Rattle.forest.proofs.Sifting.{Sifting, sifting-none, sifting-passed, sifting-more, sifting-all}
+use Rattle.forest.proofs.WithinLimit.{Sifting, sifting-none, sifting-passed, sifting-more, sifting-all}
 use Rattle.forest.proofs.light.keep_light.Statement.{statement}
 use Rattle.forest.proofs.light.keep_light.Tie as tie
 

@@ -5,7 +5,7 @@ use native.Mathlib.Omega.{arith}
 use lib.ListN.{length}
 use borrow.Author.Needs.{needs}
 use Rattle.graph.specs.Bytes.{graphOf}
-use Rattle.forest.proofs.Sifting.{Counting, counting-none, counting-more, counting-heavy, counting-all}
+use Rattle.forest.proofs.WithinLimit.{Counting, counting-none, counting-more, counting-heavy, counting-all}
 use Rattle.forest.proofs.light.light_count.Statement.{statement}
 use Rattle.forest.proofs.light.light_count.Tie as tie
 

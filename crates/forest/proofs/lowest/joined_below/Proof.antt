@@ -2,7 +2,7 @@
 -- The measure is u. Assumes nothing.
 use native.Mathlib.Omega.{arith}
 use borrow.Author.Needs.{needs}
-use Rattle.forest.proofs.Looking.{LookingDown, down-none, down-more, down-found, down-all}
+use Rattle.forest.proofs.LowestVertices.{LookingDown, down-none, down-more, down-found, down-all}
 use Rattle.forest.proofs.lowest.joined_below.Statement.{statement}
 use Rattle.forest.proofs.lowest.joined_below.Tie as tie
 

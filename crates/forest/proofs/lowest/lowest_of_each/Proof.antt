@@ -3,7 +3,7 @@
 use Prim.Native.Nat.{_-_}
 use native.Mathlib.Omega.{arith}
 use borrow.Author.Needs.{needs}
-use Rattle.forest.proofs.Looking.{Listing, listing-none, listing-passed, listing-more, listing-all}
+use Rattle.forest.proofs.LowestVertices.{Listing, listing-none, listing-passed, listing-more, listing-all}
 use Rattle.forest.proofs.lowest.lowest_of_each.Statement.{statement}
 use Rattle.forest.proofs.lowest.lowest_of_each.Tie as tie
 

@@ -3,7 +3,7 @@
 use Prim.Native.Nat.{_-_}
 use native.Mathlib.Omega.{arith}
 use borrow.Author.Needs.{needs}
-use Rattle.forest.proofs.Looking.{Looking, looking-none, looking-more, looking-found, looking-all}
+use Rattle.forest.proofs.LowestVertices.{Looking, looking-none, looking-more, looking-found, looking-all}
 use Rattle.forest.proofs.lowest.lowest_unjoined.Statement.{statement}
 use Rattle.forest.proofs.lowest.lowest_unjoined.Tie as tie
 

@@ -4,9 +4,10 @@ use Prim.Native.Nat.{ℕ, _≤_, _<_, _+_, _-_}
 use mathlib.Core.Path.{_≡_, _∙_, refl}
 use mathlib.Core.List.{List}
 use native.Mathlib.Omega.{arith}
-use lib.ListN.{length, getD, set, length-set}
-use lib.Seq.{drop-set-lt}
+use lib.ListN.{length, getD, set}
 use Rattle.lists.proofs.AfterStore.{at-or-not, after-store}
+use Rattle.lists.proofs.Put.{only-first-length}
+use Rattle.lists.proofs.OnlyFirst.{only-first-none, only-first-store, only-first-on}
 use Rattle.matching.specs.Marks.{Cleared, Marks}
 use Rattle.matching.proofs.deficient.mark.Statement.{statement}
 use Rattle.matching.proofs.deficient.mark.Tie as tie
@@ -19,25 +20,30 @@ abbrev μ-loop : tie.MeasureT-loop
 μ-loop p parts t out₀ a₀ out a = t - a
 
 none-marked : {p : ℕ} {parts before out : List ℕ} → Cleared p before out → Marks p 0 parts out out
-none-marked z =
+none-marked {p} {out = out} z =
     record {
       mark = λ k h. omega (arith, z .zeros k h);
       all = λ a h. absurd (omega arith);
       only = λ k h one. absurd (omega (arith, z .zeros k h));
-      rest = refl;
-      size = refl;
+      others = only-first-none p out;
     }
 
-one-more : {p a : ℕ} {parts before out : List ℕ} → Marks p a parts before out → p ≤ length out → getD parts a 0 < p → Marks p (a + 1) parts before (set out (getD parts a 0) 1)
+one-more : {p a : ℕ} {parts before out : List ℕ} → Marks p a parts before out → p ≤ length out → getD parts a 0 < p
+    → Marks p (a + 1) parts before (set out (getD parts a 0) 1)
 one-more {p} {a} {parts} {before} {out} m fits is-part =
     let part = getD parts a 0 in
     let within : part < length out = omega arith in
     record {
       mark = λ k h. after-store (λ _ b. b < 2) out part 1 k within (omega arith) (λ _. m .mark k h);
-      all = λ b h. after-store (λ _ v. v ≡ 1) out part 1 (getD parts b 0) within refl (λ ne. m .all b (at-or-not (λ x. x < a + 1 → (getD parts x 0 ≡ part → ⊥) → x < a) a b (λ _ away. absurd (away refl)) (λ off h _. omega arith) h ne));
-      only = λ k h. after-store (λ k v. k < p → v ≡ 1 → (b : ℕ) × (b < a + 1) × (getD parts b 0 ≡ k)) out part 1 k within (λ _ _. (a, omega arith, refl)) (λ _ h one. let o = m .only k h one in (o .0, omega arith, o .2)) h;
-      rest = drop-set-lt p out part 1 is-part ∙ m .rest;
-      size = length-set out part 1 ∙ m .size;
+      all =
+          λ b h.
+          after-store (λ _ v. v ≡ 1) out part 1 (getD parts b 0) within refl
+          (λ ne. m .all b (at-or-not (λ x. x < a + 1 → (getD parts x 0 ≡ part → ⊥) → x < a) a b (λ _ away. absurd (away refl)) (λ off h _. omega arith) h ne));
+      only =
+          λ k h.
+          after-store (λ k v. k < p → v ≡ 1 → (b : ℕ) × (b < a + 1) × (getD parts b 0 ≡ k)) out part 1 k within (λ _ _. (a, omega arith, refl))
+          (λ _ h one. let o = m .only k h one in (o .0, omega arith, o .2)) h;
+      others = only-first-store (m .others) part 1 is-part;
     }
 
 clear-requires : tie.Need-clear-requires Inv-loop μ-loop
@@ -52,12 +58,24 @@ mul-out c = omega arith
 element-copy-out-out : tie.Need-element-copy-out-out Inv-loop μ-loop
 element-copy-out-out c = omega arith
 
+-- Where a turn begins: the array has the length that it came with.
+module _ (t : tie.At-loop Inv-loop μ-loop) where
+  abbrev cleared : tie.After-clear Inv-loop μ-loop
+  cleared = t .before .before .before
+
+  abbrev start : tie.Start Inv-loop μ-loop
+  start = cleared .before .before .before
+
+  length-kept : length (t .loop .out) ≡ length (start .args .out .now)
+  length-kept = only-first-length (t .loop .inv .1 .others) ∙ only-first-length (cleared .clear .ensures .others)
+
 -- In a turn: the part to mark is one, and there is room for it.
-turn : (c : tie.In-loop Inv-loop μ-loop) → let a = c .before .before .before .before .before .before .before .args in
-    (getD (a .parts .now) (c .before .loop .a) 0 < a .p) × (a .p ≤ length (c .before .loop .out))
-turn c =
-    let start = c .before .before .before .before .before .before .before in
-    (start .pre .below (c .before .loop .a) (c .loop-test .taken), omega (arith, start .pre, c .before .before .before .before .clear .ensures, c .before .loop .inv))
+module _ (c : tie.In-loop Inv-loop μ-loop) where
+  abbrev s : tie.Start Inv-loop μ-loop
+  s = start (c .before)
+
+  turn : (getD (s .args .parts .now) (c .before .loop .a) 0 < s .args .p) × (s .args .p ≤ length (c .before .loop .out))
+  turn = (s .pre .below (c .before .loop .a) (c .loop-test .taken), omega (arith, s .pre, length-kept (c .before)))
 
 slice-write-out : tie.Need-slice-write-out Inv-loop μ-loop
 slice-write-out c = omega (arith, turn (c .before))
@@ -72,18 +90,16 @@ loop-again : tie.Need-loop-again Inv-loop μ-loop
 loop-again c = (omega arith, one-more (c .before .before .loop .inv .1) (turn (c .before) .1) (turn (c .before) .0))
 
 same-length : tie.Need-same-length Inv-loop μ-loop
-same-length c = omega (arith, c .before .before .before .before .clear .ensures)
+same-length c = length-kept (c .before)
 
 returns : tie.Need-returns Inv-loop μ-loop
 returns c =
-    let cleared = c .before .before .before .before .clear .ensures in
     let marks = c .before .loop .inv .1 in
     record {
       mark = marks .mark;
       all = λ a h. marks .all a (omega arith);
       only = λ k h one. let o = marks .only k h one in (o .0, omega arith, o .2);
-      rest = marks .rest ∙ cleared .rest;
-      size = marks .size ∙ cleared .size;
+      others = only-first-on (cleared (c .before) .clear .ensures .others) (marks .others);
     }
 
 pub mark-spec : {M : Type 1} → statement M

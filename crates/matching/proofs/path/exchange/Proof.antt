@@ -1,7 +1,9 @@
 -- `exchange` meets its contract: each turn is one of `Exchanging`, and the place falls with each.
 -- Assumes nothing.
+use mathlib.Core.Path.{_≡_}
 use native.Mathlib.Omega.{arith}
-use lib.ListN.{length-set}
+use lib.ListN.{length, length-set}
+use Rattle.lists.proofs.Put.{only-first-length}
 use Rattle.matching.specs.State.{Place}
 use Rattle.matching.proofs.Exchanging.{Exchanging, exchange-start, exchange-turn, exchange-end, here}
 use Rattle.matching.proofs.path.exchange.Statement.{statement}
@@ -13,12 +15,21 @@ Inv-loop i j parts via from owner₀ out₀ root₀ place₀ owner out root plac
 abbrev μ-loop : tie.MeasureT-loop
 μ-loop i j parts via from owner₀ out₀ root₀ place₀ owner out root place = place
 
+-- Where a turn begins: the array has the length that it came with.
+module _ (t : tie.At-loop Inv-loop μ-loop) where
+  abbrev start : tie.Start Inv-loop μ-loop
+  start = t .before .before
+
+  length-kept : length (t .loop .out) ≡ length (start .args .out .now)
+  length-kept = only-first-length (t .loop .inv .others)
+
 -- In a turn: the place of the part that gets the vacant root.
-turn : (c : tie.In-loop Inv-loop μ-loop) → let a = c .before .before .before .args in
-    Place (a .i) (c .before .loop .owner) (a .parts .now) (a .via .now) (a .from .now) (c .before .loop .place)
-turn c =
-    let pre = c .before .before .before .pre in
-    here (c .before .loop .inv) (pre .few) (pre .fits) (c .loop-test .taken)
+module _ (c : tie.In-loop Inv-loop μ-loop) where
+  abbrev s : tie.Start Inv-loop μ-loop
+  s = start (c .before)
+
+  turn : Place (s .args .i) (c .before .loop .owner) (s .args .parts .now) (s .args .via .now) (s .args .from .now) (c .before .loop .place)
+  turn = here (c .before .loop .inv) (s .pre .few) (s .pre .fits) (c .loop-test .taken)
 
 mul-place : tie.Need-mul-place Inv-loop μ-loop
 mul-place c = omega arith
@@ -39,7 +50,7 @@ cast-out : tie.Need-cast-out Inv-loop μ-loop
 cast-out c = omega arith
 
 slice-write-out : tie.Need-slice-write-out Inv-loop μ-loop
-slice-write-out c = omega (arith, turn (c .before))
+slice-write-out c = omega (arith, turn (c .before), length-kept (c .before .before))
 
 mul-owner : tie.Need-mul-owner Inv-loop μ-loop
 mul-owner c = omega arith
@@ -64,15 +75,14 @@ loop-less c = omega (arith, turn (c .before .before .before))
 
 loop-again : tie.Need-loop-again Inv-loop μ-loop
 loop-again c =
-    let at-test = c .before .before .before in
-    let pre = at-test .before .before .before .pre in
-    exchange-turn (at-test .before .loop .inv) (pre .few) (pre .fits) (at-test .loop-test .taken)
+    let t = c .before .before .before in
+    exchange-turn (t .before .loop .inv) (s t .pre .few) (s t .pre .fits) (t .loop-test .taken)
 
 cast-out-2 : tie.Need-cast-out-2 Inv-loop μ-loop
 cast-out-2 c = omega arith
 
 slice-write-out-2 : tie.Need-slice-write-out-2 Inv-loop μ-loop
-slice-write-out-2 c = omega arith
+slice-write-out-2 c = omega (arith, length-kept (c .before))
 
 mul-owner-2 : tie.Need-mul-owner-2 Inv-loop μ-loop
 mul-owner-2 c = omega arith
@@ -81,11 +91,11 @@ element-write-owner-2 : tie.Need-element-write-owner-2 Inv-loop μ-loop
 element-write-owner-2 c = omega arith
 
 same-length : tie.Need-same-length Inv-loop μ-loop
-same-length c = simp length-set (omega arith)
+same-length c = simp length-set (length-kept (c .before))
 
 returns : tie.Need-returns Inv-loop μ-loop
 returns c =
-    let pre = c .before .before .before .pre in
+    let pre = start (c .before) .pre in
     exchange-end (c .before .loop .inv) (pre .few) (pre .fits) (c .loop-test .left)
 
 pub exchange-spec : {M : Type 1} → statement M

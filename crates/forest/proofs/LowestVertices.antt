@@ -1,4 +1,5 @@
--- The lowest vertices, as loops find them: what is left of the search from a vertex on.
+-- The lowest vertex joined to no root, whether a vertex is joined to a lower one, and the lowest vertex of each component, as loops over
+-- the vertices find them.
 -- Assumes nothing.
 use Prim.Native.Nat.{ℕ, _+_, _-_, _≤_, _<_}
 use mathlib.Core.Path.{_≡_, refl, sym, ap, _∙_}
@@ -7,30 +8,20 @@ use mathlib.Core.List.{List}
 use mathlib.Core.Option.{Option}
 use native.Mathlib.Omega.{arith}
 use lib.ListN.{length, getD, set, length-set}
-use borrow.Author.Tests.{eq-eqb, ne-eqb}
 use Rattle.lists.specs.Count.{anyBelow}
 use Rattle.lists.specs.Lists.{filter, firstThat}
+use Rattle.lists.proofs.NextPlace.{belowFrom, numbers-all, numbers-next, numbers-none, filter-taken, filter-passed, any-below-next}
+use Rattle.lists.proofs.PutOneByOne.{Putting, putting-none, putting-same, putting-more, putting-all}
 use Rattle.rules.specs.Labels.{Labels, joined}
 use Rattle.rules.specs.Forest.{unjoined, lowest}
 use Rattle.forest.specs.Arrays.{Agrees}
 use Rattle.forest.specs.Lowest.{vertexIn, Unjoined, JoinedBelow, Components}
 use Rattle.forest.specs.declared.lowest.Found.{Found}
-use Rattle.forest.proofs.Rest.{numbersFrom, numbers-all, numbers-next, numbers-none, filter-taken, filter-passed, any-below-next}
-use Rattle.forest.proofs.Writing.{Writing, writing-none, writing-same, writing-more, writing-all}
-
--- Where an array agrees with labels, equal elements are equal labels.
-module _ {n : ℕ} (array : List ℕ) (label : Labels) (agrees : Agrees n array label) (u v : ℕ) (hu : u < n) (hv : v < n) where
-  pub joined-yes : getD array u 0 ≡ getD array v 0 → joined label u v ≡ true
-  unfolding joined
-  joined-yes q = eq-eqb (label u) (label v) (sym (agrees u hu) ∙ q ∙ agrees v hv)
-
-  pub joined-no : (getD array u 0 ≡ getD array v 0 → ⊥) → joined label u v ≡ false
-  unfolding joined
-  joined-no d = ne-eqb (label u) (label v) (λ q. d (agrees u hu ∙ q ∙ sym (agrees v hv)))
+use Rattle.forest.proofs.Labelling.{joined-yes, joined-no}
 
 -- The first of the numbers below n that is not joined to the root, from v on.
 abbrev pub unjoinedFrom : Labels → ℕ → ℕ → ℕ → Option ℕ
-unjoinedFrom label n root v = firstThat (λ u. not (joined label root u)) (numbersFrom n v)
+unjoinedFrom label n root v = firstThat (λ u. not (joined label root u)) (belowFrom n v)
 
 -- From v on the first is the first of all.
 pub record Looking (array : List ℕ) (n root v : ℕ) : Type 0 where
@@ -102,12 +93,12 @@ pub record Listing (array : List ℕ) (n v : ℕ) (before after : List ℕ) (r :
   pub few : r ≤ v
   pub within : v ≤ n
   pub same : length after ≡ length before
-  pub writing : (label : Labels) → Agrees n array label
-      → Writing (filter (isLowest label) (numbersFrom n 0)) (filter (isLowest label) (numbersFrom n v)) before after r
+  pub putting : (label : Labels) → Agrees n array label
+      → Putting 0 (filter (isLowest label) (belowFrom n 0)) (filter (isLowest label) (belowFrom n v)) before after r
 
 module _ {array : List ℕ} {n : ℕ} where
   pub listing-none : (before : List ℕ) → Listing array n 0 before before 0
-  listing-none before = record { few = omega arith; within = omega arith; same = refl; writing = λ label a. writing-none before }
+  listing-none before = record { few = omega arith; within = omega arith; same = refl; putting = λ label a. putting-none before 0 (omega arith) }
 
   module _ {v : ℕ} {before after : List ℕ} {r : ℕ} (l : Listing array n v before after r) where
     module _ (h : v < n) where
@@ -117,7 +108,10 @@ module _ {array : List ℕ} {n : ℕ} where
             few = omega arith;
             within = omega arith;
             same = l .same;
-            writing = λ label a. writing-same (l .writing label a) (filter-passed (isLowest label) (numbers-next n v h) (ap not (sym (j .is n label h a))));
+            putting =
+                λ label a.
+                putting-same (l .putting label a)
+                (filter-passed (isLowest label) (numbers-next n v h) (ap not (sym (j .is n label h a))));
           }
 
       pub listing-more : JoinedBelow array v false → r < length after → Listing array n (v + 1) before (set after r v) (r + 1)
@@ -126,7 +120,10 @@ module _ {array : List ℕ} {n : ℕ} where
             few = omega arith;
             within = omega arith;
             same = length-set after r v ∙ l .same;
-            writing = λ label a. writing-more (l .writing label a) (filter-taken (isLowest label) (numbers-next n v h) (ap not (sym (j .is n label h a)))) room;
+            putting =
+                λ label a.
+                putting-more (l .putting label a)
+                (filter-taken (isLowest label) (numbers-next n v h) (ap not (sym (j .is n label h a)))) room;
           }
 
     pub listing-all : n ≤ v → Components array n before after r
@@ -134,5 +131,5 @@ module _ {array : List ℕ} {n : ℕ} where
     listing-all h =
         record {
           few = omega arith;
-          are = λ g label vertices a. rw (vertices, numbers-all n) (writing-all (l .writing label a) (rw (numbers-none n v h)));
+          are = λ g label vertices a. rw (vertices, numbers-all n) (putting-all (l .putting label a) (rw (numbers-none n v h)));
         }

@@ -1,4 +1,4 @@
--- The edges within a limit, edge by edge.
+-- The edges within a limit: of edges that stand by weight they are the first, and of any edges they are written one by one.
 -- Assumes nothing.
 use Prim.Native.Nat.{ℕ, _+_, _≤_, _<_}
 use mathlib.Core.Path.{_≡_, refl, sym, ap, _∙_}
@@ -12,12 +12,12 @@ use borrow.Author.Tests.{le-leb, lt-leb}
 use Rattle.lists.specs.Lists.{filter}
 use Rattle.lists.specs.Member.{_∈_}
 use Rattle.lists.proofs.Filters.{filter-none}
+use Rattle.lists.proofs.NextPlace.{rest-next, rest-none, filter-taken, filter-passed}
+use Rattle.lists.proofs.PutOneByOne.{Putting, putting-none, putting-same, putting-more, putting-all}
 use Rattle.lists.proofs.InOrder.{first-before, rest-in-order}
 use Rattle.graph.specs.Graph.{Graph, weightOf}
-use Rattle.forest_laws.proofs.Lightest.{ByWeight}
+use Rattle.rules.specs.Order.{ByWeight}
 use Rattle.forest.specs.Light.{lightOf, LightFront, LightWritten}
-use Rattle.forest.proofs.Rest.{rest-next, rest-none, filter-taken, filter-passed}
-use Rattle.forest.proofs.Writing.{Writing, writing-none, writing-same, writing-more, writing-all}
 
 module _ (g : Graph) (limit : ℕ) where
   -- of edges that stand by weight none is within the limit where the first is not
@@ -71,11 +71,11 @@ module _ {g : Graph} {limit : ℕ} {edges : List ℕ} where
 pub record Sifting (g : Graph) (limit : ℕ) (edges : List ℕ) (i : ℕ) (before after : List ℕ) (r : ℕ) : Type 0 where
   pub few : r ≤ i
   pub within : i ≤ length edges
-  pub writing : Writing (lightOf g limit edges) (lightOf g limit (drop i edges)) before after r
+  pub putting : Putting 0 (lightOf g limit edges) (lightOf g limit (drop i edges)) before after r
 
 module _ {g : Graph} {limit : ℕ} {edges : List ℕ} where
   pub sifting-none : (before : List ℕ) → Sifting g limit edges 0 before before 0
-  sifting-none before = record { few = omega arith; within = omega arith; writing = writing-none before }
+  sifting-none before = record { few = omega arith; within = omega arith; putting = putting-none before 0 (omega arith) }
 
   module _ {i : ℕ} {before after : List ℕ} {r : ℕ} (s : Sifting g limit edges i before after r) where
     module _ (h : i < length edges) where
@@ -84,7 +84,9 @@ module _ {g : Graph} {limit : ℕ} {edges : List ℕ} where
           record {
             few = omega arith;
             within = omega arith;
-            writing = writing-same (s .writing) (filter-passed (λ e. leb (weightOf g e) limit) (rest-next edges i h) (lt-leb (weightOf g (getD edges i 0)) limit heavy));
+            putting =
+                putting-same (s .putting)
+                (filter-passed (λ e. leb (weightOf g e) limit) (rest-next edges i h) (lt-leb (weightOf g (getD edges i 0)) limit heavy));
           }
 
       pub sifting-more : weightOf g (getD edges i 0) ≤ limit → r < length after → Sifting g limit edges (i + 1) before (set after r (getD edges i 0)) (r + 1)
@@ -92,9 +94,11 @@ module _ {g : Graph} {limit : ℕ} {edges : List ℕ} where
           record {
             few = omega arith;
             within = omega arith;
-            writing = writing-more (s .writing) (filter-taken (λ e. leb (weightOf g e) limit) (rest-next edges i h) (le-leb (weightOf g (getD edges i 0)) limit light)) room;
+            putting =
+                putting-more (s .putting)
+                (filter-taken (λ e. leb (weightOf g e) limit) (rest-next edges i h) (le-leb (weightOf g (getD edges i 0)) limit light)) room;
           }
 
     pub sifting-all : length edges ≤ i → LightWritten g limit edges before after r
     unfolding filter
-    sifting-all h = record { few = omega arith; edges-are = writing-all (s .writing) (ap (lightOf g limit) (rest-none edges i h)) }
+    sifting-all h = record { few = omega arith; edges-are = putting-all (s .putting) (ap (lightOf g limit) (rest-none edges i h)) }

@@ -1,0 +1,64 @@
+-- Only the first n elements of an array changed, exactly where the array keeps its length and what stands behind them; so it is after
+-- no change, after one more store among them, and after one change behind the other.
+-- Assumes nothing.
+use Prim.Native.Nat.{ℕ, _+_, _-_, _≤_, _<_}
+use mathlib.Core.Path.{_≡_, refl, sym, ap, _∙_}
+use mathlib.Core.Logic.{dite}
+use mathlib.Core.List.{List, [], _++_, append-nil}
+use native.Mathlib.Decide.{decLe}
+use native.Mathlib.Omega.{arith}
+use lib.ListN.{length, take, drop, set, length-set, drop-of-length-le}
+use lib.Seq.{take-all, drop-drop, drop-set-lt}
+use Rattle.lists.specs.Put.{OnlyFirst}
+use Rattle.lists.proofs.Put.{only-first, only-first-length, only-first-rest}
+
+module _ {A : Type 0} where
+  -- nothing is left of a list behind its end
+  none-behind : (a : List A) (k : ℕ) → length a ≤ k → drop k a ≡ []
+  none-behind a k h = drop-of-length-le a h
+
+  module _ (n : ℕ) {a b : List A} where
+    -- an array that is not longer than n may have changed everywhere
+    all-first : length a ≤ n → length b ≡ length a → OnlyFirst n a b
+    all-first h same =
+        record {
+          put =
+              rw (take-all n b (omega arith))
+              (record { room = omega arith; is = sym (ap (λ l. b ++ l) (none-behind a (0 + length b) (omega arith)) ∙ append-nil b) });
+        }
+
+    -- The array keeps its length and what stands behind the first n elements: only these may have changed.
+    pub is-only-first : length b ≡ length a → drop n b ≡ drop n a → OnlyFirst n a b
+    is-only-first same rest = dite (decLe n (length a)) (λ h. only-first n h same rest) (λ h. all-first (omega arith) same)
+
+    -- The other way round.
+    pub only-first-behind : OnlyFirst n a b → drop n b ≡ drop n a
+    only-first-behind o =
+        dite (decLe n (length a)) (only-first-rest o)
+        (λ h. none-behind b n (omega (arith, only-first-length o)) ∙ sym (none-behind a n (omega arith)))
+
+  -- Nothing changed.
+  pub only-first-none : (n : ℕ) (a : List A) → OnlyFirst n a a
+  only-first-none n a = is-only-first n refl refl
+
+  module _ {n : ℕ} {a b : List A} (o : OnlyFirst n a b) where
+    -- One store more among them.
+    pub only-first-store : (i : ℕ) (x : A) → i < n → OnlyFirst n a (set b i x)
+    only-first-store i x h =
+        is-only-first n (length-set b i x ∙ only-first-length o) (drop-set-lt n b i x h ∙ only-first-behind n o)
+
+    -- One change more.
+    pub only-first-on : {c : List A} → OnlyFirst n b c → OnlyFirst n a c
+    only-first-on p =
+        is-only-first n (only-first-length p ∙ only-first-length o) (only-first-behind n p ∙ only-first-behind n o)
+
+    -- Where only the first n changed, only the first m did that are no fewer.
+    pub only-first-of-more : (m : ℕ) → n ≤ m → OnlyFirst m a b
+    only-first-of-more m h =
+        let q : m ≡ n + (m - n) = omega arith in
+        is-only-first m (only-first-length o)
+        (ap (λ k. drop k b) q
+        ∙ sym (drop-drop (m - n) n b)
+        ∙ ap (drop (m - n)) (only-first-behind n o)
+        ∙ drop-drop (m - n) n a
+        ∙ ap (λ k. drop k a) (sym q))
