@@ -5,6 +5,8 @@ pub mod EdgeMarks
 pub mod UnionEdges
 -- an element inserted in place, and a list sorted so
 pub mod Insertion
+-- sorting by images, and by an array of keys
+pub mod SortedImages
 -- where an element of a row stands
 pub mod RowPlaces
 -- the nearest of vertices looked at one after the other

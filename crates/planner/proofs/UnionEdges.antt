@@ -4,10 +4,11 @@ use Prim.Native.Nat.{ℕ, _<_}
 use mathlib.Core.Path.{_≡_, refl, ap, _∙_}
 use mathlib.Core.Bool.{Bool, true, false, cond}
 use mathlib.Core.List.{List, []}
-use lib.ListN.{getD}
+use lib.ListN.{getD, take}
 use lib.Dec.{eqb}
 use Rattle.lists.specs.Lists.{filter, any, member}
 use Rattle.lists.specs.Sort.{rise}
+use Rattle.lists.proofs.Put.{put-taken}
 use Rattle.lists.proofs.SameTests.{filter-same}
 use Rattle.graph.specs.Graph.{Graph, edgeCount}
 use Rattle.matching.specs.Assignment.{marked}
@@ -16,6 +17,7 @@ use Rattle.rules.specs.Labels.{apart, together}
 use Rattle.rules.specs.Forest.{keep}
 use Rattle.rules.specs.RootedTrial.{unionTree}
 use Rattle.forest_laws.proofs.Ordering.{of-ordered}
+use Rattle.planner.specs.Union.{UnionKept}
 
 -- Where no vertices are joined from the start, each is its own label.
 pub none-together : (v : ℕ) → together [] v ≡ apart v
@@ -34,3 +36,8 @@ module _ (g : Graph) (root : ℕ) (union marks : List ℕ) where
       ap (λ l. rise (keep g apart l))
       (filter-same (marked marks) (λ e. member e union) (ordered g)
       (λ e m. ap (λ x. eqb x 1) (q e (of-ordered g m)) ∙ mark-says (member e union)))
+
+  -- So the edges that were written are the tree's, once they rise.
+  pub union-written : ((e : ℕ) → e < edgeCount g → getD marks e 0 ≡ cond (member e union) 1 0)
+      → {before after : List ℕ} {r : ℕ} → UnionKept g (ordered g) marks before after r → rise (take r after) ≡ unionTree g root union .edges
+  union-written q k = ap rise (put-taken (k .kept)) ∙ union-edges q

@@ -3,8 +3,6 @@
 use forest::index::wide;
 ghost use mathlib.Core.Path.{_≡_};
 ghost use mathlib.Core.Bool.{cond};
-ghost use Prim.Native.Nat.{_+_, _*_, _<_};
-ghost use lib.ListN.{length};
 ghost use lib.Dec.{ltb};
 ghost use Rattle.graph.specs.Bytes.{graphOf};
 ghost use Rattle.planner.specs.Near.{distanceIn, treeOf};

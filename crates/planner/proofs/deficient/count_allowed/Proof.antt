@@ -1,8 +1,8 @@
 -- `planner::deficient::count_allowed` meets its contract. The loop's invariant: r counts the roots before j that are allowed to some marked
 -- part. The measure is how many roots are left. Assumes nothing.
 use Prim.Native.Nat.{ℕ, _+_, _-_, _≤_}
-use mathlib.Core.Path.{_≡_, refl, sym, ap, _∙_}
-use mathlib.Core.Bool.{Bool, true, false, _&&_, cond}
+use mathlib.Core.Path.{_≡_, refl, sym, _∙_}
+use mathlib.Core.Bool.{Bool, _&&_, cond}
 use mathlib.Core.List.{List}
 use native.Mathlib.Numerals.{add-one}
 use native.Mathlib.Omega.{arith}
@@ -29,19 +29,21 @@ count-more : (f : ℕ → Bool) (j : ℕ) {t : Bool} → f j ≡ t → count (j 
 unfolding count
 count-more f j q = rw (add-one, q)
 
--- Where a root was looked at.
-module _ (m : tie.After-some-allows Inv-loop μ-loop) where
-  abbrev l : tie.At-loop Inv-loop μ-loop
-  l = m .before .before
-
+-- What came, and the test of a root.
+module _ (l : tie.At-loop Inv-loop μ-loop) where
   abbrev s : tie.Start Inv-loop μ-loop
   s = l .before .before .before
 
   abbrev test : ℕ → Bool
   test = someAllows (s .args .rows .now) (s .args .marks .now) (s .args .p) (s .args .k)
 
-  more : {t : Bool} → m .some-allows .result ≡ t → count (l .loop .j + 1) test ≡ cond t 1 0 + count (l .loop .j) test
-  more q = count-more test (l .loop .j) (sym (m .some-allows .ensures) ∙ q)
+-- Where a root was looked at.
+module _ (m : tie.After-some-allows Inv-loop μ-loop) where
+  abbrev l : tie.At-loop Inv-loop μ-loop
+  l = m .before .before
+
+  more : {t : Bool} → m .some-allows .result ≡ t → count (l .loop .j + 1) (test l) ≡ cond t 1 0 + count (l .loop .j) (test l)
+  more q = count-more (test l) (l .loop .j) (sym (m .some-allows .ensures) ∙ q)
 
 loop-holds : tie.Need-loop-holds Inv-loop μ-loop
 unfolding count
@@ -54,7 +56,7 @@ add-j : tie.Need-add-j Inv-loop μ-loop
 add-j c = search needs
 
 add-r : tie.Need-add-r Inv-loop μ-loop
-add-r c = let m = c .before in omega (arith, l m .loop .inv, count-bounded (l m .loop .j) (test m))
+add-r c = let m = c .before in omega (arith, l m .loop .inv, count-bounded (l m .loop .j) (test (l m)))
 
 loop-less : tie.Need-loop-less Inv-loop μ-loop
 loop-less c = search needs
@@ -70,9 +72,9 @@ loop-again-2 c = let m = c .before in record { within = omega arith; counted = o
 
 returns : tie.Need-returns Inv-loop μ-loop
 returns c =
-    let v = c .before .loop .inv in
-    let all : c .before .loop .j ≡ c .before .before .before .before .args .k = omega (arith, c .loop-test .left, v .within) in
-    rw all at (v .counted)
+    let l = c .before in
+    let all : l .loop .j ≡ s l .args .k = omega (arith, c .loop-test .left, l .loop .inv .within) in
+    rw all at (l .loop .inv .counted)
 
 pub count-allowed-spec : {M : Type 1} → statement M
 count-allowed-spec =

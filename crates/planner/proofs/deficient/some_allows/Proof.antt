@@ -1,7 +1,7 @@
 -- `planner::deficient::some_allows` meets its contract. The loop's invariant: the root is allowed to some marked part exactly where it is
 -- allowed to one below i. The measure is i. Assumes nothing.
 use Prim.Native.Nat.{ℕ, _+_, _*_, _-_, _≤_, _<_}
-use mathlib.Core.Path.{_≡_, refl, sym, ap, _∙_}
+use mathlib.Core.Path.{_≡_, refl, sym, _∙_}
 use mathlib.Core.Bool.{Bool, true, false, _&&_, _||_}
 use mathlib.Core.List.{List}
 use native.Mathlib.Omega.{arith}

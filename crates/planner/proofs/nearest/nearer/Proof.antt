@@ -1,5 +1,4 @@
 -- `planner::nearest::nearer` meets its contract: the definition takes the arm that the test says. Assumes nothing.
-use native.Mathlib.Omega.{arith}
 use borrow.Author.Needs.{needs}
 use borrow.Author.Tests.{lt-ltb, le-ltb}
 use Rattle.planner.specs.Near.{distanceIn}

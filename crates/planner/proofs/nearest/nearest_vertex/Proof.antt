@@ -1,9 +1,7 @@
 -- `planner::nearest::nearest_vertex` meets its contract. The loop's invariant: v is a vertex of the part, and neither the start nor an end
 -- of an edge before i is nearer. The measure is how many edges are left. Assumes nothing.
 use Prim.Native.Nat.{ℕ, _+_, _*_, _-_, _<_}
-use mathlib.Core.Path.{_≡_, sym, ap, _∙_}
-use mathlib.Core.List.{List}
-use native.Mathlib.Omega.{arith}
+use mathlib.Core.Path.{_≡_, ap, _∙_}
 use lib.ListN.{length, getD}
 use borrow.Author.Needs.{needs}
 use Rattle.graph.specs.Graph.{Graph, oneEnd, otherEnd}

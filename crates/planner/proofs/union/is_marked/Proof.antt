@@ -1,6 +1,5 @@
 -- `planner::union::is_marked` meets its contract: past the end of the marks there is 0. Assumes nothing.
 use mathlib.Core.Path.{_≡_, sym, ap}
-use native.Mathlib.Omega.{arith}
 use lib.ListN.{getD, List·getD-eq-default}
 use lib.Dec.{eqb}
 use borrow.Author.Needs.{needs}

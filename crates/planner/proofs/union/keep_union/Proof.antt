@@ -7,13 +7,11 @@ use native.Mathlib.Omega.{arith}
 use lib.ListN.{length, take}
 use borrow.Author.Needs.{needs}
 use Rattle.lists.specs.Lists.{filter}
-use Rattle.lists.specs.Put.{PutTo}
 use Rattle.lists.proofs.Put.{put-count, put-taken}
 use Rattle.graph.specs.Graph.{Graph}
 use Rattle.graph.specs.Bytes.{graphOf}
 use Rattle.matching.specs.Assignment.{marked}
 use Rattle.rules.specs.Labels.{apart}
-use Rattle.rules.specs.Forest.{keep}
 use Rattle.forest.specs.Arrays.{Agrees}
 use Rattle.planner.proofs.UnionEdges.{none-together}
 use Rattle.planner.proofs.union.keep_union.Statement.{statement}
@@ -53,6 +51,10 @@ module _ (l : tie.After-start-labels) where
   all-apart : Agrees (g t .vertices) label apart
   all-apart v h =
       l .start-labels .ensures .labels v (omega (arith, l .before .before .vertex-count .ensures .is)) ∙ none-together v
+
+-- Where the edges are kept.
+abbrev labelled : tie.After-keep-edges → tie.After-start-labels
+labelled k = k .before .before .before .before .before
 
 slice-aggregate-take-marked : tie.Need-slice-aggregate-take-marked
 slice-aggregate-take-marked c = search needs
@@ -98,7 +100,7 @@ same-length c = search needs
 returns : tie.Need-returns
 returns c =
     let k = c .before .before .before in
-    let l = k .before .before .before .before .before in
+    let l = labelled k in
     let kept = k .keep-edges .ensures in
     record { kept = rw (taken-are (t l)) at (kept .edges-are apart (all-apart l)); fewer = kept .fewer }
 
