@@ -2,3 +2,7 @@
 // The words of the contracts stand in specs/ and in the definitions of the crate `rules`.
 pub mod needs;
 pub mod whole;
+pub mod chosen;
+pub mod deficient;
+pub mod nearest;
+pub mod union;

@@ -1,0 +1,29 @@
+-- The edges of a union, marked, and those of them that are kept (document 01, step 6).
+-- Assumes nothing.
+use Prim.Native.Nat.{ℕ, _≤_, _<_}
+use mathlib.Core.List.{List}
+use lib.ListN.{length, getD}
+use Rattle.lists.specs.Lists.{filter}
+use Rattle.lists.specs.Put.{PutTo}
+use Rattle.graph.specs.Graph.{Graph}
+use Rattle.graph.specs.Bytes.{graphOf}
+use Rattle.graph.specs.Valid.{IsGraph}
+use Rattle.matching.specs.Assignment.{marked}
+use Rattle.rules.specs.Labels.{apart}
+use Rattle.rules.specs.Forest.{keep}
+
+-- Each number of the list is below n.
+pub record EachBelow (n : ℕ) (list : List ℕ) : Type 0 where
+  pub each : (i : ℕ) → i < length list → getD list i 0 < n
+
+-- What keeping the edges of a union asks: the bytes are a graph's, there are no more edges than a graph has at most, and there is room
+-- for an edge of each vertex.
+pub record UnionGiven (b order out : List ℕ) : Type 0 where
+  pub graph : IsGraph b
+  pub few : length order ≤ 2048
+  pub room : graphOf b .vertices ≤ length out
+
+-- The marked edges of the order, "kept if their ends are not yet joined", were written, r of them.
+pub record UnionKept (g : Graph) (order marks before after : List ℕ) (r : ℕ) : Type 0 where
+  pub kept : PutTo 0 (keep g apart (filter (marked marks) order)) before after r
+  pub fewer : r < g .vertices
