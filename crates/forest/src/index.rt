@@ -4,7 +4,7 @@ ghost use Rattle.graph.specs.Graph.{weightOf};
 ghost use Rattle.graph.specs.Bytes.{graphOf, Reads};
 
 // An element as an index.
-pub(crate) fn wide(x: u16) -> usize
+pub fn wide(x: u16) -> usize
     ensures { λ r. ⌜ Reads x (2 ^ 16) r ⌝ }
 {
     x as usize

@@ -3,7 +3,7 @@
 // Index arrays are lent by the caller as slices of u16; the graph is read from its bytes.
 // The words of the contracts stand in specs/ and in the definitions of the crate `rules`.
 pub mod arc;
-mod index;
+pub mod index;
 pub mod keep;
 pub mod labels;
 pub mod light;

@@ -47,3 +47,7 @@ pub mod Stores
 pub mod Put
 -- several lists in one array: one more bound adds one more list
 pub mod Segments
+-- some element of two lists passes a test
+pub mod AnyOn
+-- lists made for the elements up to a place and joined
+pub mod FlatOn
