@@ -111,3 +111,7 @@ pub mod FillingBy
 pub mod PutMapped
 -- an array of zeros
 pub mod Zeros
+-- some element of two lists passes a test
+pub mod AnyOn
+-- lists made for the elements up to a place and joined
+pub mod FlatOn

@@ -1,16 +1,15 @@
 -- What the contracts of `planner` say, in reading order.
 -- the forest of the whole graph, which serves all limits
 pub mod Whole
--- what the components need, and their lowest vertices
-pub mod Needs
--- What the contracts of the planner cite, in reading order.
 -- which roots are near a part
 pub mod Near
 -- the vertex of a part that is nearest to a root
 pub mod Nearest
 -- the edges of a union that are kept
 pub mod Union
--- trees in order of their keys
-pub mod Chosen
 -- the parts of a deficient set
 pub mod Deficient
+-- what the components need, and their lowest vertices
+pub mod Needs
+-- trees in order of their keys
+pub mod Chosen
