@@ -1,6 +1,7 @@
 -- Lists made for each element and joined: what stands there stands in the list of some element.
 -- Assumes nothing.
-use mathlib.Core.List.{List, map}
+use mathlib.Core.Path.{_≡_, sym, ap, _∙_}
+use mathlib.Core.List.{List, [], _∷_, _++_, map, append-nil, append-assoc}
 use Rattle.lists.specs.Lists.{flat}
 use Rattle.lists.specs.Member.{_∈_}
 use Rattle.lists.proofs.Member.{in-flat, of-flat, in-map, of-map}
@@ -14,3 +15,9 @@ module _ {ℓ κ} {A : Type ℓ} {B : Type κ} (f : A → List B) where
       let (l, i, n) = of-flat (map f xs) m in
       let (x, k, q) = of-map f xs i in
       (x, k, rw q at n)
+
+  -- One element more.
+  pub flat-map-more : (xs : List A) (x : A) → flat (map f (xs ++ (x ∷ []))) ≡ flat (map f xs) ++ f x
+  unfolding flat
+  flat-map-more [] x = append-nil (f x)
+  flat-map-more (y ∷ ys) x = ap (λ l. f y ++ l) (flat-map-more ys x) ∙ sym (append-assoc (f y) (flat (map f ys)) (f x))

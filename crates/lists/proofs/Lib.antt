@@ -47,3 +47,7 @@ pub mod Stores
 pub mod Put
 -- several lists in one array: one more bound adds one more list
 pub mod Segments
+-- arrays of which only the first elements changed, one change after the other
+pub mod Fronts
+-- every element up to the last bound stands in a segment
+pub mod SegmentOf

@@ -9,7 +9,7 @@ use Rattle.lists.specs.Count.{from, below}
 use Rattle.lists.specs.Member.{_∈_}
 
 -- A run of n numbers has n elements.
-length-from : (a n : ℕ) → length (from a n) ≡ n
+pub length-from : (a n : ℕ) → length (from a n) ≡ n
 unfolding from
 length-from a zero = refl
 length-from a (suc n) = ap suc (length-from (suc a) n)
