@@ -17,3 +17,5 @@ pub mod PiecesOf
 pub mod RootsSplit
 -- all roots done: what is promised
 pub mod ForestSplit
+-- for callers: the parts and the leftovers by number
+pub mod ByNumber

@@ -1,13 +1,13 @@
 -- The pieces of a forest's trees as one list: one tree more; every edge of a piece is one of the forest's; and, for whoever holds the pieces
 -- by number, the parts and the leftovers among them.
 -- Assumes nothing.
-use Prim.Native.Nat.{ℕ, suc, _+_, _-_}
+use Prim.Native.Nat.{ℕ, zero, suc, _+_, _<_}
 use mathlib.Core.Path.{_≡_, refl, sym, ap, ap₂, _∙_}
 use mathlib.Core.List.{List, [], _∷_, _++_, map, map-append, List·Memᴰ·append-cases, List·Memᴰ·eq-of-singleton}
 use mathlib.Core.Logic.{_⊎_, inl, inr}
 use native.Mathlib.Numerals.{add-one}
 use native.Mathlib.Omega.{arith}
-use lib.ListN.{length, take, drop, length-append, length-map}
+use lib.ListN.{length, getD, take, drop, length-append, length-map}
 use lib.Seq.{append-snoc, take-at, drop-at}
 use Rattle.lists.specs.Count.{from}
 use Rattle.lists.specs.Lists.{flat}
@@ -22,7 +22,16 @@ use Rattle.rules.specs.Grow.{Rooted, grow}
 use Rattle.rules.specs.Split.{Pieces, partAt, split, allParts}
 use Rattle.split_laws.proofs.Trees.{tree-hangs, tree-edge-known}
 use Rattle.split_laws.proofs.SplitTree.{tree-split}
-use Rattle.split.specs.Pieces.{leftOf, withLeft, piecesOf, leftPlaces, partPlaces}
+use Rattle.split.specs.Pieces.{leftOf, withLeft, piecesOf, leftPlaces, partPlaces, firstPiece}
+
+-- No pieces, past the last tree.
+abbrev pub noPieces : Pieces
+noPieces = record { parts = []; left = [] }
+
+-- The pieces f stand by number, the leftovers at the numbers `lefts`: the parts p of tree j stand from its first piece on, up to its leftover.
+pub record PartsOf (f : ℕ → Tree) (lefts : List ℕ) (first : ℕ) (p : Pieces) (j : ℕ) : Type 0 where
+  pub count : getD lefts j 0 ≡ firstPiece first lefts j + length (p .parts)
+  pub parts : map f (from (firstPiece first lefts j) (length (p .parts))) ≡ p .parts
 
 module _ (g : Graph) (H : ℕ) where
   -- The pieces of each tree.
@@ -38,6 +47,19 @@ module _ (g : Graph) (H : ℕ) where
   unfolding withLeft
   with-left-length t = length-append (split g H t .parts) (leftOf t (split g H t) ∷ [])
 
+  -- There are as many pieces as parts and trees.
+  pub pieces-length : (ts : List Rooted) → length (piecesFor ts) ≡ length (allParts (map (split g H) ts)) + length ts
+  unfolding allParts flat
+  pieces-length [] = refl
+  pieces-length (t ∷ ts) =
+      omega (
+        arith,
+        length-append (withLeft t (split g H t)) (piecesFor ts),
+        with-left-length t,
+        length-append (split g H t .parts) (allParts (map (split g H) ts)),
+        pieces-length ts,
+      )
+
   -- The leftover of one tree more has the number of the pieces before it.
   pub lefts-more : (ts : List Rooted) (t : Rooted) (first : ℕ)
       → leftPlaces first (map (split g H) (ts ++ (t ∷ [])))
@@ -51,16 +73,16 @@ module _ (g : Graph) (H : ℕ) where
       in
       ap (λ (l : List ℕ). (first + m) ∷ l) (lefts-more ts t (first + m + 1) ∙ ap (λ (k : ℕ). leftPlaces (first + m + 1) (map (split g H) ts) ++ (k ∷ [])) q)
 
-  module _ (f : ℕ → Tree) where
-    -- Pieces that stand by number from the first one on: the parts and the leftovers stand at their numbers.
-    record Placed (first : ℕ) (ts : List Rooted) : Type 0 where
-      parts-are : map f (partPlaces first (map (split g H) ts)) ≡ allParts (map (split g H) ts)
-      lefts-are : map f (leftPlaces first (map (split g H) ts)) ≡ map (λ (t : Rooted). leftOf t (split g H t)) ts
+  -- What the pieces that stand by number from the first one on are, of one tree and of those after it.
+  record FirstTree (f : ℕ → Tree) (first : ℕ) (t : Rooted) (ts : List Rooted) : Type 0 where
+    parts : map f (from first (length (split g H t .parts))) ≡ split g H t .parts
+    left : f (first + length (split g H t .parts)) ≡ leftOf t (split g H t)
+    rest : map f (from (first + length (split g H t .parts) + 1) (length (piecesFor ts))) ≡ piecesFor ts
 
-    placed : (ts : List Rooted) (first k : ℕ) → map f (from first k) ≡ piecesFor ts → Placed first ts
-    unfolding partPlaces leftPlaces allParts flat withLeft from
-    placed [] first k q = record { parts-are = refl; lefts-are = refl }
-    placed (t ∷ ts) first k q =
+  module _ (f : ℕ → Tree) where
+    first-tree : (t : Rooted) (ts : List Rooted) (first k : ℕ) → map f (from first k) ≡ piecesFor (t ∷ ts) → FirstTree f first t ts
+    unfolding flat withLeft from
+    first-tree t ts first k q =
         let p : Pieces = split g H t in
         let m : ℕ = length (p .parts) in
         let l : ℕ = length (piecesFor ts) in
@@ -73,19 +95,48 @@ module _ (g : Graph) (H : ℕ) where
         in
         let size : length (map f (from first m)) ≡ m = length-map (from first m) f ∙ length-from first m in
         let behind : List Tree = f (first + m) ∷ map f (from (suc (first + m)) l) in
-        let parts : map f (from first m) ≡ p .parts =
-        sym (take-at (map f (from first m)) behind m size) ∙ ap (take m) (sym run ∙ whole) ∙ take-at (p .parts) (leftOf t p ∷ piecesFor ts) m refl
-        in
         let others : f (first + m) ∷ map f (from (suc (first + m)) l) ≡ leftOf t p ∷ piecesFor ts =
         sym (drop-at (map f (from first m)) behind m size) ∙ ap (drop m) (sym run ∙ whole) ∙ drop-at (p .parts) (leftOf t p ∷ piecesFor ts) m refl
         in
-        let left : f (first + m) ≡ leftOf t p = cc in
         let rest : map f (from (suc (first + m)) l) ≡ piecesFor ts = cc in
-        let later = placed ts (first + m + 1) l (rw add-one rest) in
         record {
-          parts-are = map-append f (from first m) (partPlaces (first + m + 1) (map (split g H) ts)) ∙ ap₂ _++_ parts (later .parts-are);
-          lefts-are = ap₂ _∷_ left (later .lefts-are);
+          parts = sym (take-at (map f (from first m)) behind m size) ∙ ap (take m) (sym run ∙ whole) ∙ take-at (p .parts) (leftOf t p ∷ piecesFor ts) m refl;
+          left = cc;
+          rest = rw add-one rest;
         }
+
+    -- All parts stand at their numbers,
+    pub parts-placed : (ts : List Rooted) (first k : ℕ) → map f (from first k) ≡ piecesFor ts
+        → map f (partPlaces first (map (split g H) ts)) ≡ allParts (map (split g H) ts)
+    unfolding partPlaces allParts flat
+    parts-placed [] first k q = refl
+    parts-placed (t ∷ ts) first k q =
+        let x = first-tree t ts first k q in
+        let m : ℕ = length (split g H t .parts) in
+        map-append f (from first m) (partPlaces (first + m + 1) (map (split g H) ts))
+        ∙ ap₂ _++_ (x .parts) (parts-placed ts (first + m + 1) (length (piecesFor ts)) (x .rest))
+
+    -- and so do all leftovers.
+    pub lefts-placed : (ts : List Rooted) (first k : ℕ) → map f (from first k) ≡ piecesFor ts
+        → map f (leftPlaces first (map (split g H) ts)) ≡ map (λ (t : Rooted). leftOf t (split g H t)) ts
+    unfolding leftPlaces
+    lefts-placed [] first k q = refl
+    lefts-placed (t ∷ ts) first k q =
+        let x = first-tree t ts first k q in
+        ap₂ _∷_ (x .left) (lefts-placed ts (first + length (split g H t .parts) + 1) (length (piecesFor ts)) (x .rest))
+
+    -- The parts of tree j stand from its first piece on, up to its leftover.
+    pub tree-placed : (ts : List Rooted) (first k : ℕ) → map f (from first k) ≡ piecesFor ts → (j : ℕ) → j < length ts
+        → PartsOf f (leftPlaces first (map (split g H) ts)) first (getD (map (split g H) ts) j noPieces) j
+    unfolding leftPlaces firstPiece
+    tree-placed [] first k q j l = absurd (omega arith)
+    tree-placed (t ∷ ts) first k q zero l = record { count = refl; parts = first-tree t ts first k q .parts }
+    tree-placed (t ∷ ts) first k q (suc zero) l =
+        let x = tree-placed ts (first + length (split g H t .parts) + 1) (length (piecesFor ts)) (first-tree t ts first k q .rest) zero (omega arith) in
+        record { count = x .count; parts = x .parts }
+    tree-placed (t ∷ ts) first k q (suc (suc j)) l =
+        let x = tree-placed ts (first + length (split g H t .parts) + 1) (length (piecesFor ts)) (first-tree t ts first k q .rest) (suc j) (omega arith) in
+        record { count = x .count; parts = x .parts }
 
 -- Every edge of a piece is one of the forest's.
 pub piece-edge-known : (g : Graph) (H : ℕ) (edges roots : List ℕ) {p : Tree} {e : ℕ} → p ∈ piecesOf g H edges roots → e ∈ p .edges → e ∈ edges

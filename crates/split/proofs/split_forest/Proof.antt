@@ -32,13 +32,13 @@ split-of {m} {n} same x = let q : m ≡ n = same in rw q at x
 
 -- The entry, seen from the two arrays; and the call, seen from what it returns.
 abbrev entry : tie.After-passed → tie.Start
-entry c = c .before .before .before .before .before .before .before .before
+entry c = let d = c .before .before .before .before in d .before .before .before .before
 
 abbrev called : tie.After-split-roots-arg4 → tie.After-passed
-called c = c .before .before .before .before .before
+called c = let d = c .before .before .before .before in d .before
 
 abbrev returned : tie.After-slice-known8 → tie.After-split-roots
-returned c = c .before .before .before .before .before .before .before .before .before .before
+returned c = let d = c .before .before .before .before in let e = d .before .before .before .before in e .before .before
 
 array-borrow-prefix-passed : tie.Need-array-borrow-prefix-passed
 array-borrow-prefix-passed c = search needs

@@ -23,7 +23,7 @@ abbrev μ-loop : tie.MeasureT-loop
 
 -- The entry, seen from the first store.
 abbrev entry : tie.After-slice-known6 Inv-loop μ-loop → tie.Start Inv-loop μ-loop
-entry c = c .before .before .before .before .before .before .before .before .before
+entry c = let d = c .before .before .before .before in let e = d .before .before .before .before in e .before
 
 -- At a root: what was asked, that there is a root more, and that it is a vertex.
 module _ (c : tie.In-loop Inv-loop μ-loop) where
@@ -41,13 +41,13 @@ module _ (c : tie.In-loop Inv-loop μ-loop) where
 
 -- The root, seen from where its node is to be walked, was walked, and from its piece.
 abbrev called : tie.After-walk-node-arg5 Inv-loop μ-loop → tie.In-loop Inv-loop μ-loop
-called c = c .before .before .before .before .before .before
+called c = let d = c .before .before .before .before in d .before .before
 
 abbrev walked : tie.After-struct-known Inv-loop μ-loop → tie.After-walk-node Inv-loop μ-loop
-walked c = c .before .before .before .before .before .before .before .before .before .before .before
+walked c = let d = c .before .before .before .before in let e = d .before .before .before .before in e .before .before .before
 
 abbrev put : tie.After-slice-known14 Inv-loop μ-loop → tie.After-put-piece Inv-loop μ-loop
-put c = c .before .before .before .before .before .before
+put c = let d = c .before .before .before .before in d .before .before
 
 abbrev known : tie.After-put-piece-arg4 Inv-loop μ-loop → tie.After-struct-known Inv-loop μ-loop
 known c = c .before .before .before .before

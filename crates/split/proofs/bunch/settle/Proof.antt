@@ -8,16 +8,16 @@ use Rattle.split.proofs.bunch.settle.Tie as tie
 
 -- The places: the entry, seen from the first test; the first test, seen from the second; the two puts, seen from what they return.
 abbrev entry : tie.After-reaches → tie.Start
-entry c = c .before .before .before .before .before
+entry c = let d = c .before .before .before .before in d .before
 
 abbrev first-test : tie.After-reaches2 → tie.Else1
 first-test c = c .before .before .before
 
 abbrev first-put : tie.After-slice-known6 → tie.After-put-piece
-first-put c = c .before .before .before .before .before .before
+first-put c = let d = c .before .before .before .before in d .before .before
 
 abbrev second-put : tie.After-slice-known9 → tie.After-put-piece2
-second-put c = c .before .before .before .before .before .before
+second-put c = let d = c .before .before .before .before in d .before .before
 
 reaches-requires : tie.Need-reaches-requires
 reaches-requires c κs = search needs

@@ -11,6 +11,10 @@ use borrow.Author.Needs.{needs}
 use Rattle.split.proofs.piece.put_piece.Statement.{statement}
 use Rattle.split.proofs.piece.put_piece.Tie as tie
 
+-- The entry, seen from the copied edges.
+abbrev entry : tie.After-copy-edges → tie.Start
+entry c = let d = c .before .before .before .before in d .before .before
+
 sub-next : tie.Need-sub-next
 sub-next c = search needs
 
@@ -55,7 +59,7 @@ same-length-3 c = search needs
 
 returns : tie.Need-returns
 returns c =
-    let s = c .before .before .before .before .before .before .before .before in
+    let s = entry (c .before .before) in
     let p = s .pre in
     let edges : List ℕ = slice (s .args .from) (s .args .s .top) (s .args .stack .now) in
     let count : length edges ≡ s .args .s .top - s .args .from = length-slice (s .args .from) (s .args .s .top) (s .args .stack .now) (omega (arith, p .fits)) in

@@ -74,7 +74,7 @@ calls t = (
 module _ (t : ℕ) where
   -- The entry, seen from where the arrays are known, and from the loop.
   abbrev entry : list.After-slice-known5 (calls t) (list-at t) walk-children.Post Inv μ-loop → list.Start (calls t) (list-at t) walk-children.Post Inv μ-loop
-  entry c = c .before .before .before .before .before .before .before
+  entry c = let d = c .before .before .before .before in d .before .before .before
 
   abbrev asked : (c : list.At-loop (calls t) (list-at t) walk-children.Post Inv μ-loop) → list.Start (calls t) (list-at t) walk-children.Post Inv μ-loop
   asked c = entry (c .before .before .before)
@@ -118,18 +118,22 @@ module _ (t : ℕ) where
           new = eq-eqb (getD (loop head .loop .passed) (head .arc-head .result) 0) 0 (c .before .if1 .left);
         }
 
-  -- Once the child's node is walked: the edge read before, and the walk as one of all vertices.
+  -- The places at a child, each seen from a later one: the edge read, from the call of the node walk and from its answer; that answer,
+  -- from the weight read; the weight, from the call of `settle`; and its answer, from the end of the loop's body.
+  abbrev called : list.After-walk-node-arg5 (calls t) (list-at t) walk-children.Post Inv μ-loop → list.After-arc-edge (calls t) (list-at t) walk-children.Post Inv μ-loop
+  called c = let d = c .before .before .before .before in d .before
+
   abbrev edge : list.After-walk-node (calls t) (list-at t) walk-children.Post Inv μ-loop → list.After-arc-edge (calls t) (list-at t) walk-children.Post Inv μ-loop
-  edge c = c .before .before .before .before .before .before
+  edge c = called (c .before)
 
   abbrev walked : list.After-arc-weight (calls t) (list-at t) walk-children.Post Inv μ-loop → list.After-walk-node (calls t) (list-at t) walk-children.Post Inv μ-loop
-  walked c = c .before .before .before .before .before .before .before .before .before .before .before
+  walked c = let d = c .before .before .before .before in let e = d .before .before .before .before in e .before .before .before
 
   abbrev weighed : list.After-settle-arg4 (calls t) (list-at t) walk-children.Post Inv μ-loop → list.After-arc-weight (calls t) (list-at t) walk-children.Post Inv μ-loop
-  weighed c = c .before .before .before .before .before
+  weighed c = let d = c .before .before .before .before in d .before
 
   abbrev settled : list.After-slice-known14 (calls t) (list-at t) walk-children.Post Inv μ-loop → list.After-settle (calls t) (list-at t) walk-children.Post Inv μ-loop
-  settled c = c .before .before .before .before .before .before
+  settled c = let d = c .before .before .before .before in d .before .before
 
   mul-i : list.Need-mul-i (calls t) (list-at t) walk-children.Post Inv μ-loop
   mul-i c = omega (arith, entry c .pre .1 .inside, entry c .pre .1 .around .few)
@@ -200,7 +204,7 @@ module _ (t : ℕ) where
 
   walk-node-requires : list.Need-walk-node-requires (calls t) (list-at t) walk-children.Post Inv μ-loop
   walk-node-requires c κs =
-      let e = c .before .before .before .before .before in
+      let e = called c in
       let h = head e in
       let b = loop h .loop .inv .bunched in
       let is-t : 2 * unvisited (length (args h .args .stack .now)) (args h .args .passed .now) + 1 ≡ t = args h .pre .0 in
@@ -268,13 +272,13 @@ module _ (t : ℕ) where
 
   -- The node walk: its entry, and the child list walked.
   abbrev node-entry : node.After-slice-known5 (list-below t, walk-children.Post) (node-at t) walk-node.Post → node.Start (list-below t, walk-children.Post) (node-at t) walk-node.Post
-  node-entry c = c .before .before .before .before .before .before .before
+  node-entry c = let d = c .before .before .before .before in d .before .before .before
 
   abbrev node-called : node.After-walk-children-arg5 (list-below t, walk-children.Post) (node-at t) walk-node.Post → node.Start (list-below t, walk-children.Post) (node-at t) walk-node.Post
-  node-called c = node-entry (c .before .before .before .before .before)
+  node-called c = let d = c .before .before .before .before in node-entry (d .before)
 
   abbrev node-walked : node.After-slice-known10 (list-below t, walk-children.Post) (node-at t) walk-node.Post → node.After-walk-children (list-below t, walk-children.Post) (node-at t) walk-node.Post
-  node-walked c = c .before .before .before .before .before .before .before .before .before .before
+  node-walked c = let d = c .before .before .before .before in let e = d .before .before .before .before in e .before .before
 
   node-slice-write-passed : node.Need-slice-write-passed (list-below t, walk-children.Post) (node-at t) walk-node.Post
   node-slice-write-passed c =
