@@ -113,5 +113,7 @@ pub mod PutMapped
 pub mod Zeros
 -- some element of two lists passes a test
 pub mod AnyOn
--- lists made for the elements up to a place and joined
-pub mod FlatOn
+-- arrays of which only the first elements changed, one change after the other
+pub mod Fronts
+-- every element up to the last bound stands in a segment
+pub mod SegmentOf

@@ -37,3 +37,9 @@ module _ {A : Type 0} (f g : ℕ → A) where
       ∙ map-append g (from 0 n) (n ∷ [])
       ∙ ap (λ (l : List A). l ++ (g n ∷ [])) (map-below-same n h)
       ∙ ap (λ (y : A). map f (from 0 n) ++ (y ∷ [])) q
+
+-- a run of numbers, and the run behind it
+pub from-append : (a m n : ℕ) → from a (m + n) ≡ from a m ++ from (a + m) n
+unfolding from
+from-append a zero n = rw (zero-add, add-zero)
+from-append a (suc m) n = rw (suc-add m n, add-suc, ← suc-add a m) (ap {B = List ℕ} (λ r. a ∷ r) (from-append (suc a) m n))

@@ -9,7 +9,7 @@ use Rattle.lists.specs.Count.{from, below}
 use Rattle.lists.specs.Member.{_∈_}
 
 -- A run of n numbers has n elements.
-length-from : (a n : ℕ) → length (from a n) ≡ n
+pub length-from : (a n : ℕ) → length (from a n) ≡ n
 unfolding from
 length-from a zero = refl
 length-from a (suc n) = ap suc (length-from (suc a) n)
@@ -50,3 +50,11 @@ module _ {ℓ κ} {A : Type ℓ} {B : Type κ} where
   pub map-same : {f h : A → B} (xs : List A) → ((x : A) → x ∈ xs → f x ≡ h x) → map f xs ≡ map h xs
   map-same [] s = refl
   map-same (x ∷ xs) s = ap₂ _∷_ (s x (List·Memᴰ·head refl)) (map-same xs (λ y m. s y (List·Memᴰ·tail m)))
+
+-- Lists that are mapped alike are alike place by place.
+pub same-images : {A B C : Type 0} (f : A → C) (h : B → C) (xs : List A) (ys : List B) → map f xs ≡ map h ys
+    → (d : A) (e : B) (i : ℕ) → i < length xs → f (getD xs i d) ≡ h (getD ys i e)
+same-images f h [] ys q d e i l = absurd (omega arith)
+same-images f h (x ∷ xs) [] q d e i l = let z : _≡_ {A = ℕ} 0 1 = cc in absurd (omega arith)
+same-images f h (x ∷ xs) (y ∷ ys) q d e zero l = cc
+same-images f h (x ∷ xs) (y ∷ ys) q d e (suc i) l = let r : map f xs ≡ map h ys = cc in same-images f h xs ys r d e i (omega arith)

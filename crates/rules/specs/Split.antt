@@ -16,9 +16,13 @@ pub record Pieces : Type 0 where
   pub parts : List Tree
   pub left : List ℕ
 
--- The edges weigh at least H. With threshold 0 nothing does, so that nothing is split.
+-- The weight is at least H. With threshold 0 no weight is, so that nothing is split.
+abbrev pub reachesWeight : ℕ → ℕ → Bool
+reachesWeight H weight = ltb 0 H && leb H weight
+
+-- The edges weigh at least H.
 unfoldable pub reaches : Graph → ℕ → List ℕ → Bool
-reaches g H edges = ltb 0 H && leb H (totalWeight g edges)
+reaches g H edges = reachesWeight H (totalWeight g edges)
 
 -- A part, starting at "the stop where the part was split off".
 unfoldable pub partAt : ℕ → List ℕ → Tree

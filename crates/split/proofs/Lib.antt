@@ -1,21 +1,21 @@
 -- Laws that belong to no one function, in reading order.
--- parts held, one more at a time
-pub mod Holding
--- weights of lists of edges
-pub mod Weights
+-- pieces held in arrays, one more at a time
+pub mod PiecesAdded
 -- a child's piece meets the bunch, by cases
-pub mod Settling
--- the ends of an edge, and whether it leads on
-pub mod Ends
+pub mod PieceSettles
 -- marks, and how many vertices have none
-pub mod Marks
--- the walk of a child list, child by child
-pub mod Walking
+pub mod Unvisited
+-- the walk of a child list, arc by arc
+pub mod ChildWalked
 -- the walk of a child list, under way
-pub mod Going
--- the tree that is grown with marks is the rules'
-pub mod Growing
+pub mod WalkUnderway
+-- splitting over arcs is splitting by the rules
+pub mod SplitAsRules
+-- the pieces as one list: one tree more, and the parts and leftovers by number
+pub mod PiecesOf
 -- the roots, one after the other
-pub mod Planting
--- for callers: what the arrays hold, one by one
-pub mod Reading
+pub mod RootsSplit
+-- all roots done: what is promised
+pub mod ForestSplit
+-- for callers: the parts and the leftovers by number
+pub mod ByNumber

@@ -1,15 +1,15 @@
 -- What the contracts of this crate cite, in reading order.
--- the parts that arrays hold
+-- what the rules make of a forest's trees, as one list of pieces
+pub mod Pieces
+-- the pieces that arrays hold
 pub mod Store
--- one part more
-pub mod PutPart
--- growing a tree with marks, without a bound on its depth
-pub mod Grows
--- the next child of a vertex
-pub mod NextChild
+-- one piece more
+pub mod PiecePut
 -- a child's piece meets the bunch
-pub mod Settled
+pub mod Settles
+-- growing and splitting what hangs below a vertex, over arcs
+pub mod SplitBelow
 -- what the node walk and the child-list walk do
-pub mod Walked
+pub mod ChildrenWalked
 -- what the public function promises
-pub mod Decomposed
+pub mod ForestSplit

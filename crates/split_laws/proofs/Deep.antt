@@ -35,7 +35,7 @@ module _ (g : Graph) where
   narrower passed more sub v t = out-member v passed (λ m. member-out v more t (sub v m))
 
   -- With more passed no more are unpassed, and one fewer with one more.
-  unpassed-more : (passed more : List ℕ) → ((x : ℕ) → x ∈ passed → x ∈ more) → unpassed g more ≤ unpassed g passed
+  pub unpassed-more : (passed more : List ℕ) → ((x : ℕ) → x ∈ passed → x ∈ more) → unpassed g more ≤ unpassed g passed
   unfolding unpassed
   unpassed-more passed more sub = count-no-more (g .vertices) (λ v. not (member v more)) (λ v. not (member v passed)) (λ v _. narrower passed more sub v)
 

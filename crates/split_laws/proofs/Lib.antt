@@ -14,6 +14,8 @@ pub mod Connected
 -- Growing (document 01, step 3):
 -- which edges lead on from a vertex
 pub mod Leads
+-- edges that lead nowhere from a vertex may be left out
+pub mod Filtered
 -- what is grown from a vertex
 pub mod Grown
 -- depth enough to pass every vertex that can be reached

@@ -1,36 +1,65 @@
 -- `split::split_roots` meets its contract. The loop's invariant: the first j roots' trees are grown and split.
 -- The measure is how many roots are left. Assumes nothing.
-use Prim.Native.Nat.{_-_}
-use mathlib.Core.Path.{_≡_, refl, _∙_}
+use Prim.Native.Nat.{_-_, _<_}
+use mathlib.Core.Path.{_≡_, refl, sym, _∙_}
 use native.Mathlib.Omega.{arith}
 use borrow.Author.Needs.{needs}
-use lib.ListN.{length, length-set}
-use Rattle.graph.specs.Bytes.{graphOf}
-use Rattle.split.specs.Walked.{stateOf}
-use Rattle.split.specs.Decomposed.{lent}
-use Rattle.split.proofs.Planting.{AtRoot, root-ready, at-first, at-next, planted-all}
+use lib.ListN.{length, getD, length-set}
+use Rattle.lists.proofs.Put.{put-length, only-first-length}
+use Rattle.split.specs.ChildrenWalked.{stateOf}
+use Rattle.split.specs.ForestSplit.{lent}
+use Rattle.split.proofs.ChildWalked.{walked-of}
+use Rattle.split.proofs.RootsSplit.{RootsSplit, root-walkable, left-puttable, left-number, roots-more, roots-first}
+use Rattle.split.proofs.ForestSplit.{all-split}
 use Rattle.split.proofs.split_roots.Statement.{statement}
 use Rattle.split.proofs.split_roots.Tie as tie
 
 abbrev Inv-loop : tie.InvT-loop
-Inv-loop b edges roots h passed₀ stack₀ starts₀ bounds₀ flat₀ firsts₀ left₀ s₀ j₀ passed stack starts bounds flat firsts left s j =
-    AtRoot (graphOf b) h edges roots (stateOf passed₀ stack₀ starts₀ bounds₀ flat₀ s₀) firsts₀ left₀ j (stateOf passed stack starts bounds flat s) firsts left
+Inv-loop bounds arcs roots h passed₀ stack₀ starts₀ cuts₀ flat₀ lefts₀ s₀ j₀ passed stack starts cuts flat lefts s j =
+    RootsSplit (length stack₀) bounds arcs roots h (lent starts₀ cuts₀ flat₀ lefts₀) j (stateOf passed stack starts cuts flat s) lefts
 
 abbrev μ-loop : tie.MeasureT-loop
-μ-loop b edges roots h passed₀ stack₀ starts₀ bounds₀ flat₀ firsts₀ left₀ s₀ j₀ passed stack starts bounds flat firsts left s j =
-    length roots - j
+μ-loop bounds arcs roots h passed₀ stack₀ starts₀ cuts₀ flat₀ lefts₀ s₀ j₀ passed stack starts cuts flat lefts s j = length roots - j
 
-slice-write-bounds : tie.Need-slice-write-bounds Inv-loop μ-loop
-slice-write-bounds c = omega (arith, c .before .before .before .before .before .before .before .before .before .before .pre .1 .0 .bounds-room)
+-- The entry, seen from the first store.
+abbrev entry : tie.After-slice-known6 Inv-loop μ-loop → tie.Start Inv-loop μ-loop
+entry c = let d = c .before .before .before .before in let e = d .before .before .before .before in e .before
 
-slice-write-firsts : tie.Need-slice-write-firsts Inv-loop μ-loop
-slice-write-firsts c = omega (arith, c .before .before .before .before .before .before .before .before .before .before .pre .1 .0 .firsts-room)
+-- At a root: what was asked, that there is a root more, and that it is a vertex.
+module _ (c : tie.In-loop Inv-loop μ-loop) where
+  abbrev at : tie.At-loop Inv-loop μ-loop
+  at = c .before
 
-slice-write-left : tie.Need-slice-write-left Inv-loop μ-loop
-slice-write-left c = omega (arith, c .before .before .before .before .before .before .before .before .before .before .pre .1 .0 .left-room)
+  abbrev start : tie.Start Inv-loop μ-loop
+  start = entry (at .before)
+
+  more : at .loop .j < length (start .args .roots .now)
+  more = c .loop-test .taken
+
+  inside : getD (start .args .roots .now) (at .loop .j) 0 < length (start .args .stack .now)
+  inside = start .pre .splittable .roots-inside (at .loop .j) more
+
+-- The root, seen from where its node is to be walked, was walked, and from its piece.
+abbrev called : tie.After-walk-node-arg5 Inv-loop μ-loop → tie.In-loop Inv-loop μ-loop
+called c = let d = c .before .before .before .before in d .before .before
+
+abbrev walked : tie.After-struct-known Inv-loop μ-loop → tie.After-walk-node Inv-loop μ-loop
+walked c = let d = c .before .before .before .before in let e = d .before .before .before .before in e .before .before .before
+
+abbrev put : tie.After-slice-known14 Inv-loop μ-loop → tie.After-put-piece Inv-loop μ-loop
+put c = let d = c .before .before .before .before in d .before .before
+
+abbrev known : tie.After-put-piece-arg4 Inv-loop μ-loop → tie.After-struct-known Inv-loop μ-loop
+known c = c .before .before .before .before
+
+abbrev rooted : tie.After-slice-known14 Inv-loop μ-loop → tie.In-loop Inv-loop μ-loop
+rooted c = called (walked (known (put c .before)) .before)
+
+slice-write-cuts : tie.Need-slice-write-cuts Inv-loop μ-loop
+slice-write-cuts c = omega (arith, entry c .pre .splittable .cuts-room)
 
 loop-holds : tie.Need-loop-holds Inv-loop μ-loop
-loop-holds c = at-first (c .before .before .before .before .before .before .before .before .before .before .pre .1 .0) (c .before .before .before .before .before .before .before .before .before .before .pre .1 .1)
+loop-holds c = roots-first (entry c .pre)
 
 mul-root : tie.Need-mul-root Inv-loop μ-loop
 mul-root c = search needs
@@ -39,91 +68,72 @@ shared-slice-read-root : tie.Need-shared-slice-read-root Inv-loop μ-loop
 shared-slice-read-root c = search needs
 
 cast-root : tie.Need-cast-root Inv-loop μ-loop
-cast-root c = omega (arith, c .shared-slice-known4 .given (c .before .before .loop .j))
+cast-root c = omega (arith, c .shared-slice-known4 .given (at (c .before) .loop .j))
 
 walk-node-requires : tie.Need-walk-node-requires Inv-loop μ-loop
 walk-node-requires c κs =
-    let at = c .before .before .before .before .before .before .before in
-    let s = at .before .before .before .before .before .before .before .before .before .before .before in
-    (s .pre .0, (s .pre .1 .0 .inside (at .loop .j) (c .before .before .before .before .before .before .loop-test .taken), root-ready (at .loop .inv .planted .ready) _))
+    let i = called c in
+    root-walkable (at i .loop .inv) (more i) refl (inside i) (start i .pre .splittable .around)
 
-cast-firsts : tie.Need-cast-firsts Inv-loop μ-loop
-cast-firsts c =
-    let s = c .before .before .before .before .before .before .before .before .before .before .before .before .before .before .before .before .before .before .before .before .before .before .before .before .before .before .before .before .before .before in
-    omega (arith, c .before .before .before .before .before .before .before .before .before .before .before .walk-node .ensures .ready .fits, c .before .before .before .before .before .before .before .before .before .before .before .walk-node .ensures .ready .sound .few, s .pre .0 .valid .vertices-most)
+cast-lefts : tie.Need-cast-lefts Inv-loop μ-loop
+cast-lefts c =
+    let w = walked c in
+    let i = called (w .before) in
+    let k = at i .loop .inv in
+    omega (arith, left-number k (more i) refl (inside i) (walked-of (k .room .stack-length) (w .walk-node .ensures)) (start i .pre .splittable .roots-few))
 
-add-firsts : tie.Need-add-firsts Inv-loop μ-loop
-add-firsts c = omega (arith, c .before .before .before .before .before .before .before .before .before .before .before .before .before .before .before .before .before .before .loop-test .taken, c .before .before .before .before .before .before .before .before .before .before .before .before .before .before .before .before .before .before .before .before .before .before .before .before .before .before .before .before .before .before .good .1 .1 .0 .0)
+mul-lefts : tie.Need-mul-lefts Inv-loop μ-loop
+mul-lefts c = let i = called (walked c .before) in omega (arith, more i, start i .pre .splittable .roots-few)
 
-mul-firsts : tie.Need-mul-firsts Inv-loop μ-loop
-mul-firsts c = omega (arith, c .before .before .before .before .before .before .before .before .before .before .before .before .before .before .before .before .before .before .loop-test .taken, c .before .before .before .before .before .before .before .before .before .before .before .before .before .before .before .before .before .before .before .before .before .before .before .before .before .before .before .before .before .before .good .1 .1 .0 .1)
+slice-write-lefts : tie.Need-slice-write-lefts Inv-loop μ-loop
+slice-write-lefts c = let i = called (walked c .before) in omega (arith, more i, at i .loop .inv .lefts-room)
 
-slice-write-firsts-2 : tie.Need-slice-write-firsts-2 Inv-loop μ-loop
-slice-write-firsts-2 c = omega (arith, c .before .before .before .before .before .before .before .before .before .before .before .before .before .before .before .before .before .before .loop-test .taken, c .before .before .before .before .before .before .before .before .before .before .before .before .before .before .before .before .before .before .before .loop .inv .firsts-room)
-
-cast-left : tie.Need-cast-left Inv-loop μ-loop
-cast-left c =
-    let s = c .before .before .before .before .before .before .before .before .before .before .before .before .before .before .before .before .before .before .before .before .before .before .before .before .before .before .before .before .before .before .before in
-    omega (arith, c .before .before .before .before .before .before .before .before .before .before .before .before .walk-node .ensures .ready .fits, s .pre .0 .valid .vertices-most)
-
-add-left : tie.Need-add-left Inv-loop μ-loop
-add-left c = omega (arith, c .before .before .before .before .before .before .before .before .before .before .before .before .before .before .before .before .before .before .before .loop-test .taken, c .before .before .before .before .before .before .before .before .before .before .before .before .before .before .before .before .before .before .before .before .before .before .before .before .before .before .before .before .before .before .before .good .1 .1 .0 .0)
-
-mul-left : tie.Need-mul-left Inv-loop μ-loop
-mul-left c = omega (arith, c .before .before .before .before .before .before .before .before .before .before .before .before .before .before .before .before .before .before .before .loop-test .taken, c .before .before .before .before .before .before .before .before .before .before .before .before .before .before .before .before .before .before .before .before .before .before .before .before .before .before .before .before .before .before .before .good .1 .1 .0 .1)
-
-slice-write-left-2 : tie.Need-slice-write-left-2 Inv-loop μ-loop
-slice-write-left-2 c = omega (arith, c .before .before .before .before .before .before .before .before .before .before .before .before .before .before .before .before .before .before .before .loop-test .taken, c .before .before .before .before .before .before .before .before .before .before .before .before .before .before .before .before .before .before .before .before .loop .inv .left-room)
+put-piece-requires : tie.Need-put-piece-requires Inv-loop μ-loop
+put-piece-requires c κs =
+    let w = walked (known c) in
+    let i = called (w .before) in
+    let k = at i .loop .inv in
+    left-puttable k (more i) refl (inside i) (walked-of (k .room .stack-length) (w .walk-node .ensures))
 
 add-j : tie.Need-add-j Inv-loop μ-loop
-add-j c = omega (arith, c .before .before .before .before .before .before .before .before .before .before .before .before .before .before .before .before .before .before .before .loop-test .taken, c .before .before .before .before .before .before .before .before .before .before .before .before .before .before .before .before .before .before .before .before .before .before .before .before .before .before .before .before .before .before .before .good .1 .1 .0 .0)
+add-j c = let i = rooted c in omega (arith, more i, start i .pre .splittable .roots-few)
 
 loop-less : tie.Need-loop-less Inv-loop μ-loop
-loop-less c = omega (arith, c .before .before .before .before .before .before .before .before .before .before .before .before .before .before .before .before .before .before .before .loop-test .taken)
+loop-less c = omega (arith, more (rooted c))
 
 loop-again : tie.Need-loop-again Inv-loop μ-loop
 loop-again c =
-    let w = c .before .before .before .before .before .before .before .before .before .before .before .before in
-    let at = w .before .before .before .before .before .before .before .before in
-    let s = at .before .before .before .before .before .before .before .before .before .before .before in
-    let more = w .before .before .before .before .before .before .before .loop-test .taken in
-    at-next (s .pre .0 .valid) (at .loop .inv) more refl (s .pre .1 .0 .inside (at .loop .j) more) (w .walk-node .ensures)
-    (record {
-      marks = w .walk-node .kept .1 .1 .1 .1 .1 .0;
-      stack = w .walk-node .kept .1 .1 .1 .1 .1 .1 .0;
-      starts = w .walk-node .kept .1 .1 .1 .1 .1 .1 .1 .0;
-      bounds = w .walk-node .kept .1 .1 .1 .1 .1 .1 .1 .1 .0;
-      flat = w .walk-node .kept .1 .1 .1 .1 .1 .1 .1 .1 .1 .0;
-    })
+    let p = put c in
+    let w = walked (known (p .before)) in
+    let i = called (w .before) in
+    let k = at i .loop .inv in
+    roots-more k (more i) refl (inside i) (walked-of (k .room .stack-length) (w .walk-node .ensures)) refl (p .put-piece .ensures)
 
 same-length : tie.Need-same-length Inv-loop μ-loop
-same-length c = c .before .loop .inv .lengths .marks
+same-length c = c .before .loop .inv .room .marks-length ∙ sym (entry (c .before .before) .pre .marks-length)
 
 same-length-2 : tie.Need-same-length-2 Inv-loop μ-loop
-same-length-2 c = c .before .loop .inv .lengths .stack
+same-length-2 c = c .before .loop .inv .room .stack-length
 
 same-length-3 : tie.Need-same-length-3 Inv-loop μ-loop
-same-length-3 c = c .before .loop .inv .lengths .starts
+same-length-3 c = only-first-length (c .before .loop .inv .starts-rest)
 
 same-length-4 : tie.Need-same-length-4 Inv-loop μ-loop
-same-length-4 c = c .before .loop .inv .lengths .bounds ∙ length-set (c .before .before .before .before .before .before .before .before .before .before .before .before .args .bounds .now) 0 0
+same-length-4 c = only-first-length (c .before .loop .inv .cuts-rest) ∙ length-set (entry (c .before .before) .args .cuts .now) 0 0
 
 same-length-5 : tie.Need-same-length-5 Inv-loop μ-loop
-same-length-5 c = c .before .loop .inv .lengths .flat
+same-length-5 c = only-first-length (c .before .loop .inv .flat-rest)
 
 same-length-6 : tie.Need-same-length-6 Inv-loop μ-loop
-same-length-6 c = c .before .loop .inv .firsts-length ∙ length-set (c .before .before .before .before .before .before .before .before .before .before .before .before .args .firsts .now) 0 0
-
-same-length-7 : tie.Need-same-length-7 Inv-loop μ-loop
-same-length-7 c = c .before .loop .inv .left-length ∙ length-set (c .before .before .before .before .before .before .before .before .before .before .before .before .args .left .now) 0 0
+same-length-6 c = put-length (c .before .loop .inv .lefts-put .put)
 
 returns : tie.Need-returns Inv-loop μ-loop
 returns c =
     let at = c .before in
-    let s = at .before .before .before .before .before .before .before .before .before .before .before in
+    let s = entry (at .before) in
     let a = s .args in
     let q : at .loop .j ≡ length (a .roots .now) = omega (arith, at .loop .inv .within, c .loop-test .left) in
-    planted-all (s .pre .0 .valid) (lent (a .stack .now) (a .starts .now) (a .bounds .now) (a .flat .now) (a .firsts .now) (a .left .now)) (rw q at (at .loop .inv .planted)) refl
+    all-split (lent (a .starts .now) (a .cuts .now) (a .flat .now) (a .lefts .now)) (rw q at (at .loop .inv)) (omega (arith, s .pre .splittable .cuts-room))
 
 pub split-roots-spec : {M : Type 1} → statement M
 split-roots-spec =
@@ -131,22 +141,16 @@ split-roots-spec =
     (tie.spec
     Inv-loop
     μ-loop
-    slice-write-bounds
-    slice-write-firsts
-    slice-write-left
+    slice-write-cuts
     loop-holds
     mul-root
     shared-slice-read-root
     cast-root
     walk-node-requires
-    cast-firsts
-    add-firsts
-    mul-firsts
-    slice-write-firsts-2
-    cast-left
-    add-left
-    mul-left
-    slice-write-left-2
+    cast-lefts
+    mul-lefts
+    slice-write-lefts
+    put-piece-requires
     add-j
     loop-less
     loop-again
@@ -156,5 +160,4 @@ split-roots-spec =
     same-length-4
     same-length-5
     same-length-6
-    same-length-7
     returns)

@@ -8,7 +8,7 @@ use borrow.Author.Needs.{needs}
 use lib.ListN.{length, take, getD}
 use lib.Seq.{take-all}
 use Rattle.lists.specs.Lists.{flat}
-use Rattle.lists.proofs.FlatOn.{flat-map-more}
+use Rattle.lists.proofs.FlatMap.{flat-map-next}
 use Rattle.graph.specs.Graph.{Graph}
 use Rattle.graph.specs.Bytes.{graphOf}
 use Rattle.rules.specs.Distance.{treeVertices}
@@ -87,7 +87,7 @@ loop-again c =
     let edges = s .args .edges .now in
     let i = l .loop .i in
     (omega arith,
-    rw (flat-map-more (endsOf g) edges i 0 (omega arith))
+    rw (flat-map-next (endsOf g) edges i 0 (omega arith))
     (marked-on (s .args .table .now) (length row₀) (s .args .limit) (endsUpTo g edges i) (endsOf g (getD edges i 0)) (l .loop .inv .1)
     (rw (w .before .before .wide .ensures .is, l .loop .inv .1 .size) at (w .mark-ends .ensures))))
 

@@ -1,0 +1,85 @@
+-- All roots are done: the arrays hold what splitting a forest promises.
+-- Assumes nothing.
+use Prim.Native.Nat.{ℕ, _+_, _≤_, _<_}
+use mathlib.Core.Path.{_≡_, refl, sym, ap, _∙_}
+use mathlib.Core.List.{List, _++_, map, map-map, append-nil}
+use mathlib.Core.Logic.{⊎-elim}
+use native.Mathlib.Omega.{arith}
+use lib.ListN.{length, getD, set, length-set}
+use lib.Seq.{drop-length}
+use Rattle.lists.specs.Count.{below}
+use Rattle.lists.specs.Member.{_∈_}
+use Rattle.lists.proofs.Member.{in-map}
+use Rattle.lists.proofs.Below.{in-below}
+use Rattle.lists.proofs.Sorting.{in-rise}
+use Rattle.lists.proofs.Put.{put-only-first, only-first-length}
+use Rattle.lists.proofs.Fronts.{only-first-set, only-first-on}
+use Rattle.lists.proofs.SegmentOf.{in-some-segment}
+use Rattle.graph.specs.Graph.{Graph}
+use Rattle.rules.specs.Cover.{Tree}
+use Rattle.rules.specs.Held.{treeAt, treesAt, risen}
+use Rattle.rules.specs.Grow.{Rooted, growFrom, grow}
+use Rattle.rules.specs.Split.{split}
+use Rattle.split.specs.Pieces.{piecesOf, leftPlaces}
+use Rattle.split.specs.Store.{Store, heldIn, Sound}
+use Rattle.split.specs.ChildrenWalked.{State}
+use Rattle.split.specs.ForestSplit.{Lent, lent, Splits, ForestSplit}
+use Rattle.split.proofs.PiecesOf.{piecesFor, piece-edge-known}
+use Rattle.split.proofs.RootsSplit.{ByRules, RootsSplit, bounded}
+
+-- Each edge in the pieces held is an edge of one of them.
+in-held : {n : ℕ} {s : Store} → Sound n s → (i : ℕ) → i < s .used → (t : Tree) × (t ∈ heldIn s) × (getD (s .flat) i 0 ∈ t .edges)
+unfolding heldIn treesAt treeAt risen
+in-held {s = s} h i l =
+    let (q, m, e) = in-some-segment (h .bounded) (h .first) i (s .flat) 0 l (omega (arith, h .used-few, h .flat-room)) in
+    (risen (treeAt (s .starts) (s .cuts) (s .flat) q), in-map risen (in-map (treeAt (s .starts) (s .cuts) (s .flat)) (in-below (s .pieces) m)), in-rise e)
+
+module _ {n : ℕ} {bounds arcs roots : List ℕ} {H : ℕ} (a : Lent) {s : State} {lefts : List ℕ}
+    (k : RootsSplit n bounds arcs roots H (bounded a) (length roots) s lefts) where
+  -- the arrays at the end
+  abbrev ends : Lent
+  ends = lent (s .store .starts) (s .store .cuts) (s .store .flat) lefts
+
+  -- the trees grown are all
+  all-grown : {g : Graph} {edges : List ℕ} {held : List Tree} {places : List ℕ} (b : ByRules g edges roots H (length roots) (s .marks) held places) → b .trees ≡ grow g edges roots
+  unfolding growFrom
+  all-grown b = sym (b .grown ∙ rw (drop-length roots) (append-nil (b .trees)))
+
+  -- so the pieces held are those that the rules make,
+  held-all : {g : Graph} {edges places : List ℕ} → ByRules g edges roots H (length roots) (s .marks) (heldIn (s .store)) places → heldIn (s .store) ≡ piecesOf g H edges roots
+  unfolding piecesOf
+  held-all {g} b = b .pieces ∙ ap (piecesFor g H) (all-grown b)
+
+  -- and their edges are the forest's.
+  edges-all : {g : Graph} {edges places : List ℕ} → ByRules g edges roots H (length roots) (s .marks) (heldIn (s .store)) places
+      → (i : ℕ) → i < s .store .used → getD (s .store .flat) i 0 ∈ edges
+  edges-all {g} {edges} b i l =
+      let (t, m, e) = in-held (k .room .sound) i l in
+      piece-edge-known g H edges roots (rw (held-all b) at m) e
+
+  -- What is promised.
+  pub all-split : 1 ≤ length (a .cuts) → ForestSplit n bounds arcs roots H a ends (s .store .pieces)
+  unfolding heldIn
+  all-split some =
+      record {
+        used = s .store .used;
+        of-graph =
+            λ g edges around n-is.
+            let b = k .by-rules g edges around n-is in
+            record {
+              pieces = held-all b;
+              lefts = rw (b .lefts ∙ ap (λ (ts : List Rooted). leftPlaces 0 (map (split g H) ts)) (all-grown b)) at (k .lefts-put);
+              edges-of = edges-all b;
+            };
+        used-few = ⊎-elim (λ e. omega arith) (λ e. omega arith) (k .used-few);
+        few = k .few;
+        starts-inside = k .room .sound .starts-inside;
+        first = k .room .sound .first;
+        bounded = k .room .sound .bounded;
+        starts-rest = k .starts-rest;
+        cuts-rest =
+            only-first-on (only-first-set 1 (a .cuts) 0 0 (omega arith) some) (k .cuts-rest) (omega arith)
+            (omega (arith, only-first-length (k .cuts-rest), length-set (a .cuts) 0 0, k .room .sound .cuts-room, k .room .sound .used-few));
+        flat-rest = k .flat-rest;
+        lefts-rest = put-only-first (k .lefts-put);
+      }
