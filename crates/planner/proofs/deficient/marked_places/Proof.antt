@@ -12,7 +12,7 @@ use Rattle.lists.specs.Lists.{filter}
 use Rattle.lists.proofs.Chosen.{chosen-count}
 use Rattle.lists.proofs.NextPlace.{belowFrom, numbers-all, numbers-next, numbers-none, filter-taken, filter-passed}
 use Rattle.lists.proofs.Put.{put-count}
-use Rattle.lists.proofs.PutOneByOne.{Putting, putting-none, putting-same, putting-more, putting-all}
+use Rattle.lists.proofs.PutOneByOne.{PutSoFar, so-far-none, so-far-same, so-far-more, so-far-all}
 use Rattle.matching.specs.Assignment.{marked}
 use Rattle.planner.proofs.deficient.marked_places.Statement.{statement}
 use Rattle.planner.proofs.deficient.marked_places.Tie as tie
@@ -26,7 +26,7 @@ Inv-loop places marks out₀ r₀ i₀ out r i =
     record {
       few : r ≤ i;
       within : i ≤ length places;
-      putting : Putting 0 (placesFrom places marks 0) (placesFrom places marks i) out₀ out r;
+      putting : PutSoFar 0 (placesFrom places marks 0) (placesFrom places marks i) out₀ out r;
     }
 
 abbrev μ-loop : tie.MeasureT-loop
@@ -58,7 +58,7 @@ module _ (m : tie.After-is-marked Inv-loop μ-loop) where
   here = numbers-next (length (places l)) (l .loop .i) (turn .loop-test .taken)
 
 loop-holds : tie.Need-loop-holds Inv-loop μ-loop
-loop-holds c = record { few = omega arith; within = omega arith; putting = putting-none _ 0 (omega arith) }
+loop-holds c = record { few = omega arith; within = omega arith; putting = so-far-none _ 0 (omega arith) }
 
 mul-place : tie.Need-mul-place Inv-loop μ-loop
 mul-place c = search needs
@@ -91,7 +91,7 @@ loop-again c =
     record {
       few = omega arith;
       within = omega arith;
-      putting = putting-more (l m .loop .inv .putting) (ap (map (at (l m))) more) (omega arith);
+      putting = so-far-more (l m .loop .inv .putting) (ap (map (at (l m))) more) (omega arith);
     }
 
 loop-less-2 : tie.Need-loop-less-2 Inv-loop μ-loop
@@ -104,7 +104,7 @@ loop-again-2 c =
     record {
       few = omega arith;
       within = omega arith;
-      putting = putting-same (l m .loop .inv .putting) (ap (map (at (l m))) same);
+      putting = so-far-same (l m .loop .inv .putting) (ap (map (at (l m))) same);
     }
 
 same-length : tie.Need-same-length Inv-loop μ-loop
@@ -116,7 +116,7 @@ returns c =
     let l = c .before in
     let p = length (places l) in
     let none = ap (λ x. map (at l) (filter (test l) x)) (numbers-none p (l .loop .i) (c .loop-test .left)) in
-    let all = rw (← numbers-all p) at (putting-all (l .loop .inv .putting) none) in
+    let all = rw (← numbers-all p) at (so-far-all (l .loop .inv .putting) none) in
     record {
       places-are = all;
       count = put-count all ∙ length-map (filter (test l) (below p)) (at l) ∙ chosen-count (test l) p;
