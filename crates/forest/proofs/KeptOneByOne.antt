@@ -44,7 +44,7 @@ module _ {g : Graph} (valid : Valid g) (e : ℕ) {u v : ℕ} (one : u ≡ oneEnd
       record {
         new = λ label a. ap not (sym (eq-eqb (label (oneEnd g e)) (label (otherEnd g e)) (ends-same label a q)));
         labels = λ label a. rw (edge-joined g label e (ends-same label a q)) a;
-        others = only-first-none (g .vertices) before;
+        rest = only-first-none (g .vertices) before;
       }
 
   pub joined-now : {n : ℕ} {after : List ℕ} → (getD before u 0 ≡ getD before v 0 → ⊥) → n ≡ g .vertices → Merged n u v before after
@@ -55,7 +55,7 @@ module _ {g : Graph} (valid : Valid g) (e : ℕ) {u v : ℕ} (one : u ≡ oneEnd
       record {
         new = λ label a. ap not (sym (ne-eqb (label (oneEnd g e)) (label (otherEnd g e)) (ends-other label a d)));
         labels = m .labels;
-        others = m .others;
+        rest = m .rest;
       }
 
 -- From labels on entry: the labels now, what is still to be kept, and the labels that all edges make.
@@ -70,7 +70,7 @@ pub record Taking (g : Graph) (edges : List ℕ) (i : ℕ) (label₀ label₁ ke
   pub few : r ≤ i
   pub labels-same : length label₁ ≡ length label₀
   pub kept-same : length kept₁ ≡ length kept₀
-  pub others : OnlyFirst (g .vertices) label₀ label₁
+  pub rest : OnlyFirst (g .vertices) label₀ label₁
   pub going : (label : Labels) → Agrees (g .vertices) label₀ label → TakingFrom g edges i label₁ kept₀ kept₁ r label
 
 module _ {g : Graph} {edges : List ℕ} where
@@ -80,7 +80,7 @@ module _ {g : Graph} {edges : List ℕ} where
         few = omega arith;
         labels-same = refl;
         kept-same = refl;
-        others = only-first-none (g .vertices) array;
+        rest = only-first-none (g .vertices) array;
         going = λ label a. record { here = label; agrees = a; so-far = so-far-none kept 0 (omega arith); merged = refl };
       }
 
@@ -110,7 +110,7 @@ module _ {g : Graph} {edges : List ℕ} where
               few = omega arith;
               labels-same = same ∙ t .labels-same;
               kept-same = t .kept-same;
-              others = only-first-on (t .others) (j .others);
+              rest = only-first-on (t .rest) (j .rest);
               going =
                   λ label a.
                   let f = t .going label a in
@@ -135,7 +135,7 @@ module _ {g : Graph} {edges : List ℕ} where
               few = omega arith;
               labels-same = same ∙ t .labels-same;
               kept-same = length-set kept₁ r edge ∙ t .kept-same;
-              others = only-first-on (t .others) (j .others);
+              rest = only-first-on (t .rest) (j .rest);
               going =
                   λ label a.
                   let f = t .going label a in
@@ -165,7 +165,7 @@ module _ {g : Graph} {edges : List ℕ} where
           record {
             edges-are = λ label a. let f = t .going label a in so-far-all (f .so-far) (ap (keep g (f .here)) (rest-none edges i h));
             labels = λ label a. let f = t .going label a in rw (f .merged ∙ ap (mergeAll g (f .here)) (rest-none edges i h)) (f .agrees);
-            others = t .others;
+            rest = t .rest;
             few = omega arith;
             fewer = taking-few;
           }

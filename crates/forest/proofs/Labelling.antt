@@ -68,35 +68,35 @@ agrees-more label array x y h agrees q =
 -- Below x the labels of the start are stored, and only labels of the n vertices changed.
 pub record Starting (roots : List ℕ) (n x : ℕ) (before after : List ℕ) : Type 0 where
   pub labels : Agrees x after (together roots)
-  pub others : OnlyFirst n before after
+  pub rest : OnlyFirst n before after
   pub same : length after ≡ length before
 
 module _ {roots : List ℕ} {n : ℕ} where
   pub starting-none : (before : List ℕ) → Starting roots n 0 before before
-  starting-none before = record { labels = below-none _; others = only-first-none n before; same = refl }
+  starting-none before = record { labels = below-none _; rest = only-first-none n before; same = refl }
 
   module _ {x : ℕ} {before after : List ℕ} (s : Starting roots n x before after) where
     pub starting-more : {y : ℕ} → x < n → n ≤ length before → y ≡ together roots x → Starting roots n (x + 1) before (set after x y)
     starting-more {y} h room q =
         record {
           labels = agrees-more (together roots) after x y (omega arith) (s .labels) q;
-          others = only-first-store (s .others) x y h;
+          rest = only-first-store (s .rest) x y h;
           same = length-set after x y ∙ s .same;
         }
 
     pub starting-all : n ≤ x → Started roots n before after
-    starting-all h = record { labels = λ v l. s .labels v (omega arith); others = s .others }
+    starting-all h = record { labels = λ v l. s .labels v (omega arith); rest = s .rest }
 
 -- Below x the labels are merged, and from x on they are as they were.
 pub record Merging (n u v x : ℕ) (before after : List ℕ) : Type 0 where
   pub labels : (label : Labels) → Agrees n before label → Agrees x after (merge label u v)
   pub ahead : (k : ℕ) → x ≤ k → getD after k 0 ≡ getD before k 0
-  pub others : OnlyFirst n before after
+  pub rest : OnlyFirst n before after
   pub same : length after ≡ length before
 
 module _ {n u v : ℕ} where
   pub merging-none : (before : List ℕ) → Merging n u v 0 before before
-  merging-none before = record { labels = λ label a. below-none _; ahead = λ k l. refl; others = only-first-none n before; same = refl }
+  merging-none before = record { labels = λ label a. below-none _; ahead = λ k l. refl; rest = only-first-none n before; same = refl }
 
   module _ {x : ℕ} {before after : List ℕ} (m : Merging n u v x before after) where
     merged-label : (label : Labels) → u < n → v < n → x < n → Agrees n before label
@@ -114,9 +114,9 @@ module _ {n u v : ℕ} where
               agrees-more (merge label u v) after x y (omega arith) (m .labels label a)
               (q ∙ merged-label label hu hv hx a);
           ahead = λ k l. getD-set-other after x k y 0 (omega arith) ∙ m .ahead k (omega arith);
-          others = only-first-store (m .others) x y hx;
+          rest = only-first-store (m .rest) x y hx;
           same = length-set after x y ∙ m .same;
         }
 
     pub merging-all : n ≤ x → Merged n u v before after
-    merging-all h = record { labels = λ label a k l. m .labels label a k (omega arith); others = m .others }
+    merging-all h = record { labels = λ label a k l. m .labels label a k (omega arith); rest = m .rest }

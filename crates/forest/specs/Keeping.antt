@@ -26,6 +26,6 @@ pub record Keepable (b label kept : List ℕ) : Type 0 where
 pub record KeptWritten (g : Graph) (edges label₀ label₁ kept₀ kept₁ : List ℕ) (r : ℕ) : Type 0 where
   pub edges-are : (label : Labels) → Agrees (g .vertices) label₀ label → PutTo 0 (keep g label edges) kept₀ kept₁ r
   pub labels : (label : Labels) → Agrees (g .vertices) label₀ label → Agrees (g .vertices) label₁ (mergeAll g label edges)
-  pub others : OnlyFirst (g .vertices) label₀ label₁
+  pub rest : OnlyFirst (g .vertices) label₀ label₁
   pub few : r ≤ length edges
   pub fewer : r < g .vertices

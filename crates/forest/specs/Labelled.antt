@@ -12,15 +12,15 @@ use Rattle.forest.specs.Arrays.{Agrees}
 -- The labels at the start: the roots ("yards") are joined to each other, and no others.
 pub record Started (roots : List ℕ) (n : ℕ) (before after : List ℕ) : Type 0 where
   pub labels : Agrees n after (together roots)
-  pub others : OnlyFirst n before after
+  pub rest : OnlyFirst n before after
 
 -- u and v were joined: each vertex with v's label took u's, whatever labels the array held.
 pub record Merged (n u v : ℕ) (before after : List ℕ) : Type 0 where
   pub labels : (label : Labels) → Agrees n before label → Agrees n after (merge label u v)
-  pub others : OnlyFirst n before after
+  pub rest : OnlyFirst n before after
 
 -- The ends of edge e were joined, and r says whether they were not yet.
 pub record Joined (g : Graph) (e : ℕ) (before after : List ℕ) (r : Bool) : Type 0 where
   pub new : (label : Labels) → Agrees (g .vertices) before label → r ≡ not (endsJoined g label e)
   pub labels : (label : Labels) → Agrees (g .vertices) before label → Agrees (g .vertices) after (mergeEdge g label e)
-  pub others : OnlyFirst (g .vertices) before after
+  pub rest : OnlyFirst (g .vertices) before after

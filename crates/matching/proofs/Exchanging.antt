@@ -27,7 +27,7 @@ pub record Exchanging (i : ℕ) (parts via from before owner roots : List ℕ) (
   pub away : (k : ℕ) → k < i → getD roots k 0 ≡ root → ⊥
   pub owner-of : (r : ℕ) → r < 32 → (r ≡ root → ⊥) → (getD owner r 0 ≡ none → ⊥) → (getD owner r 0 < i) × (getD roots (getD owner r 0) 0 ≡ r)
   pub by : (k : ℕ) → k < i → HadOrReached parts from before i k (getD roots k 0)
-  pub others : OnlyFirst (i + 1) before roots
+  pub rest : OnlyFirst (i + 1) before roots
 
 -- The path's root is vacant before the first turn.
 pub exchange-start : {i j : ℕ} {parts via from owner roots : List ℕ} → Exchangeable i j parts via from owner roots
@@ -44,16 +44,16 @@ exchange-start {i} {j} {owner = owner} {roots = roots} e =
       away = λ k h q. omega (arith, e .few, sym (e .mirror .owned k h) ∙ ap (λ r. getD owner r 0) q ∙ e .free);
       owner-of = λ r h _. e .mirror .owner-of r h;
       by = λ k h. inl (h, refl);
-      others = only-first-none (i + 1) roots;
+      rest = only-first-none (i + 1) roots;
     }
 
 module _ {i : ℕ} {parts via from before owner roots : List ℕ} {root place : ℕ}
     (e : Exchanging i parts via from before owner roots root place) (few : i < none) (fits : i < length before) where
-  open Exchanging e using (vacant, reached, near, places, all, is-root, owned, away, owner-of, by, others)
+  open Exchanging e using (vacant, reached, near, places, all, is-root, owned, away, owner-of, by, rest)
 
   -- There is a root for part i and for each before it.
   room : i < length roots
-  room = omega (arith, only-first-length others)
+  room = omega (arith, only-first-length rest)
 
   -- The vacant root goes to a part that is i or before it: what the roots and their owners are then.
   module _ (part : ℕ) (is-part : part < i + 1) where
@@ -84,8 +84,8 @@ module _ {i : ℕ} {parts via from before owner roots : List ℕ} {root place : 
         (inr ((λ none′. omega arith), ap (λ a. getD parts a 0) reached ∙ q)) (λ ne. by k (h ne))
 
     -- and nothing past part i is written
-    others′ : OnlyFirst (i + 1) before roots′
-    others′ = only-first-store others part root is-part
+    rest′ : OnlyFirst (i + 1) before roots′
+    rest′ = only-first-store rest part root is-part
 
     -- a root that is not vacant stays with its part, unless this is the part that gets the vacant one
     owner-of′ : (r : ℕ) → r < 32 → (r ≡ root → ⊥) → (getD owner r 0 ≡ none → ⊥) → (getD owner r 0 ≡ part → ⊥)
@@ -155,7 +155,7 @@ module _ {i : ℕ} {parts via from before owner roots : List ℕ} {root place : 
               (λ off h other some. owner-of′ part is-part r h off some
               (λ q. other (sym (owner-of r h off some .1) ∙ ap (λ k. getD roots k 0) q ∙ its-root))) h;
           by = λ k h. by′ part is-part refl k (λ _. h);
-          others = others′ part is-part;
+          rest = rest′ part is-part;
         }
 
   -- The last turn: the vacant root goes to part i, and no root is vacant.
@@ -177,5 +177,5 @@ module _ {i : ℕ} {parts via from before owner roots : List ℕ} {root place : 
                   (omega arith, o .1)) h;
             };
         by = λ k h. by′ i last (ap (λ a. getD parts a 0) q ∙ places .first) k (λ ne. omega arith);
-        others = others′ i last;
+        rest = rest′ i last;
       }

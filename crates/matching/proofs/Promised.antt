@@ -26,7 +26,7 @@ differ e = omega arith
 -- An input that is refused leaves the buffer as it came.
 pub promised-refused : (p y : ℕ) (bytes before : List ℕ) → refusedOf p y bytes (length before) ≡ true → Assigns p y bytes before Refused before
 unfolding answerOf
-promised-refused p y bytes before e = record { reply = rw e; means = says; others = only-first-none p before }
+promised-refused p y bytes before e = record { reply = rw e; means = says; rest = only-first-none p before }
   where
     says : (case : Answer) → Refused ≡ case → caseOf p y bytes before before case .says
     says Refused q = record { invalid = e; unchanged = refl }
@@ -51,4 +51,4 @@ module _ (p y : ℕ) (bytes before after : List ℕ) (accepted : refusedOf p y b
   said answer s Deficient q = record { valid = accepted; set = s .set q; none = λ roots. deficient-none (s .set q) }
 
   pub promised-solved : (answer : Answer) → Solved p y bytes before answer after → Assigns p y bytes before answer after
-  promised-solved answer s = record { reply = replied answer s; means = said answer s; others = s .others }
+  promised-solved answer s = record { reply = replied answer s; means = said answer s; rest = s .rest }

@@ -9,7 +9,7 @@ use Rattle.lists.specs.Put.{OnlyFirst}
 -- The first p bytes are 0, the rest is as it came.
 pub record Cleared (p : ℕ) (before after : List ℕ) : Type 0 where
   pub zeros : (k : ℕ) → k < p → getD after k 0 ≡ 0
-  pub others : OnlyFirst p before after
+  pub rest : OnlyFirst p before after
 
 -- The first t of `parts` are parts, below p, and p bytes can be written.
 pub record Markable (p t : ℕ) (parts out : List ℕ) : Type 0 where
@@ -22,4 +22,4 @@ pub record Marks (p t : ℕ) (parts before after : List ℕ) : Type 0 where
   pub mark : (k : ℕ) → k < p → getD after k 0 < 2
   pub all : (a : ℕ) → a < t → getD after (getD parts a 0) 0 ≡ 1
   pub only : (k : ℕ) → k < p → getD after k 0 ≡ 1 → (a : ℕ) × (a < t) × (getD parts a 0 ≡ k)
-  pub others : OnlyFirst p before after
+  pub rest : OnlyFirst p before after

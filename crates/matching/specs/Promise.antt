@@ -59,4 +59,4 @@ pub record Assigns (p y : ℕ) (bytes before : List ℕ) (answer : Answer) (afte
   -- and what its case says holds
   pub means : (case : Answer) → answer ≡ case → caseOf p y bytes before after case .says
   -- the buffer past its first p bytes is as it came
-  pub others : OnlyFirst p before after
+  pub rest : OnlyFirst p before after

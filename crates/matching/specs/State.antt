@@ -94,7 +94,7 @@ HadOrReached parts from before i k r = ((k < i) × (r ≡ getD before k 0)) ⊎ 
 pub record Exchanged (i : ℕ) (parts from before owner after : List ℕ) : Type 0 where
   pub mirror : Mirror (i + 1) owner after
   pub by : (k : ℕ) → k < i + 1 → HadOrReached parts from before i k (getD after k 0)
-  pub others : OnlyFirst (i + 1) before after
+  pub rest : OnlyFirst (i + 1) before after
 
 -- The parts before i have roots, and part i is to have one.
 pub record Ready (p y i : ℕ) (bytes owner roots : List ℕ) : Type 0 where
@@ -111,11 +111,11 @@ pub record Placed (p y i : ℕ) (bytes : List ℕ) (placed : Bool) (before owner
   pub mirror : placed ≡ true → Mirror (i + 1) owner after
   pub may : placed ≡ true → May y (allowedAt bytes y) (i + 1) after
   pub set : placed ≡ false → IsDeficient p y (allowedAt bytes y) (take p after)
-  pub others : OnlyFirst p before after
+  pub rest : OnlyFirst p before after
 
 -- The first p bytes are an assignment or a deficient set, as the answer says.
 pub record Solved (p y : ℕ) (bytes before : List ℕ) (answer : Answer) (after : List ℕ) : Type 0 where
   pub answered : answer ≡ Refused → ⊥
   pub assigned : answer ≡ Assigned → IsAssignment p y (allowedAt bytes y) (take p after)
   pub set : answer ≡ Deficient → IsDeficient p y (allowedAt bytes y) (take p after)
-  pub others : OnlyFirst p before after
+  pub rest : OnlyFirst p before after

@@ -117,7 +117,7 @@ returns c =
       mirror = λ _. done .mirror;
       may = λ _. exchanged-may (s .args .y) (allowed f) done (root-found f .edges) (s .pre .may);
       set = λ e. absurd (true≢false e);
-      others = only-first-of-more (done .others) (s .args .p) (omega (arith, s .pre));
+      rest = only-first-of-more (done .rest) (s .args .p) (omega (arith, s .pre));
     }
 
 same-length-2 : tie.Need-same-length-2
@@ -135,8 +135,8 @@ returns-2 c =
       set =
           λ _.
           closed-deficient (nothing-found f) (pre .mirror) marks (pre .few) (pre .part) (pre .parts)
-          (omega (arith, pre .fits, only-first-length (marks .others)));
-      others = marks .others;
+          (omega (arith, pre .fits, only-first-length (marks .rest)));
+      rest = marks .rest;
     }
 
 pub place-spec : {M : Type 1} → statement M

@@ -22,7 +22,7 @@ Inv-loop p y allowed out₀ owner₀ i₀ out owner i =
       within : i ≤ p;
       mirror : Mirror i owner out;
       may : May y (allowedAt allowed y) i out;
-      others : OnlyFirst p out₀ out;
+      rest : OnlyFirst p out₀ out;
       size : length out ≡ length out₀;
     }
 
@@ -52,7 +52,7 @@ loop-holds c =
             owner-of = λ r h some. absurd (some (getD-replicate 32 r none 0 h));
           };
       may = λ k h. absurd (omega arith);
-      others = only-first-none _ _;
+      rest = only-first-none _ _;
       size = refl;
     }
 
@@ -74,7 +74,7 @@ place-requires c κs =
 same-length : tie.Need-same-length Inv-loop μ-loop
 same-length c =
     let k = c .before .before .before in
-    only-first-length (k .place .ensures .others) ∙ at-loop k .loop .inv .size
+    only-first-length (k .place .ensures .rest) ∙ at-loop k .loop .inv .size
 
 returns : tie.Need-returns Inv-loop μ-loop
 returns c =
@@ -84,7 +84,7 @@ returns c =
       answered = λ e. differ (cc);
       assigned = λ e. absurd (differ (cc));
       set = λ _. placed .set (not-true _ (c .if1 .taken));
-      others = only-first-on (inv .others) (placed .others);
+      rest = only-first-on (inv .rest) (placed .rest);
     }
 
 add-i : tie.Need-add-i Inv-loop μ-loop
@@ -101,8 +101,8 @@ loop-again c =
       within = omega (arith, at-test (c .before .before .before) .loop-test);
       mirror = placed .mirror (not-false _ (c .if1 .left));
       may = placed .may (not-false _ (c .if1 .left));
-      others = only-first-on (inv .others) (placed .others);
-      size = only-first-length (placed .others) ∙ inv .size;
+      rest = only-first-on (inv .rest) (placed .rest);
+      size = only-first-length (placed .rest) ∙ inv .size;
     }
 
 same-length-2 : tie.Need-same-length-2 Inv-loop μ-loop
@@ -120,7 +120,7 @@ returns-2 c =
           mirror-assignment (allowedAt (start .args .allowed .now) (start .args .y)) (rw all at (inv .mirror)) (rw all at (inv .may))
           (omega (arith, input start, inv));
       set = λ e. absurd (differ (cc));
-      others = inv .others;
+      rest = inv .rest;
     }
 
 pub solve-spec : {M : Type 1} → statement M

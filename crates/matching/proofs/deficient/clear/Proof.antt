@@ -15,7 +15,7 @@ Inv-loop p out₀ k₀ out k =
     record {
       passed : k ≤ p;
       zeros : (i : ℕ) → i < k → getD out i 0 ≡ 0;
-      others : OnlyFirst p out₀ out;
+      rest : OnlyFirst p out₀ out;
       size : length out ≡ length out₀;
     }
 
@@ -23,7 +23,7 @@ abbrev μ-loop : tie.MeasureT-loop
 μ-loop p out₀ k₀ out k = p - k
 
 loop-holds : tie.Need-loop-holds Inv-loop μ-loop
-loop-holds c = record { passed = omega arith; zeros = λ i h. absurd (omega arith); others = only-first-none _ _; size = refl }
+loop-holds c = record { passed = omega arith; zeros = λ i h. absurd (omega arith); rest = only-first-none _ _; size = refl }
 
 slice-write-out : tie.Need-slice-write-out Inv-loop μ-loop
 slice-write-out c = omega arith
@@ -40,7 +40,7 @@ loop-again c =
     record {
       passed = omega arith;
       zeros = λ i h. after-store (λ _ b. b ≡ 0) (l .out) (l .k) 0 i (omega arith) refl (λ ne. l .inv .zeros i (omega arith));
-      others = only-first-store (l .inv .others) (l .k) 0 (omega arith);
+      rest = only-first-store (l .inv .rest) (l .k) 0 (omega arith);
       size = length-set (l .out) (l .k) 0 ∙ l .inv .size;
     }
 
@@ -50,7 +50,7 @@ same-length c = omega arith
 returns : tie.Need-returns Inv-loop μ-loop
 returns c =
     let inv = c .before .loop .inv in
-    record { zeros = λ i h. inv .zeros i (omega arith); others = inv .others }
+    record { zeros = λ i h. inv .zeros i (omega arith); rest = inv .rest }
 
 pub clear-spec : {M : Type 1} → statement M
 clear-spec = tie.close (tie.spec Inv-loop μ-loop loop-holds slice-write-out add-k loop-less loop-again same-length returns)

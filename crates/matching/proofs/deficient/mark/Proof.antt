@@ -25,7 +25,7 @@ none-marked {p} {out = out} z =
       mark = λ k h. omega (arith, z .zeros k h);
       all = λ a h. absurd (omega arith);
       only = λ k h one. absurd (omega (arith, z .zeros k h));
-      others = only-first-none p out;
+      rest = only-first-none p out;
     }
 
 one-more : {p a : ℕ} {parts before out : List ℕ} → Marks p a parts before out → p ≤ length out → getD parts a 0 < p
@@ -43,7 +43,7 @@ one-more {p} {a} {parts} {before} {out} m fits is-part =
           λ k h.
           after-store (λ k v. k < p → v ≡ 1 → (b : ℕ) × (b < a + 1) × (getD parts b 0 ≡ k)) out part 1 k within (λ _ _. (a, omega arith, refl))
           (λ _ h one. let o = m .only k h one in (o .0, omega arith, o .2)) h;
-      others = only-first-store (m .others) part 1 is-part;
+      rest = only-first-store (m .rest) part 1 is-part;
     }
 
 clear-requires : tie.Need-clear-requires Inv-loop μ-loop
@@ -67,7 +67,7 @@ module _ (t : tie.At-loop Inv-loop μ-loop) where
   start = cleared .before .before .before
 
   length-kept : length (t .loop .out) ≡ length (start .args .out .now)
-  length-kept = only-first-length (t .loop .inv .1 .others) ∙ only-first-length (cleared .clear .ensures .others)
+  length-kept = only-first-length (t .loop .inv .1 .rest) ∙ only-first-length (cleared .clear .ensures .rest)
 
 -- In a turn: the part to mark is one, and there is room for it.
 module _ (c : tie.In-loop Inv-loop μ-loop) where
@@ -99,7 +99,7 @@ returns c =
       mark = marks .mark;
       all = λ a h. marks .all a (omega arith);
       only = λ k h one. let o = marks .only k h one in (o .0, omega arith, o .2);
-      others = only-first-on (cleared (c .before) .clear .ensures .others) (marks .others);
+      rest = only-first-on (cleared (c .before) .clear .ensures .rest) (marks .rest);
     }
 
 pub mark-spec : {M : Type 1} → statement M

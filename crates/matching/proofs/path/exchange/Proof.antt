@@ -21,7 +21,7 @@ module _ (t : tie.At-loop Inv-loop μ-loop) where
   start = t .before .before
 
   length-kept : length (t .loop .out) ≡ length (start .args .out .now)
-  length-kept = only-first-length (t .loop .inv .others)
+  length-kept = only-first-length (t .loop .inv .rest)
 
 -- In a turn: the place of the part that gets the vacant root.
 module _ (c : tie.In-loop Inv-loop μ-loop) where
