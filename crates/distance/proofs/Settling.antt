@@ -11,7 +11,7 @@ use lib.ListN.{getD}
 use Rattle.forest.specs.Around.{arcEdge, arcHead, arcWeight}
 use Rattle.distance.specs.Trail.{lastOf}
 use Rattle.distance.specs.Shortest.{unreached}
-use Rattle.distance.specs.Relaxing.{ArcAt, Becomes, same, nearer, AllRelaxed}
+use Rattle.distance.specs.Relaxing.{ArcAt, Becomes, same, nearer, Relaxed}
 use Rattle.distance.proofs.Relaxing.{becomes-low}
 
 -- The last edges lead from v back to the root, over settled vertices and at most that many edges, and the distances add up.
@@ -62,7 +62,7 @@ module _ {n : ℕ} {bounds arcs : List ℕ} {root : ℕ} {W X : ℕ → Type 0} 
     (s : Settling n bounds arcs root W c d l) (inside : u < n) (waits : W u) (low : getD d u 0 < unreached)
     (least : (v : ℕ) → W v → getD d u 0 ≤ getD d v 0)
     (waited : (v : ℕ) → X v → W v) (waits-still : (v : ℕ) → W v → (v ≡ u → ⊥) → X v) (waits-not : X u → ⊥)
-    (r : AllRelaxed bounds arcs u d l e m)
+    (r : Relaxed arcs (getD bounds u 0) (getD bounds (u + 1) 0) u d l e m)
   where
     Kept : ℕ → Type 0
     Kept x = (getD e x 0 ≡ getD d x 0) × (getD m x 0 ≡ getD l x 0)
