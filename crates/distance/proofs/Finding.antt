@@ -7,8 +7,7 @@ use mathlib.Core.List.{List}
 use native.Mathlib.Omega.{arith}
 use lib.ListN.{length, getD, set}
 use lib.Seq.{getD-set-other}
-use Rattle.forest.specs.Around.{arcHead, arcWeight}
-use Rattle.distance.specs.Shortest.{unreached}
+use Rattle.forest.specs.Around.{arcHead}
 use Rattle.distance.specs.Reached.{Listed}
 use Rattle.distance.specs.Relaxing.{ArcRelaxed, kept, lowered, found}
 use Rattle.distance.proofs.Listing.{listed-room, listed-lowered, listed-found}

@@ -16,7 +16,7 @@ use Rattle.lists.proofs.Put.{only-first, only-first-length, only-first-rest}
 use Rattle.forest.specs.Around.{arcHead, Arcs}
 use Rattle.distance.specs.Shortest.{unreached, Searchable, Searched}
 use Rattle.distance.specs.Reached.{Stands, Listed, Started, Seekable, Nearest}
-use Rattle.distance.specs.Relaxing.{ArcIn, ArcAt, Becomes, same, nearer, Relaxed, Relaxable, AllRelaxed}
+use Rattle.distance.specs.Relaxing.{ArcAt, Becomes, same, nearer, Relaxed, Relaxable, AllRelaxed}
 use Rattle.distance.proofs.Listing.{listed-start, listed-few, listed-swapped, swapped-second, swapped-other}
 use Rattle.distance.proofs.Settling.{Settling, settling-none, settling-more, Settled, settled-all}
 use Rattle.distance.proofs.Tracing.{traced-all}

@@ -2,7 +2,7 @@
 -- A vertex that no longer waits is settled: its distance and its last edge change no more. Nothing here asks that a weight is above 0.
 -- Assumes nothing.
 use Prim.Native.Nat.{ℕ, _+_, _≤_, _<_}
-use mathlib.Core.Path.{_≡_, refl, sym, ap, _∙_}
+use mathlib.Core.Path.{_≡_, _∙_}
 use mathlib.Core.List.{List}
 use mathlib.Core.Logic.{_⊎_, inl, inr, dite}
 use native.Mathlib.Decide.{ℕ-discrete}

@@ -33,7 +33,8 @@ pub(crate) fn relax_arcs(
     t: usize,
 ) -> usize
     requires { ⌜ Relaxable (now bounds) (now arcs) u (now dist) (now last) (now list) t ⌝ }
-    ensures { λ r. ⌜ AllRelaxed (now (bounds .entry)) (now (arcs .entry)) u (now (dist .entry)) (now (last .entry)) (now (list .entry)) t (now (dist .exit)) (now (last .exit)) (now (list .exit)) r ⌝ }
+    ensures { λ r. ⌜ AllRelaxed (now (bounds .entry)) (now (arcs .entry)) u (now (dist .entry)) (now (last .entry)) (now (list .entry)) t
+        (now (dist .exit)) (now (last .exit)) (now (list .exit)) r ⌝ }
 {
     let d = wide_distance(dist[u]);
     let end = wide(bounds[u + 1]);

@@ -13,25 +13,34 @@ Inv-loop n bounds arcs root dist₀ last₀ list₀ s₀ t₀ dist last list s t
 abbrev μ-loop : tie.MeasureT-loop
 μ-loop n bounds arcs root dist₀ last₀ list₀ s₀ t₀ dist last list s t = n - s
 
--- From the call that starts the search back to the function's entry, and from the nearest back to the loop's head.
-abbrev entered : tie.After-start Inv-loop μ-loop → tie.Start Inv-loop μ-loop
-entered c = c .before .before .before .before .before .before .before
+-- Places, each from a later one: the function's entry, the call that starts the search, the loop's head, the nearest, and the call that relaxes.
+abbrev entered : tie.After-list Inv-loop μ-loop → tie.Start Inv-loop μ-loop
+entered c = c .before .before .before .before .before .before
+
+abbrev started : tie.At-loop Inv-loop μ-loop → tie.After-start Inv-loop μ-loop
+started c = c .before .before .before .before
 
 abbrev at-loop : tie.After-nearest Inv-loop μ-loop → tie.At-loop Inv-loop μ-loop
 at-loop c = c .before .before .before .before
+
+abbrev found : tie.After-relax-arcs Inv-loop μ-loop → tie.After-wide Inv-loop μ-loop
+found c = c .before .before .before .before
+
+abbrev relaxed : tie.After-list5 Inv-loop μ-loop → tie.After-relax-arcs Inv-loop μ-loop
+relaxed c = c .before .before .before .before .before
 
 slice-aggregate-start : tie.Need-slice-aggregate-start Inv-loop μ-loop
 slice-aggregate-start c = search needs
 
 start-requires : tie.Need-start-requires Inv-loop μ-loop
 start-requires c κs =
-    let p = c .before .before .before .before .before .before .pre in
+    let p = entered c .pre in
     record { few = omega (arith, p .sound .few); root-inside = p .root-inside; dist-room = p .dist-room; list-room = omega (arith, p .sound .few) }
 
 loop-holds : tie.Need-loop-holds Inv-loop μ-loop
 loop-holds c =
     let k = c .before .before .before in
-    searching-start (entered k .pre) (k .start .ensures) (search needs) (search needs)
+    searching-start (entered (k .before) .pre) (k .start .ensures) (search needs) (search needs)
 
 slice-aggregate-nearest : tie.Need-slice-aggregate-nearest Inv-loop μ-loop
 slice-aggregate-nearest c = search needs
@@ -79,15 +88,14 @@ relax-arcs-requires c κs =
 
 loop-less : tie.Need-loop-less Inv-loop μ-loop
 loop-less c =
-    let k = c .before .before .before .before .before .before .before .before .before .before in
+    let k = found (relaxed c) .before in
     omega (arith, searching-few (at-loop k .loop .inv), k .before .before .before .loop-test .taken)
 
 loop-again : tie.Need-loop-again Inv-loop μ-loop
 loop-again c =
-    let x = c .before .before .before .before .before in
-    let k = x .before .before .before .before in
-    searching-more (at-loop (k .before) .loop .inv) (k .before .nearest .ensures) (k .wide .ensures .is) (x .relax-arcs .ensures) (search needs) (search needs)
-    (search needs)
+    let k = found (relaxed c) in
+    searching-more (at-loop (k .before) .loop .inv) (k .before .nearest .ensures) (k .wide .ensures .is) (relaxed c .relax-arcs .ensures) (search needs)
+    (search needs) (search needs)
 
 same-length : tie.Need-same-length Inv-loop μ-loop
 same-length c = search needs
@@ -97,8 +105,8 @@ same-length-2 c = search needs
 
 returns : tie.Need-returns Inv-loop μ-loop
 returns c =
-    let k = c .before .before .before .before .before in
-    searched-since (entered k .pre .dist-room) (k .start .ensures) (search needs) (searched-all (c .before .loop .inv) (omega arith))
+    let k = started (c .before) in
+    searched-since (entered (k .before) .pre .dist-room) (k .start .ensures) (search needs) (searched-all (c .before .loop .inv) (omega arith))
 
 pub distances-from-spec : {M : Type 1} → statement M
 distances-from-spec =

@@ -31,6 +31,10 @@ read : (c : tie.After-wide2 Inv-loop μ-loop) → let head = c .before .before .
     let a = started (head .before) .args in getD (a .dist .now) (c .wide2 .result) 0 ≡ getD (a .dist .now) (getD (a .list .now) (head .loop .i) 0) 0
 read c = ap (λ v. getD (started (c .before .before .before .before) .args .dist .now) v 0) (c .wide2 .ensures .is)
 
+-- From where the next is read back to the loop's head.
+abbrev at-loop : tie.After-wide2 Inv-loop μ-loop → tie.At-loop Inv-loop μ-loop
+at-loop c = c .before .before .before
+
 mul-wide : tie.Need-mul-wide Inv-loop μ-loop
 mul-wide c = search needs
 
@@ -74,7 +78,7 @@ loop-less : tie.Need-loop-less Inv-loop μ-loop
 loop-less c = search needs
 
 loop-again : tie.Need-loop-again Inv-loop μ-loop
-loop-again c = (omega arith, seeking-taken (c .before .before .before .before .before .loop .inv .1) (read (c .before .before)) (omega arith))
+loop-again c = (omega arith, seeking-taken (at-loop (c .before .before) .loop .inv .1) (read (c .before .before)) (omega arith))
 
 add-i-3 : tie.Need-add-i-3 Inv-loop μ-loop
 add-i-3 c = search needs
@@ -83,7 +87,7 @@ loop-less-2 : tie.Need-loop-less-2 Inv-loop μ-loop
 loop-less-2 c = search needs
 
 loop-again-2 : tie.Need-loop-again-2 Inv-loop μ-loop
-loop-again-2 c = (omega arith, seeking-passed (c .before .before .before .before .before .loop .inv .1) (read (c .before .before)) (omega arith))
+loop-again-2 c = (omega arith, seeking-passed (at-loop (c .before .before) .loop .inv .1) (read (c .before .before)) (omega arith))
 
 returns : tie.Need-returns Inv-loop μ-loop
 returns c = let same : c .before .loop .i ≡ started (c .before .before) .args .t = omega arith in rw same at (c .before .loop .inv .1 .found)

@@ -14,6 +14,10 @@ arc-head-requires c κs = search needs
 arc-weight-requires : tie.Need-arc-weight-requires
 arc-weight-requires c κs = search needs
 
+-- From where the old distance is known back to the arc's weight.
+abbrev weighed : tie.After-wide-distance → tie.After-arc-weight
+weighed c = c .before .before
+
 add-over : tie.Need-add-over
 unfolding arcWeight
 add-over c = search needs
@@ -29,7 +33,7 @@ wide-distance-requires c κs = search needs
 
 returns : tie.Need-returns
 returns c =
-    let k = c .before .before .before in
+    let k = weighed (c .before) in
     arc-kept (k .before .arc-head .ensures) (k .arc-weight .ensures) _ _ (omega (arith, leb-true))
 
 cast-dist : tie.Need-cast-dist
@@ -61,9 +65,10 @@ same-length-2 c = search needs
 
 returns-2 : tie.Need-returns-2
 returns-2 c =
-    let k = c .before .before .before .before .before in
+    let d = c .before .before .before in
+    let k = weighed d in
     arc-changed (k .before .arc-head .ensures) (k .arc-weight .ensures) _ _ (omega (arith, leb-false))
-    (omega (arith, c .before .before .before .before .slice-known3 .given (k .before .arc-head .result))) (c .before .arc-edge .ensures) (c .last-of .ensures)
+    (omega (arith, d .before .slice-known3 .given (k .before .arc-head .result))) (c .before .arc-edge .ensures) (c .last-of .ensures)
 
 pub relax-arc-spec : {M : Type 1} → statement M
 relax-arc-spec =

@@ -28,9 +28,12 @@ Inv-loop bounds arcs u dist₀ last₀ list₀ t d end i₀ r₀ dist last list 
 abbrev μ-loop : tie.MeasureT-loop
 μ-loop bounds arcs u dist₀ last₀ list₀ t d end i₀ r₀ dist last list i r = end - i
 
--- From the loop's head back to the start.
+-- From the loop's head back to the start, and to where the distance of u is known.
 abbrev started : tie.At-loop Inv-loop μ-loop → tie.Start Inv-loop μ-loop
 started c = c .before .before .before .before .before .before .before .before .before .before .before .before
+
+abbrev known : tie.At-loop Inv-loop μ-loop → tie.After-wide-distance Inv-loop μ-loop
+known c = c .before .before .before .before .before
 
 -- In the loop the next arc leads to a vertex, which has a place in every array; d is the distance of u.
 module _ (c : tie.In-loop Inv-loop μ-loop) where
@@ -49,8 +52,8 @@ module _ (c : tie.In-loop Inv-loop μ-loop) where
   in-last : arcHead arc < length (c .before .loop .last)
   in-last = omega (arith, at-start .pre .heads arc next, at-start .pre .last-room, c .before .loop .inv .last-size)
 
-  distance-read : c .before .before .before .before .before .before .wide-distance .result ≡ getD (at-start .args .dist .now) (at-start .args .u) 0
-  distance-read = c .before .before .before .before .before .before .wide-distance .ensures .is
+  distance-read : known (c .before) .wide-distance .result ≡ getD (at-start .args .dist .now) (at-start .args .u) 0
+  distance-read = known (c .before) .wide-distance .ensures .is
 
 -- From past the call back to it, and from the call to the loop's test.
 abbrev called : tie.After-slice-known6 Inv-loop μ-loop → tie.After-relax-arc Inv-loop μ-loop
