@@ -1,12 +1,12 @@
 -- The arcs of a vertex are its edges: each arc is an edge to its head, of its weight, and each edge of the vertex is one of its arcs.
 -- Assumes nothing.
-use Prim.Native.Nat.{ℕ, _+_, _≤_, _<_}
-use mathlib.Core.Path.{_≡_, refl, sym, ap, _∙_}
-use mathlib.Core.Bool.{Bool, true, false, cond}
+use Prim.Native.Nat.{ℕ, _+_, _<_}
+use mathlib.Core.Path.{_≡_, sym, ap, _∙_}
+use mathlib.Core.Bool.{true, false, cond}
 use mathlib.Core.List.{List}
 use mathlib.Core.Logic.{_⊎_, inl, inr}
 use native.Mathlib.Omega.{arith}
-use lib.ListN.{length, getD}
+use lib.ListN.{getD}
 use lib.Dec.{eqb}
 use borrow.Author.Tests.{eqb-true, eqb-false, eq-eqb, ne-eqb}
 use Rattle.lists.specs.Count.{below}
@@ -21,8 +21,8 @@ use Rattle.graph.specs.Graph.{Graph, edgeCount, oneEnd, otherEnd, weightOf}
 use Rattle.graph.specs.Valid.{Valid}
 use Rattle.rules.specs.Grow.{farEnd}
 use Rattle.rules.specs.Walk.{Joins, onward, back}
-use Rattle.forest.specs.Around.{arcOf, arcEdge, arcHead, arcWeight, touches, arcsAt, Arcs, Around}
-use Rattle.distance.specs.Relaxing.{ArcIn, ArcAt}
+use Rattle.forest.specs.Around.{arcOf, arcEdge, arcHead, arcWeight, touches, arcsAt, Around}
+use Rattle.distance.specs.Relaxing.{ArcAt}
 use Rattle.distance.proofs.Arcs.{arc-edge, valid-arc-head, valid-arc-weight}
 
 -- An edge that touches u joins it to its far end.

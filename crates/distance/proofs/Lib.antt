@@ -1,14 +1,16 @@
 -- Laws that belong to no one function, in reading order.
 -- the arcs of a vertex, relaxed one after the other
 pub mod Relaxing
+-- the list of the vertices reached
+pub mod Listing
+-- whoever is found is added to the list
+pub mod Finding
 -- the start of a search, and the nearest that waits
 pub mod Seeking
 -- trails, followed edge by edge
 pub mod Trails
 -- the invariant of the search
 pub mod Settling
--- the list of the vertices that wait
-pub mod Listing
 -- what an arc holds is read from it again
 pub mod Arcs
 -- the arcs of a vertex are its edges

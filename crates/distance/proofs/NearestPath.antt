@@ -11,12 +11,11 @@ use Rattle.graph.specs.Graph.{Graph}
 use Rattle.graph.specs.Valid.{Valid}
 use Rattle.rules.specs.Cover.{Tree}
 use Rattle.rules.specs.Distance.{Distance, treeVertices, IsShortestPath}
-use Rattle.rules.specs.Walk.{totalWeight}
 use Rattle.rules.proofs.Linked.{turned, of-turned, walk-back}
 use Rattle.distance_laws.proofs.Nearer.{none-some}
 use Rattle.distance_laws.proofs.PathWeights.{turned-weight}
 use Rattle.distance_laws.proofs.NearestVertex.{nearest-shortest}
-use Rattle.distance.specs.Trail.{trailOf, HasTrail, CanGoBack}
+use Rattle.distance.specs.Trail.{trailOf, CanGoBack}
 use Rattle.distance.specs.Shortest.{unreached, SaysDistance, nowhere, there, Shortest}
 
 -- What stands in the array is the distance, where there is one.

@@ -1,23 +1,40 @@
 -- The arcs of a vertex relaxed one after the other.
 -- Assumes nothing.
 use Prim.Native.Nat.{ℕ, _+_, _≤_, _<_}
-use mathlib.Core.Path.{_≡_, refl, sym, ap, _∙_}
+use mathlib.Core.Path.{_≡_, refl, sym, _∙_}
+use mathlib.Core.Bool.{Bool, true, false}
 use mathlib.Core.List.{List}
+use mathlib.Core.Logic.{_⊎_, inl, inr}
 use native.Mathlib.Omega.{arith}
 use lib.ListN.{length, getD, set}
+use lib.Dec.{eqb}
 use lib.Seq.{getD-set-same, getD-set-other}
+use borrow.Author.Tests.{eqb-true, eqb-false}
 use Rattle.lists.proofs.AfterStore.{at-or-not}
+use Rattle.lists.proofs.Member.{either}
 use Rattle.forest.specs.Around.{arcEdge, arcHead, arcWeight}
 use Rattle.distance.specs.Trail.{lastOf}
-use Rattle.distance.specs.Relaxing.{ArcIn, ArcRelaxed, kept, lowered, Becomes, same, nearer, Relaxed}
+use Rattle.distance.specs.Shortest.{unreached}
+use Rattle.distance.specs.Relaxing.{ArcIn, ArcRelaxed, kept, lowered, found, Becomes, same, nearer, Relaxed}
 
 -- One arc, by what is read from it.
 module _ {a u d v w : ℕ} (head : v ≡ arcHead a) (weight : w ≡ arcWeight a) (dist last : List ℕ) where
-  pub arc-kept : getD dist v 0 ≤ d + w → ArcRelaxed a u d dist last dist last
-  arc-kept h = kept (rw (sym head, sym weight) h) refl refl
+  pub arc-kept : getD dist v 0 ≤ d + w → ArcRelaxed a u d dist last dist last false
+  arc-kept h = kept (rw (sym head, sym weight) h) refl refl refl
 
-  pub arc-lowered : {e x : ℕ} → d + w < getD dist v 0 → e ≡ arcEdge a → x ≡ lastOf e u → ArcRelaxed a u d dist last (set dist v (d + w)) (set last v x)
-  arc-lowered h edge q = lowered (rw (sym head, sym weight) h) (rw (head, weight)) (rw (q, edge, head))
+  pub arc-changed : {e x : ℕ} → d + w < getD dist v 0 → getD dist v 0 ≤ unreached → e ≡ arcEdge a → x ≡ lastOf e u
+      → ArcRelaxed a u d dist last (set dist v (d + w)) (set last v x) (eqb (getD dist v 0) unreached)
+  arc-changed {e} {x} h most edge q = go (either (eqb (getD dist v 0) unreached))
+    where
+      less : d + arcWeight a < getD dist (arcHead a) 0
+      less = rw (sym head, sym weight) h
+
+      go : (eqb (getD dist v 0) unreached ≡ true) ⊎ (eqb (getD dist v 0) unreached ≡ false)
+          → ArcRelaxed a u d dist last (set dist v (d + w)) (set last v x) (eqb (getD dist v 0) unreached)
+      go (inl t) = found less (rw (sym head) (eqb-true (getD dist v 0) unreached t)) (rw (head, weight)) (rw (q, edge, head)) t
+      go (inr t) =
+          let low : getD dist v 0 < unreached = omega (arith, eqb-false (getD dist v 0) unreached t) in
+          lowered less (rw (sym head) low) (rw (head, weight)) (rw (q, edge, head)) t
 
 -- An arc among fewer is one among more.
 arc-wider : {arcs : List ℕ} {lo hi a : ℕ} → ArcIn arcs lo hi a → ArcIn arcs lo (hi + 1) a
@@ -90,6 +107,8 @@ module _ {arcs : List ℕ} {lo i u : ℕ} {d l e m : List ℕ} (r : Relaxed arcs
     }
 
   -- One arc more is relaxed.
-  pub relaxed-more : arcHead arc < length e → arcHead arc < length m → {f k : List ℕ} → ArcRelaxed arc u (getD d u 0) e m f k → Relaxed arcs lo (i + 1) u d l f k
-  relaxed-more in-dist in-last (kept low p q) = rw (p, q) (relaxed-kept low)
-  relaxed-more in-dist in-last (lowered less p q) = rw (p, q) (relaxed-lowered in-dist in-last less)
+  pub relaxed-more : arcHead arc < length e → arcHead arc < length m → {x : ℕ} → x ≡ getD d u 0 → {f k : List ℕ} {b : Bool} → ArcRelaxed arc u x e m f k b
+      → Relaxed arcs lo (i + 1) u d l f k
+  relaxed-more in-dist in-last own (kept low p q t) = rw (p, q) (relaxed-kept (rw own at low))
+  relaxed-more in-dist in-last own (lowered less was p q t) = rw (p, q, own) (relaxed-lowered in-dist in-last (rw own at less))
+  relaxed-more in-dist in-last own (found less was p q t) = rw (p, q, own) (relaxed-lowered in-dist in-last (rw own at less))

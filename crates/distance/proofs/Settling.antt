@@ -1,8 +1,8 @@
--- The invariant of the search, whatever says which vertices wait, and that taking the nearest and relaxing its arcs carries it on.
--- A vertex that no longer waits is settled: its distance and its last edge change no more. Nothing here asks that a weight is above 0.
+-- The invariant of the search, whatever says which vertices are open, and that settling the nearest and relaxing its arcs carries it on.
+-- A vertex that is open no longer is settled: its distance and its last edge change no more. Nothing here asks that a weight is above 0.
 -- Assumes nothing.
 use Prim.Native.Nat.{ℕ, _+_, _≤_, _<_}
-use mathlib.Core.Path.{_≡_, refl, sym, ap, _∙_}
+use mathlib.Core.Path.{_≡_, _∙_}
 use mathlib.Core.List.{List}
 use mathlib.Core.Logic.{_⊎_, inl, inr, dite}
 use native.Mathlib.Decide.{ℕ-discrete}
@@ -11,28 +11,28 @@ use lib.ListN.{getD}
 use Rattle.forest.specs.Around.{arcEdge, arcHead, arcWeight}
 use Rattle.distance.specs.Trail.{lastOf}
 use Rattle.distance.specs.Shortest.{unreached}
-use Rattle.distance.specs.Relaxing.{ArcAt, Becomes, same, nearer, AllRelaxed}
+use Rattle.distance.specs.Relaxing.{ArcAt, Becomes, same, nearer, Relaxed}
 use Rattle.distance.proofs.Relaxing.{becomes-low}
 
 -- The last edges lead from v back to the root, over settled vertices and at most that many edges, and the distances add up.
-pub data Back (n : ℕ) (bounds arcs : List ℕ) (root : ℕ) (Waits : ℕ → Type 0) (dist last : List ℕ) : ℕ → ℕ → Type 0 where
-  home : {most v : ℕ} → v ≡ root → Back n bounds arcs root Waits dist last most v
-  over : {most less v u a : ℕ} → u < n → (Waits u → ⊥) → ArcAt bounds arcs u a → v ≡ arcHead a → getD last v 0 ≡ lastOf (arcEdge a) u
-      → getD dist v 0 ≡ getD dist u 0 + arcWeight a → Back n bounds arcs root Waits dist last less u → less < most
-      → Back n bounds arcs root Waits dist last most v
+pub data Back (n : ℕ) (bounds arcs : List ℕ) (root : ℕ) (Open : ℕ → Type 0) (dist last : List ℕ) : ℕ → ℕ → Type 0 where
+  home : {most v : ℕ} → v ≡ root → Back n bounds arcs root Open dist last most v
+  over : {most less v u a : ℕ} → u < n → (Open u → ⊥) → ArcAt bounds arcs u a → v ≡ arcHead a → getD last v 0 ≡ lastOf (arcEdge a) u
+      → getD dist v 0 ≡ getD dist u 0 + arcWeight a → Back n bounds arcs root Open dist last less u → less < most
+      → Back n bounds arcs root Open dist last most v
 
 -- The invariant, with c vertices settled.
-pub record Settling (n : ℕ) (bounds arcs : List ℕ) (root : ℕ) (Waits : ℕ → Type 0) (c : ℕ) (dist last : List ℕ) : Type 0 where
+pub record Settling (n : ℕ) (bounds arcs : List ℕ) (root : ℕ) (Open : ℕ → Type 0) (c : ℕ) (dist last : List ℕ) : Type 0 where
   pub root-zero : getD dist root 0 ≡ 0
   pub bounded : (v : ℕ) → v < n → getD dist v 0 ≤ unreached
-  -- a settled vertex is no farther than one that waits
-  pub settled-near : (x v : ℕ) → x < n → (Waits x → ⊥) → Waits v → getD dist x 0 ≤ getD dist v 0
+  -- a settled vertex is no farther than an open one
+  pub settled-near : (x v : ℕ) → x < n → (Open x → ⊥) → Open v → getD dist x 0 ≤ getD dist v 0
   -- the arcs of a settled vertex are relaxed
-  pub relaxed : (x a : ℕ) → x < n → (Waits x → ⊥) → ArcAt bounds arcs x a → getD dist (arcHead a) 0 ≤ getD dist x 0 + arcWeight a
+  pub relaxed : (x a : ℕ) → x < n → (Open x → ⊥) → ArcAt bounds arcs x a → getD dist (arcHead a) 0 ≤ getD dist x 0 + arcWeight a
   -- from each vertex reached the last edges lead back
-  pub reached : (v : ℕ) → v < n → getD dist v 0 < unreached → Back n bounds arcs root Waits dist last c v
+  pub reached : (v : ℕ) → v < n → getD dist v 0 < unreached → Back n bounds arcs root Open dist last c v
   -- from a settled one over fewer edges
-  pub settled : (v : ℕ) → v < n → (Waits v → ⊥) → getD dist v 0 < unreached → (k : ℕ) × (k < c) × Back n bounds arcs root Waits dist last k v
+  pub settled : (v : ℕ) → v < n → (Open v → ⊥) → getD dist v 0 < unreached → (k : ℕ) × (k < c) × Back n bounds arcs root Open dist last k v
 
 module _ {n : ℕ} {bounds arcs : List ℕ} {root : ℕ} where
   -- More edges may be allowed.
@@ -40,12 +40,12 @@ module _ {n : ℕ} {bounds arcs : List ℕ} {root : ℕ} where
   back-wider (home q) h = home q
   back-wider {j = j} (over inside settled arc head edge sum b less) h = over {most = j} inside settled arc head edge sum b (omega arith)
 
-  -- Once nothing waits, all waiting is forgotten.
+  -- In the end it no longer matters which are open.
   pub back-settled : {W : ℕ → Type 0} {d l : List ℕ} {k v : ℕ} → Back n bounds arcs root W d l k v → Back n bounds arcs root (λ _. ⊥) d l k v
   back-settled (home q) = home q
   back-settled (over inside settled arc head edge sum b less) = over inside (λ x. x) arc head edge sum (back-settled b) less
 
-  -- At the start all wait, and the root alone is reached.
+  -- At the start all are open, and the root alone is reached.
   pub settling-none : {W : ℕ → Type 0} {d l : List ℕ} → ((v : ℕ) → v < n → W v) → getD d root 0 ≡ 0 → ((v : ℕ) → v < n → (v ≡ root → ⊥) → getD d v 0 ≡ unreached)
       → Settling n bounds arcs root W 0 d l
   settling-none {W} {d} {l} all zero others = record {
@@ -57,12 +57,12 @@ module _ {n : ℕ} {bounds arcs : List ℕ} {root : ℕ} where
     settled = λ v h s low. absurd (s (all v h));
   }
 
--- u, the nearest that waits, is settled: it waits no longer, and its arcs are relaxed.
+-- u, the nearest that is open, is settled: it is open no longer, and its arcs are relaxed.
 module _ {n : ℕ} {bounds arcs : List ℕ} {root : ℕ} {W X : ℕ → Type 0} {c u : ℕ} {d l e m : List ℕ}
-    (s : Settling n bounds arcs root W c d l) (inside : u < n) (waits : W u) (low : getD d u 0 < unreached)
+    (s : Settling n bounds arcs root W c d l) (inside : u < n) (is-open : W u) (low : getD d u 0 < unreached)
     (least : (v : ℕ) → W v → getD d u 0 ≤ getD d v 0)
-    (waited : (v : ℕ) → X v → W v) (waits-still : (v : ℕ) → W v → (v ≡ u → ⊥) → X v) (waits-not : X u → ⊥)
-    (r : AllRelaxed bounds arcs u d l e m)
+    (was-open : (v : ℕ) → X v → W v) (still-open : (v : ℕ) → W v → (v ≡ u → ⊥) → X v) (not-open : X u → ⊥)
+    (r : Relaxed arcs (getD bounds u 0) (getD bounds (u + 1) 0) u d l e m)
   where
     Kept : ℕ → Type 0
     Kept x = (getD e x 0 ≡ getD d x 0) × (getD m x 0 ≡ getD l x 0)
@@ -77,7 +77,7 @@ module _ {n : ℕ} {bounds arcs : List ℕ} {root : ℕ} {W X : ℕ → Type 0} 
         go (nearer i head p less q) = absurd (omega arith)
 
     settled-or : (x : ℕ) → (X x → ⊥) → (x ≡ u) ⊎ (W x → ⊥)
-    settled-or x h = dite (ℕ-discrete x u) inl (λ away. inr (λ w. h (waits-still x w away)))
+    settled-or x h = dite (ℕ-discrete x u) inl (λ away. inr (λ w. h (still-open x w away)))
 
     -- A settled vertex, u among them, is no farther than u was, and is kept.
     settled-low : (x : ℕ) → x < n → (X x → ⊥) → getD d x 0 ≤ getD d u 0
@@ -85,7 +85,7 @@ module _ {n : ℕ} {bounds arcs : List ℕ} {root : ℕ} {W X : ℕ → Type 0} 
       where
         go : (x ≡ u) ⊎ (W x → ⊥) → getD d x 0 ≤ getD d u 0
         go (inl q) = rw q (omega arith)
-        go (inr w) = s .settled-near x u h w waits
+        go (inr w) = s .settled-near x u h w is-open
 
     settled-kept : (x : ℕ) → x < n → (X x → ⊥) → Kept x
     settled-kept x h out = near-kept x (settled-low x h out)
@@ -95,11 +95,11 @@ module _ {n : ℕ} {bounds arcs : List ℕ} {root : ℕ} {W X : ℕ → Type 0} 
     unfolding Kept
     back-kept (home q) kept = home q
     back-kept (over {u = x} x-inside out arc head edge sum b less) kept =
-        let k = settled-kept x x-inside (λ w. out (waited x w)) in
-        over x-inside (λ w. out (waited x w)) arc head (kept .1 ∙ edge) (omega (arith, kept, k)) (back-kept b k) less
+        let k = settled-kept x x-inside (λ w. out (was-open x w)) in
+        over x-inside (λ w. out (was-open x w)) arc head (kept .1 ∙ edge) (omega (arith, kept, k)) (back-kept b k) less
 
     own-kept : Kept u
-    own-kept = settled-kept u inside waits-not
+    own-kept = settled-kept u inside not-open
 
     own-back : Back n bounds arcs root X e m c u
     own-back = back-kept (s .reached u inside low) own-kept
@@ -116,16 +116,16 @@ module _ {n : ℕ} {bounds arcs : List ℕ} {root : ℕ} {W X : ℕ → Type 0} 
     }
       where
         near : (x v : ℕ) → x < n → (X x → ⊥) → X v → Becomes arcs (getD bounds u 0) (getD bounds (u + 1) 0) u v d l e m → getD e x 0 ≤ getD e v 0
-        near x v h out w (same p q) = omega (arith, settled-kept x h out, settled-low x h out, least v (waited v w))
+        near x v h out w (same p q) = omega (arith, settled-kept x h out, settled-low x h out, least v (was-open v w))
         near x v h out w (nearer i head p less q) = omega (arith, settled-kept x h out, settled-low x h out)
 
         relaxed-now : (x a : ℕ) → x < n → ArcAt bounds arcs x a → (x ≡ u) ⊎ (W x → ⊥) → getD e (arcHead a) 0 ≤ getD e x 0 + arcWeight a
         relaxed-now x a h i (inl q) = let own : ArcAt bounds arcs u a = rw q at i in rw q (omega (arith, r .lowest a own, own-kept))
-        relaxed-now x a h i (inr w) = omega (arith, becomes-low (r .each (arcHead a)), s .relaxed x a h w i, settled-kept x h (λ v. w (waited x v)))
+        relaxed-now x a h i (inr w) = omega (arith, becomes-low (r .each (arcHead a)), s .relaxed x a h w i, settled-kept x h (λ v. w (was-open x v)))
 
         leads : (v : ℕ) → v < n → getD e v 0 < unreached → Becomes arcs (getD bounds u 0) (getD bounds (u + 1) 0) u v d l e m → Back n bounds arcs root X e m f v
         leads v h g (same p q) = back-wider (back-kept (s .reached v h (omega arith)) (p, q)) (omega arith)
-        leads v h g (nearer i head p less q) = over inside waits-not i head q (omega (arith, own-kept)) own-back more
+        leads v h g (nearer i head p less q) = over inside not-open i head q (omega (arith, own-kept)) own-back more
 
         leads-settled : (v : ℕ) → v < n → (X v → ⊥) → getD e v 0 < unreached → (v ≡ u) ⊎ (W v → ⊥) → (k : ℕ) × (k < f) × Back n bounds arcs root X e m k v
         leads-settled v h out g (inl q) = (c, more, rw q own-back)
@@ -140,7 +140,7 @@ pub record Settled (n : ℕ) (bounds arcs : List ℕ) (root : ℕ) (dist last : 
   pub relaxed : (x a : ℕ) → x < n → getD dist x 0 < unreached → ArcAt bounds arcs x a → getD dist (arcHead a) 0 ≤ getD dist x 0 + arcWeight a
   pub reached : (v : ℕ) → v < n → getD dist v 0 < unreached → (k : ℕ) × (k < n) × Back n bounds arcs root (λ _. ⊥) dist last k v
 
--- It is over where none that waits is reached.
+-- It is over where none that is open is reached.
 pub settled-all : {n : ℕ} {bounds arcs : List ℕ} {root : ℕ} {W : ℕ → Type 0} {c : ℕ} {d l : List ℕ} → Settling n bounds arcs root W c d l → c ≤ n
     → ((v : ℕ) → W v → unreached ≤ getD d v 0) → Settled n bounds arcs root d l
 settled-all s few none = record {

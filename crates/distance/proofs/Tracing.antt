@@ -1,9 +1,9 @@
 -- Once the search is over, the arrays say the distances and the shortest paths of the graph whose arcs they are.
 -- Assumes nothing.
-use Prim.Native.Nat.{ℕ, suc, _+_, _*_, _≤_, _<_}
+use Prim.Native.Nat.{ℕ, _+_, _≤_, _<_}
 use mathlib.Core.Path.{_≡_, refl, sym, ap, _∙_}
 use mathlib.Core.List.{List, [], _∷_, List·Memᴰ·head, List·Memᴰ·tail, List·Memᴰ·not-nil}
-use mathlib.Core.Logic.{_⊎_, inl, inr, dite}
+use mathlib.Core.Logic.{dite}
 use mathlib.Core.Option.{some, none}
 use native.Mathlib.Decide.{ℕ-discrete}
 use native.Mathlib.Omega.{arith}
@@ -12,18 +12,17 @@ use Rattle.lists.specs.Count.{below}
 use Rattle.lists.specs.Lists.{sumOf}
 use Rattle.lists.specs.Member.{_∈_}
 use Rattle.graph.specs.Graph.{Graph, edgeCount, weightOf}
-use Rattle.rules.specs.Walk.{Joins, Walk, stay, step, totalWeight}
+use Rattle.rules.specs.Walk.{Walk, stay, step, totalWeight}
 use Rattle.rules.specs.Distance.{Distance}
-use Rattle.rules.proofs.Linked.{turned, of-turned, joins-back, walk-back}
+use Rattle.rules.proofs.Linked.{joins-back, walk-back}
 use Rattle.distance_laws.proofs.Nearer.{AtMost, none-some}
-use Rattle.distance_laws.proofs.Shortening.{Short, shortened}
+use Rattle.distance_laws.proofs.Shortening.{shortened}
 use Rattle.distance_laws.proofs.Bounding.{joins-inside}
 use Rattle.distance_laws.proofs.Least.{distanceTo, distance-reached, distance-most}
 use Rattle.distance_laws.proofs.PathWeights.{turned-weight, weight-most}
 use Rattle.forest.specs.Around.{arcEdge, arcHead, arcWeight, Around}
-use Rattle.distance.specs.Trail.{lastOf, lastEdge, vertexBefore, IsTrail, home, over, HasTrail, trailOf}
+use Rattle.distance.specs.Trail.{lastOf, lastEdge, vertexBefore, IsTrail, home, over}
 use Rattle.distance.specs.Shortest.{unreached, SaysDistance, nowhere, there, IsPathBack, Shortest}
-use Rattle.distance.specs.Relaxing.{ArcAt}
 use Rattle.distance.proofs.Trails.{trail-of}
 use Rattle.distance.proofs.ArcEdges.{IsEdge, arc-edges, edge-arcs}
 use Rattle.distance.proofs.Settling as settling

@@ -2,14 +2,12 @@
 -- Assumes nothing.
 use Prim.Native.Nat.{ℕ, zero, suc, _+_, _≤_, _<_}
 use mathlib.Core.Path.{_≡_, refl, sym, ap, _∙_}
-use mathlib.Core.Bool.{Bool, true, false, cond}
 use mathlib.Core.List.{List, [], _∷_, _++_, append-assoc, append-nil}
 use native.Mathlib.Omega.{arith}
-use lib.ListN.{length, getD, set, length-append, length-set}
-use lib.Dec.{eqb}
+use lib.ListN.{length, getD, set, length-set}
 use borrow.Author.Tests.{eq-eqb, ne-eqb}
 use Rattle.lists.specs.Put.{PutTo}
-use Rattle.lists.proofs.Put.{put-to-none, put-more, put-length}
+use Rattle.lists.proofs.Put.{put-to-none, put-more}
 use Rattle.distance.specs.Trail.{lastEdge, vertexBefore, IsTrail, home, over, trailIn, trailOf, CanGoBack}
 
 -- The trail is what the array says, where the bound is no less than its length.

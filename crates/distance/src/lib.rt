@@ -1,16 +1,16 @@
 // Distances from a root ("yard") over the edges around each vertex, and the shortest paths back to it (document 01, step 5).
-// The method is Dijkstra's: of the vertices that wait the nearest is taken from their list, and its arcs are relaxed. No bytes are read.
+// The method is Dijkstra's: of the vertices that are reached and wait, the nearest is settled, and its arcs are relaxed. No bytes are read.
 // The words of the contracts stand in specs/.
 mod last;
+mod list;
 mod relax;
-mod waiting;
 mod wide;
 
 use crate::last::last_edge;
 use crate::last::vertex_before;
+use crate::list::nearest;
+use crate::list::start;
 use crate::relax::relax_arcs;
-use crate::waiting::nearest;
-use crate::waiting::start;
 use crate::wide::wide;
 ghost use lib.ListN.{length};
 ghost use Rattle.lists.specs.Put.{PutTo};
@@ -32,18 +32,17 @@ pub fn distances_from(
     requires { ⌜ Searchable n (now bounds) (now arcs) root (now dist) (now last) ⌝ }
     ensures { λ _. ⌜ Searched n (now (bounds .entry)) (now (arcs .entry)) root (now (dist .entry)) (now (last .entry)) (now (dist .exit)) (now (last .exit)) ⌝ }
 {
-    let mut waiting = [0u16; 256];
-    start(n, root, dist, &mut waiting);
-    let mut k = n;
-    while 0 < k {
-        let at = nearest(&waiting, k, dist);
-        let u = wide(waiting[at]);
-        if dist[u] == UNREACHED {
-            return;
-        }
-        k -= 1;
-        waiting[at] = waiting[k];
-        relax_arcs(bounds, arcs, u, dist, last);
+    let mut list = [0u16; 256];
+    start(n, root, dist, &mut list);
+    let mut s = 0;
+    let mut t = 1;
+    while s < t {
+        let at = nearest(&list, s, t, dist);
+        let u = list[at];
+        list[at] = list[s];
+        list[s] = u;
+        s += 1;
+        t = relax_arcs(bounds, arcs, wide(u), dist, last, &mut list, t);
     }
 }
 

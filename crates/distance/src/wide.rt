@@ -1,6 +1,4 @@
 // Elements of the arrays as numbers to count with.
-ghost use mathlib.Core.Path.{_≡_};
-ghost use Prim.Native.Nat.{_<_};
 ghost use Rattle.graph.specs.Bytes.{Reads};
 
 // A vertex, or a bound, as an index.

@@ -1,14 +1,12 @@
--- `distance::relax::relax_arc` meets its contract: the two ways are the two cases of `ArcRelaxed`. What is stored is below what stood there,
+-- `distance::relax::relax_arc` meets its contract: the ways are the cases of `ArcRelaxed`. What is stored is below what stood there,
 -- so it fits. Assumes nothing.
 use native.Mathlib.Omega.{arith}
 use borrow.Author.Tests.{leb-true, leb-false}
 use borrow.Author.Needs.{needs}
 use Rattle.forest.specs.Around.{arcWeight}
-use Rattle.distance.proofs.Relaxing.{arc-kept, arc-lowered}
+use Rattle.distance.proofs.Relaxing.{arc-kept, arc-changed}
 use Rattle.distance.proofs.relax.relax_arc.Statement.{statement}
 use Rattle.distance.proofs.relax.relax_arc.Tie as tie
-use Rattle.distance.proofs.relax.relax_arc.Reads as reads
-use Rattle.distance.proofs.relax.relax_arc.Lts as lts
 
 arc-head-requires : tie.Need-arc-head-requires
 arc-head-requires c κs = search needs
@@ -16,22 +14,26 @@ arc-head-requires c κs = search needs
 arc-weight-requires : tie.Need-arc-weight-requires
 arc-weight-requires c κs = search needs
 
+-- From where the old distance is known back to the arc's weight.
+abbrev weighed : tie.After-wide-distance → tie.After-arc-weight
+weighed c = c .before .before
+
 add-over : tie.Need-add-over
 unfolding arcWeight
 add-over c = search needs
 
-mul-wide-distance : tie.Need-mul-wide-distance
-mul-wide-distance c = search needs
+mul-before : tie.Need-mul-before
+mul-before c = search needs
 
-slice-read-wide-distance : tie.Need-slice-read-wide-distance
-slice-read-wide-distance c = search needs
+slice-read-before : tie.Need-slice-read-before
+slice-read-before c = search needs
 
 wide-distance-requires : tie.Need-wide-distance-requires
 wide-distance-requires c κs = search needs
 
 returns : tie.Need-returns
 returns c =
-    let k = c .before .before .before in
+    let k = weighed (c .before) in
     arc-kept (k .before .arc-head .ensures) (k .arc-weight .ensures) _ _ (omega (arith, leb-true))
 
 cast-dist : tie.Need-cast-dist
@@ -63,8 +65,10 @@ same-length-2 c = search needs
 
 returns-2 : tie.Need-returns-2
 returns-2 c =
-    let k = c .before .before .before .before .before in
-    arc-lowered (k .before .arc-head .ensures) (k .arc-weight .ensures) _ _ (omega (arith, leb-false)) (c .before .arc-edge .ensures) (c .last-of .ensures)
+    let d = c .before .before .before in
+    let k = weighed d in
+    arc-changed (k .before .arc-head .ensures) (k .arc-weight .ensures) _ _ (omega (arith, leb-false))
+    (omega (arith, d .before .slice-known3 .given (k .before .arc-head .result))) (c .before .arc-edge .ensures) (c .last-of .ensures)
 
 pub relax-arc-spec : {M : Type 1} → statement M
 relax-arc-spec =
@@ -73,8 +77,8 @@ relax-arc-spec =
     arc-head-requires
     arc-weight-requires
     add-over
-    mul-wide-distance
-    slice-read-wide-distance
+    mul-before
+    slice-read-before
     wide-distance-requires
     returns
     cast-dist

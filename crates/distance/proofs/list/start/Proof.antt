@@ -1,37 +1,29 @@
--- `distance::waiting::start` meets its contract. The loop's invariant: the vertices below v wait, and are not reached.
+-- `distance::list::start` meets its contract. The loop's invariant: the vertices below v are not reached.
 -- The measure is how many are left. Assumes nothing.
 use Prim.Native.Nat.{_-_, _≤_}
 use mathlib.Core.Path.{_≡_, refl}
 use native.Mathlib.Omega.{arith}
 use lib.ListN.{length}
+use lib.Seq.{getD-set-same}
 use borrow.Author.Needs.{needs}
 use Rattle.distance.proofs.Seeking.{Starting, starting-none, starting-more, starting-all}
-use Rattle.distance.proofs.waiting.start.Statement.{statement}
-use Rattle.distance.proofs.waiting.start.Tie as tie
+use Rattle.distance.proofs.list.start.Statement.{statement}
+use Rattle.distance.proofs.list.start.Tie as tie
 
 abbrev Inv-loop : tie.InvT-loop
-Inv-loop n root dist₀ waiting₀ v₀ dist waiting v = (v ≤ n) × (length dist ≡ length dist₀) × (length waiting ≡ length waiting₀) × Starting n v dist₀ dist waiting
+Inv-loop n root dist₀ list v₀ dist v = (v ≤ n) × (length dist ≡ length dist₀) × Starting n v dist₀ dist
 
 abbrev μ-loop : tie.MeasureT-loop
-μ-loop n root dist₀ waiting₀ v₀ dist waiting v = n - v
+μ-loop n root dist₀ list v₀ dist v = n - v
 
 loop-holds : tie.Need-loop-holds Inv-loop μ-loop
-loop-holds c = (omega arith, refl, refl, starting-none)
+loop-holds c = (omega arith, refl, starting-none)
 
 mul-dist : tie.Need-mul-dist Inv-loop μ-loop
 mul-dist c = search needs
 
 slice-write-dist : tie.Need-slice-write-dist Inv-loop μ-loop
 slice-write-dist c = search needs
-
-cast-waiting : tie.Need-cast-waiting Inv-loop μ-loop
-cast-waiting c = search needs
-
-mul-waiting : tie.Need-mul-waiting Inv-loop μ-loop
-mul-waiting c = search needs
-
-slice-write-waiting : tie.Need-slice-write-waiting Inv-loop μ-loop
-slice-write-waiting c = search needs
 
 add-v : tie.Need-add-v Inv-loop μ-loop
 add-v c = search needs
@@ -40,13 +32,19 @@ loop-less : tie.Need-loop-less Inv-loop μ-loop
 loop-less c = search needs
 
 loop-again : tie.Need-loop-again Inv-loop μ-loop
-loop-again c = let inv = c .before .loop .inv in (omega arith, search needs, search needs, starting-more (inv .3) (omega arith) (omega arith) (omega arith))
+loop-again c = let inv = c .before .loop .inv in (omega arith, search needs, starting-more (inv .2) (omega arith) (omega arith))
 
 mul-dist-2 : tie.Need-mul-dist-2 Inv-loop μ-loop
 mul-dist-2 c = search needs
 
 slice-write-dist-2 : tie.Need-slice-write-dist-2 Inv-loop μ-loop
 slice-write-dist-2 c = search needs
+
+cast-list : tie.Need-cast-list Inv-loop μ-loop
+cast-list c = search needs
+
+slice-write-list : tie.Need-slice-write-list Inv-loop μ-loop
+slice-write-list c = search needs
 
 same-length : tie.Need-same-length Inv-loop μ-loop
 same-length c = search needs
@@ -55,7 +53,7 @@ same-length-2 : tie.Need-same-length-2 Inv-loop μ-loop
 same-length-2 c = search needs
 
 returns : tie.Need-returns Inv-loop μ-loop
-returns c = let inv = c .before .loop .inv in starting-all (inv .3) (omega arith) (c .before .before .pre .root-inside) (omega arith)
+returns c = let inv = c .before .loop .inv in starting-all (inv .2) (omega arith) (search needs) (omega arith) (getD-set-same (c .before .before .args .list .now) 0 _ 0 (search needs))
 
 pub start-spec : {M : Type 1} → statement M
 start-spec =
@@ -66,14 +64,13 @@ start-spec =
     loop-holds
     mul-dist
     slice-write-dist
-    cast-waiting
-    mul-waiting
-    slice-write-waiting
     add-v
     loop-less
     loop-again
     mul-dist-2
     slice-write-dist-2
+    cast-list
+    slice-write-list
     same-length
     same-length-2
     returns)
