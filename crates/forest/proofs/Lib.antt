@@ -12,7 +12,7 @@ pub mod Looking
 -- the edges within a limit, edge by edge
 pub mod Sifting
 -- two passes order the edges
-pub mod Passes
+pub mod TwoPasses
 -- what an arc holds is read from it again
 pub mod Arcs
 -- the arcs of edges as items
