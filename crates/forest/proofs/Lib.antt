@@ -10,7 +10,7 @@ pub mod WithinLimit
 -- the forest of a trial is what keeping leaves over the order, whole and at a limit
 pub mod TrialForest
 -- two passes order the edges
-pub mod Passes
+pub mod TwoPasses
 -- what an arc holds is read from it again
 pub mod Arcs
 -- the arcs of edges as items

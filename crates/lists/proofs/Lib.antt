@@ -92,21 +92,21 @@ pub mod SlicePlaces
 -- buckets, item by item
 pub mod Buckets
 -- items counted, and the counts summed up
-pub mod Counting
+pub mod BucketCounts
 -- what filling gives
-pub mod Filling
+pub mod BucketFilling
 -- a list in order is the only one
 pub mod OneOrder
 -- numbers put into buckets: the same numbers, by bucket
-pub mod ByBucket
+pub mod BucketOrder
 -- a list gone through element by element
-pub mod Passing
+pub mod TakeDrop
 -- running sums in place
-pub mod Summing
+pub mod RunningSums
 -- insertion in place
-pub mod Inserting
+pub mod InsertInPlace
 -- numbers counted and put one after the other
-pub mod FillingBy
+pub mod BucketsOfNumbers
 -- a mapped list put element by element
 pub mod PutMapped
 -- an array of zeros

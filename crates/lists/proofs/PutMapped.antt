@@ -8,7 +8,7 @@ use lib.Seq.{take-all}
 use Rattle.lists.specs.Count.{from, below}
 use Rattle.lists.specs.Put.{PutTo}
 use Rattle.lists.proofs.Numbered.{map-below-more}
-use Rattle.lists.proofs.Passing.{map-take-more}
+use Rattle.lists.proofs.TakeDrop.{map-take-more}
 use Rattle.lists.proofs.Put.{put-to-none, put-more}
 
 module _ {A : Type 0} (f : ℕ → A) where
