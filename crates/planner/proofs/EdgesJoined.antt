@@ -23,7 +23,7 @@ pub record JoiningFrom (g : Graph) (edges : List ℕ) (i : ℕ) (after : List �
 -- The edges before i were joined.
 pub record Joining (g : Graph) (edges : List ℕ) (i : ℕ) (before after : List ℕ) : Type 0 where
   pub same : length after ≡ length before
-  pub others : OnlyFirst (g .vertices) before after
+  pub rest : OnlyFirst (g .vertices) before after
   pub going : (label : Labels) → Agrees (g .vertices) before label → JoiningFrom g edges i after label
 
 module _ {g : Graph} {edges : List ℕ} where
@@ -31,7 +31,7 @@ module _ {g : Graph} {edges : List ℕ} where
   joining-none before =
       record {
         same = refl;
-        others = only-first-none (g .vertices) before;
+        rest = only-first-none (g .vertices) before;
         going = λ label a. record { here = label; agrees = a; merged = refl };
       }
 
@@ -42,7 +42,7 @@ module _ {g : Graph} {edges : List ℕ} where
     joining-more h same one =
         record {
           same = same ∙ j .same;
-          others = only-first-on (j .others) (one .others);
+          rest = only-first-on (j .rest) (one .rest);
           going =
               λ label a.
               let f = j .going label a in
@@ -58,5 +58,5 @@ module _ {g : Graph} {edges : List ℕ} where
     joining-all h =
         record {
           labels = λ label a. let f = j .going label a in rw (f .merged ∙ ap (mergeAll g (f .here)) (rest-none edges i h)) (f .agrees);
-          others = j .others;
+          rest = j .rest;
         }

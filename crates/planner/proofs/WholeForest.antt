@@ -25,7 +25,7 @@ module _ {g : Graph} {roots : List ℕ} {n : ℕ} (count : n ≡ g .vertices) wh
   pub edges-labelled : {edges label₀ label₁ label₂ : List ℕ} → Started roots n label₀ label₁ → AllJoined g edges label₁ label₂ → EdgesLabelled g roots edges label₀ label₂
   edges-labelled {label₀ = label₀} {label₁ = label₁} s j =
       let t : Started roots (g .vertices) label₀ label₁ = rw count at s in
-      record { labels = j .labels (together roots) (t .labels); others = only-first-on (t .others) (j .others) }
+      record { labels = j .labels (together roots) (t .labels); rest = only-first-on (t .rest) (j .rest) }
 
   -- The labels of the start, and all edges in order kept from them.
   pub whole-forest : {label₀ label₁ label₂ kept₀ kept₁ : List ℕ} {r : ℕ} → Started roots n label₀ label₁
@@ -35,7 +35,7 @@ module _ {g : Graph} {roots : List ℕ} {n : ℕ} (count : n ≡ g .vertices) wh
       record {
         edges-are = k .edges-are (together roots) (t .labels);
         labels = k .labels (together roots) (t .labels);
-        others = only-first-on (t .others) (k .others);
+        rest = only-first-on (t .rest) (k .rest);
         fewer = k .fewer;
       }
 
@@ -53,7 +53,7 @@ pub stop-found : {g : Graph} {roots edges label₀ label₁ : List ℕ} {n root 
     → EdgesLabelled g roots edges label₀ label₁ → Unjoined label₁ n root r → StopFound g roots edges label₀ label₁ r
 stop-found {g} {roots} {label₁ = label₁} {r = r} count first l u =
     let v : Unjoined label₁ (g .vertices) (getD roots 0 0) r = rw (count, first) at u in
-    record { is = v .is g roots _ refl (first-root roots) (l .labels); others = l .others }
+    record { is = v .is g roots _ refl (first-root roots) (l .labels); rest = l .rest }
 
 module _ {g : Graph} {kept : List ℕ} where
   -- The edges of a whole forest stand by weight,

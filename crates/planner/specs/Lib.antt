@@ -3,6 +3,8 @@
 pub mod Whole
 -- which roots are near a part
 pub mod Near
+-- the parts of a rooted trial, placed
+pub mod Placed
 -- the vertex of a part that is nearest to a root
 pub mod Nearest
 -- the edges of a union that are kept

@@ -19,12 +19,12 @@ use Rattle.forest.specs.declared.lowest.Found.{Found}
 -- Whatever labels the array held: the ends of each edge are joined. Elements past the vertices are as they came.
 pub record AllJoined (g : Graph) (edges before after : List ℕ) : Type 0 where
   pub labels : (label : Labels) → Agrees (g .vertices) before label → Agrees (g .vertices) after (mergeAll g label edges)
-  pub others : OnlyFirst (g .vertices) before after
+  pub rest : OnlyFirst (g .vertices) before after
 
 -- The roots ("yards") are joined, and the ends of each edge: the labels that the edges make. Without roots all vertices begin apart.
 pub record EdgesLabelled (g : Graph) (roots edges before after : List ℕ) : Type 0 where
   pub labels : Agrees (g .vertices) after (mergeAll g (together roots) edges)
-  pub others : OnlyFirst (g .vertices) before after
+  pub rest : OnlyFirst (g .vertices) before after
 
 -- What the search for a vertex joined to no root asks: a graph's bytes with a place for each vertex's label, and roots among the vertices.
 pub record StopAsked (b roots label : List ℕ) : Type 0 where
@@ -35,7 +35,7 @@ pub record StopAsked (b roots label : List ℕ) : Type 0 where
 -- The answer is "stop v", the lowest vertex that the edges join to no root.
 pub record StopFound (g : Graph) (roots edges before after : List ℕ) (r : Found) : Type 0 where
   pub is : vertexIn r ≡ unjoined g roots (mergeAll g (together roots) edges)
-  pub others : OnlyFirst (g .vertices) before after
+  pub rest : OnlyFirst (g .vertices) before after
 
 -- What the whole forest asks: all edges in order, and room for labels and for the edges kept.
 pub record WholeAsked (b order label kept : List ℕ) : Type 0 where
@@ -47,7 +47,7 @@ pub record WholeAsked (b order label kept : List ℕ) : Type 0 where
 pub record WholeForest (g : Graph) (roots label₀ label₁ kept₀ kept₁ : List ℕ) (r : ℕ) : Type 0 where
   pub edges-are : PutTo 0 (keep g (together roots) (ordered g)) kept₀ kept₁ r
   pub labels : Agrees (g .vertices) label₁ (mergeAll g (together roots) (ordered g))
-  pub others : OnlyFirst (g .vertices) label₀ label₁
+  pub rest : OnlyFirst (g .vertices) label₀ label₁
   pub fewer : r < g .vertices
 
 -- The edges are a whole forest, from some labels at the start.

@@ -85,11 +85,12 @@ loop-again c =
     let row₀ = t₁ l .mark-vertex .last .1 .1 .1 .0 in
     let g = graphOf (s .args .b .now) in
     let edges = s .args .edges .now in
-    let i = l .loop .i in
-    (omega arith,
-    rw (flat-map-next (endsOf g) edges i 0 (omega arith))
-    (marked-on (s .args .table .now) (length row₀) (s .args .limit) (endsUpTo g edges i) (endsOf g (getD edges i 0)) (l .loop .inv .1)
-    (rw (w .before .before .wide .ensures .is, l .loop .inv .1 .size) at (w .mark-ends .ensures))))
+    let i = l .loop .i in (
+      omega arith,
+      rw (flat-map-next (endsOf g) edges i 0 (omega arith))
+          (marked-on (s .args .table .now) (length row₀) (s .args .limit) (endsUpTo g edges i) (endsOf g (getD edges i 0)) (l .loop .inv .1)
+          (rw (w .before .before .wide .ensures .is, l .loop .inv .1 .size) at (w .mark-ends .ensures))),
+    )
 
 same-length : tie.Need-same-length Inv-loop μ-loop
 same-length c = row-size (c .before)
