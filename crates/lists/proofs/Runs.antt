@@ -35,7 +35,7 @@ module _ {ℓ} {A : Type ℓ} (f : ℕ → A) where
   length-map-below n = length-map (below n) f ∙ length-below n
 
   -- What stands at a place of a mapped run.
-  getD-map-from : (d : A) (a n i : ℕ) → i < n → getD (map f (from a n)) i d ≡ f (a + i)
+  pub getD-map-from : (d : A) (a n i : ℕ) → i < n → getD (map f (from a n)) i d ≡ f (a + i)
   unfolding from
   getD-map-from d a zero i h = absurd (omega arith)
   getD-map-from d a (suc n) zero h = ap f (omega arith)

@@ -1,6 +1,6 @@
 -- For callers of `split_forest`: how many pieces there are, and the parts and the leftovers by their numbers.
 -- Assumes nothing.
-use Prim.Native.Nat.{ℕ, zero, suc, _+_, _<_}
+use Prim.Native.Nat.{ℕ, zero, suc, _+_, _-_, _≤_, _<_}
 use mathlib.Core.Path.{_≡_, refl, sym, ap, _∙_}
 use mathlib.Core.List.{List, [], map, map-map, map-id}
 use native.Mathlib.Omega.{arith}
@@ -18,7 +18,7 @@ use Rattle.rules.specs.RootedTrial.{partOf, leftAt}
 use Rattle.split_laws.proofs.Trees.{grow-roots}
 use Rattle.split.specs.Pieces.{leftOf, piecesOf, leftPlaces, partPlaces, firstPiece}
 use Rattle.split.specs.ForestSplit.{Lent, Splits}
-use Rattle.split.proofs.PiecesOf.{noPieces, PartsOf, piecesFor, pieces-length, parts-placed, lefts-placed, tree-placed}
+use Rattle.split.proofs.PiecesOf.{noPieces, PartsOf, piecesFor, pieces-length, lefts-below, parts-placed, lefts-placed, tree-placed, part-placed}
 
 module _ {g : Graph} {edges roots : List ℕ} {H : ℕ} {a z : Lent} {r used : ℕ} (x : Splits g edges roots H a z r used) where
   -- The trees of the roots, and what each is split into.
@@ -56,8 +56,11 @@ module _ {g : Graph} {edges roots : List ℕ} {H : ℕ} {a z : Lent} {r used : �
   pieces-count = length-map trees (split g H) ∙ trees-count
 
   -- The answer counts the parts of all trees and the leftovers.
+  held-count : r ≡ length (piecesFor g H trees)
+  held-count = sym (length-map (from 0 r) piece ∙ length-from 0 r) ∙ ap length all
+
   pub all-count : r ≡ length (allParts pieces) + length roots
-  all-count = sym (length-map (from 0 r) piece ∙ length-from 0 r) ∙ ap length all ∙ pieces-length g H trees ∙ ap (λ (k : ℕ). length (allParts pieces) + k) trees-count
+  all-count = held-count ∙ pieces-length g H trees ∙ ap (λ (k : ℕ). length (allParts pieces) + k) trees-count
 
   -- Part i stands at its number.
   pub part-is : (i : ℕ) → i < length (allParts pieces) → partOf (allParts pieces) i ≡ piece (getD (partPlaces 0 pieces) i 0)
@@ -94,4 +97,19 @@ module _ {g : Graph} {edges roots : List ℕ} {H : ℕ} {a z : Lent} {r used : �
     pub root-parts : PartsOf piece (z .lefts) 0 (getD pieces j noPieces) j
     root-parts =
         let y = tree-placed g H piece trees 0 r all j (omega (arith, trees-count)) in
-        record { count = rw (left-place j l, first-place j l) (y .count); parts = rw (first-place j l) (y .parts) }
+        record {
+          behind = rw (first-place j l) (y .behind);
+          count = rw (left-place j l, first-place j l) (y .count);
+          parts = rw (first-place j l) (y .parts);
+        }
+
+    -- A piece of root j's tree before its leftover is the part whose number is less by j, the leftovers before it.
+    pub root-part : (i : ℕ) → firstPiece 0 (z .lefts) j ≤ i → i < getD (z .lefts) j 0 → partOf (allParts pieces) (i - j) ≡ piece i
+    unfolding partOf
+    root-part i lo hi =
+        let e : i - j ≡ i - (0 + j) = omega arith in
+        rw e (part-placed g H piece trees 0 r all j i (omega (arith, trees-count)) (omega (arith, first-place j l)) (omega (arith, left-place j l)))
+
+    -- The leftover's number is that of a piece.
+    pub left-below : getD (z .lefts) j 0 < r
+    left-below = omega (arith, left-place j l, lefts-below g H trees 0 j (omega (arith, trees-count)), held-count)

@@ -15,7 +15,7 @@ pub mod SplitAsRules
 pub mod PiecesOf
 -- the roots, one after the other
 pub mod RootsSplit
--- all roots done: what is promised
+-- before the first root, and all roots done: what is promised
 pub mod ForestSplit
 -- for callers: the parts and the leftovers by number
 pub mod ByNumber

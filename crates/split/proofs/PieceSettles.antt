@@ -1,17 +1,16 @@
 -- A child's piece meets the bunch, on the stack: the three ways.
 -- Assumes nothing.
 use Prim.Native.Nat.{ℕ, _+_, _≤_}
-use mathlib.Core.Path.{_≡_, refl, sym, ap, _∙_}
+use mathlib.Core.Path.{_≡_, ap}
 use mathlib.Core.Bool.{true, false}
 use mathlib.Core.List.{List, [], _∷_, _++_}
 use native.Mathlib.Omega.{arith}
-use lib.ListN.{length}
 use lib.Seq.{slice, slice-empty}
 use Rattle.lists.proofs.Stores.{slice-join}
 use Rattle.rules.specs.Split.{reachesWeight, partAt}
 use Rattle.split.specs.Store.{Store}
 use Rattle.split.specs.PiecePut.{Puttable, PiecePut}
-use Rattle.split.specs.Settles.{load, Settles, alone, full, joins, stacked, Settleable, ChildSettled}
+use Rattle.split.specs.Settles.{alone, full, joins, Settleable, ChildSettled}
 use Rattle.split.specs.declared.Progress.{Progress}
 use Rattle.split.specs.declared.bunch.Bunch.{Bunch}
 use Rattle.split.proofs.PiecesAdded.{added-none}

@@ -2,15 +2,14 @@
 -- Assumes nothing.
 use Prim.Native.Nat.{ℕ, _+_, _≤_, _<_}
 use mathlib.Core.Path.{_≡_, refl, sym, ap, _∙_}
-use mathlib.Core.List.{List, [], _∷_, _++_, map, append-assoc, append-nil, map-map}
+use mathlib.Core.List.{List, [], _∷_, _++_, append-assoc, append-nil, map-map}
 use mathlib.Core.Logic.{dite}
 use native.Mathlib.Decide.{ℕ-discrete}
 use native.Mathlib.Omega.{arith}
-use lib.ListN.{length, set, length-set, length-append, length-map}
+use lib.ListN.{length, set, length-set, length-append}
 use lib.Seq.{getD-set-same, getD-set-other}
 use Rattle.lists.specs.Count.{below}
 use Rattle.lists.specs.Put.{Put}
-use Rattle.lists.proofs.Runs.{length-map-below}
 use Rattle.lists.proofs.Numbered.{map-below-more}
 use Rattle.lists.proofs.Put.{put-length, only-first-length}
 use Rattle.lists.proofs.Fronts.{only-first-none, only-first-set, only-first-on, only-first-put, put-before, put-slice}
@@ -19,11 +18,6 @@ use Rattle.rules.specs.Cover.{Tree}
 use Rattle.rules.specs.Held.{treeAt, treesAt, risen}
 use Rattle.rules.specs.Split.{partAt}
 use Rattle.split.specs.Store.{Store, heldIn, Sound, Added}
-
--- There are as many trees as pieces.
-pub held-length : (s : Store) → length (heldIn s) ≡ s .pieces
-unfolding heldIn treesAt
-held-length s = length-map (map (treeAt (s .starts) (s .cuts) (s .flat)) (below (s .pieces))) risen ∙ length-map-below (treeAt (s .starts) (s .cuts) (s .flat)) (s .pieces)
 
 -- Nothing is added.
 pub added-none : {n : ℕ} {s : Store} → Sound n s → Added n [] s s

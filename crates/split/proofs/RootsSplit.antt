@@ -1,39 +1,33 @@
 -- The trees of the roots, one after the other: what is known before each root, and at the end.
 -- Assumes nothing.
 use Prim.Native.Nat.{ℕ, suc, _+_, _-_, _≤_, _<_}
-use mathlib.Core.Path.{_≡_, refl, sym, ap, _∙_}
-use mathlib.Core.Bool.{not}
+use mathlib.Core.Path.{_≡_, sym, ap, _∙_}
 use mathlib.Core.List.{List, [], _∷_, _++_, map}
-use mathlib.Core.Logic.{_⊎_, inl, inr, ⊎-elim}
+use mathlib.Core.Logic.{_⊎_, inr, ⊎-elim}
 use native.Mathlib.Numerals.{add-one}
 use native.Mathlib.Omega.{arith}
-use borrow.Author.Tests.{eq-eqb}
 use lib.ListN.{length, drop, getD, set, length-set}
-use lib.Seq.{slice, slice-empty, drop-cons, append-snoc, getD-set-same}
-use Rattle.lists.specs.Count.{from, below}
-use Rattle.lists.specs.Lists.{flat, any, member}
-use Rattle.lists.specs.Put.{PutTo, OnlyFirst}
-use Rattle.lists.specs.Segments.{segment, Bounded}
-use Rattle.lists.proofs.Put.{put-length, put-to-none, put-more, only-first-length}
-use Rattle.lists.proofs.Fronts.{only-first-none, only-first-on}
+use lib.Seq.{slice, slice-empty, drop-cons, append-snoc}
+use Rattle.lists.specs.Put.{PutTo}
+use Rattle.lists.specs.Segments.{segment}
+use Rattle.lists.proofs.Put.{put-more, only-first-length}
 use Rattle.graph.specs.Graph.{Graph}
 use Rattle.rules.specs.Cover.{Tree}
-use Rattle.rules.specs.Held.{treesAt}
 use Rattle.rules.specs.Grow.{Rooted, Grown, growNode, growFrom, grow}
-use Rattle.rules.specs.Split.{Pieces, partAt, splitAt, split}
+use Rattle.rules.specs.Split.{Pieces, partAt, split}
 use Rattle.forest.specs.Around.{Arcs, Around}
 use Rattle.split.specs.Pieces.{leftOf, withLeft, leftPlaces}
-use Rattle.split.specs.Store.{Store, heldIn, Sound, Added}
+use Rattle.split.specs.Store.{Store, Added}
 use Rattle.split.specs.PiecePut.{Puttable, PiecePut}
-use Rattle.split.specs.Settles.{Load, load, stacked}
-use Rattle.split.specs.SplitBelow.{unmarked, unvisited, SplitBelow}
+use Rattle.split.specs.Settles.{load, stacked}
+use Rattle.split.specs.SplitBelow.{unvisited, SplitBelow}
 use Rattle.split.specs.ChildrenWalked.{State, passing, HasRoom, Walkable, NodeWalked}
-use Rattle.split.specs.ForestSplit.{Lent, Splittable, Unwalked}
+use Rattle.split.specs.ForestSplit.{Lent}
 use Rattle.split.specs.declared.Progress.{Progress}
-use Rattle.split.proofs.PiecesAdded.{held-length, added-on}
-use Rattle.split.proofs.Unvisited.{unvisited-below, unvisited-fewer, unvisited-most}
+use Rattle.split.proofs.PiecesAdded.{added-on}
+use Rattle.split.proofs.Unvisited.{unvisited-below, unvisited-fewer}
 use Rattle.split.proofs.ChildWalked.{after}
-use Rattle.split.proofs.SplitAsRules.{Agrees, Gives, node-as-rules}
+use Rattle.split.proofs.SplitAsRules.{MarksAre, Gives, node-as-rules}
 use Rattle.split.proofs.PiecesOf.{piecesFor, pieces-more, lefts-more}
 
 -- the pieces of a tree, from what it is split into
@@ -54,13 +48,17 @@ grow-next g edges q passed = rw q
 pub record ByRules (g : Graph) (edges roots : List ℕ) (H j : ℕ) (marks : List ℕ) (held : List Tree) (places : List ℕ) : Type 0 where
   pub trees : List Rooted
   pub passed : List ℕ
-  pub agrees : Agrees (g .vertices) marks passed
+  pub agrees : MarksAre (g .vertices) marks passed
   pub grown : grow g edges roots ≡ trees ++ growFrom g edges (drop j roots) passed
   pub pieces : held ≡ piecesFor g H trees
   pub lefts : places ≡ leftPlaces 0 (map (split g H) trees)
 
--- Before a root: the first j roots' trees were grown and split, from the arrays a on; the stack is empty, there is room for a piece more
--- for each root that is left, and each edge in a piece led to a vertex that has a mark now, as the first root has.
+-- The arrays with no piece.
+abbrev pub emptied : Lent → Store
+emptied a = record { starts = a .starts; cuts = a .cuts; flat = a .flat; pieces = 0; used = 0 }
+
+-- Before a root: the first j roots' trees were grown and split, and their pieces were added to the arrays a; the stack is empty, there is
+-- room for a piece more for each root that is left, and each edge in a piece led to a vertex that has a mark now, as the first root has.
 pub record RootsSplit (n : ℕ) (bounds arcs roots : List ℕ) (H : ℕ) (a : Lent) (j : ℕ) (s : State) (lefts : List ℕ) : Type 0 where
   pub within : j ≤ length roots
   pub empty : s .top ≡ 0
@@ -69,14 +67,12 @@ pub record RootsSplit (n : ℕ) (bounds arcs roots : List ℕ) (H : ℕ) (a : Le
   pub cuts-spare : s .store .pieces + n + (length roots - j) < s .store .used + length (s .store .cuts)
   pub few : s .store .pieces ≤ s .store .used + j
   pub used-few : (s .store .used ≡ 0) ⊎ (s .store .used + unvisited n (s .marks) < n)
-  pub starts-rest : OnlyFirst (s .store .pieces) (a .starts) (s .store .starts)
-  pub cuts-rest : OnlyFirst (s .store .pieces + 1) (a .cuts) (s .store .cuts)
-  pub flat-rest : OnlyFirst (s .store .used) (a .flat) (s .store .flat)
+  pub held : List Tree
+  pub added : Added n held (emptied a) (s .store)
   pub lefts-room : length roots ≤ length lefts
   pub places : List ℕ
   pub lefts-put : PutTo 0 places (a .lefts) lefts j
-  pub by-rules : (g : Graph) (edges : List ℕ) → Around g edges bounds arcs → g .vertices ≡ n
-      → ByRules g edges roots H j (s .marks) (heldIn (s .store)) places
+  pub by-rules : (g : Graph) (edges : List ℕ) → Around g edges bounds arcs → g .vertices ≡ n → ByRules g edges roots H j (s .marks) held places
 
 -- One root more.
 module _ {n : ℕ} {bounds arcs roots : List ℕ} {H : ℕ} {a : Lent} {j : ℕ} {s : State} {lefts : List ℕ}
@@ -134,14 +130,14 @@ module _ {n : ℕ} {bounds arcs roots : List ℕ} {H : ℕ} {a : Lent} {j : ℕ}
       left = partAt r (slice 0 (t .top) (t .stack))
 
       -- its pieces are added
-      all-added : Added n (walked .parts ++ (left ∷ [])) (s .store) u
-      all-added =
+      tree-added : Added n (walked .parts ++ (left ∷ [])) (s .store) u
+      tree-added =
           let n-is : length (t .stack) ≡ n = room .stack-length in
           added-on (walked .added) (rw (top-is, n-is) at (put .added))
 
       -- the rules make the same pieces
       by-rules-more : (g : Graph) (edges : List ℕ) → Around g edges bounds arcs → g .vertices ≡ n
-          → ByRules g edges roots H (j + 1) (t .marks) (heldIn u) (k .places ++ (t .store .pieces ∷ []))
+          → ByRules g edges roots H (j + 1) (t .marks) (k .held ++ (walked .parts ++ (left ∷ []))) (k .places ++ (t .store .pieces ∷ []))
       by-rules-more g edges around n-is =
           let b = k .by-rules g edges around n-is in
           let x : Gives g H r (load [] 0) (walked .parts) (stacked (t .stack) 0 (t .top) z) (t .marks) (growNode (g .vertices) g edges r (b .passed)) =
@@ -156,7 +152,7 @@ module _ {n : ℕ} {bounds arcs roots : List ℕ} {H : ℕ} {a : Lent} {j : ℕ}
           in
           let rest : growFrom g edges (drop j roots) (b .passed) ≡ tree ∷ growFrom g edges (drop (j + 1) roots) (grown .passed) = grow-next g edges next (b .passed) in
           let number : t .store .pieces ≡ 0 + (length (piecesFor g H (b .trees)) + length (split g H tree .parts)) =
-          omega (arith, walked .added .pieces-more, held-length (s .store), ap length (b .pieces), ap (λ (y : Pieces). length (y .parts)) pieces)
+          omega (arith, walked .added .pieces-more, k .added .pieces-more, ap length (b .pieces), ap (λ (y : Pieces). length (y .parts)) pieces)
           in
           record {
             trees = b .trees ++ (tree ∷ []);
@@ -167,8 +163,7 @@ module _ {n : ℕ} {bounds arcs roots : List ℕ} {H : ℕ} {a : Lent} {j : ℕ}
                 ∙ ap (λ (l : List Rooted). b .trees ++ l) rest
                 ∙ sym (append-snoc (b .trees) tree (growFrom g edges (drop (j + 1) roots) (grown .passed)));
             pieces =
-                all-added .held
-                ∙ ap (λ (l : List Tree). l ++ (walked .parts ++ (left ∷ []))) (b .pieces)
+                ap (λ (l : List Tree). l ++ (walked .parts ++ (left ∷ []))) (b .pieces)
                 ∙ ap (λ (l : List Tree). piecesFor g H (b .trees) ++ l) (sym with-left)
                 ∙ sym (pieces-more g H (b .trees) tree);
             lefts =
@@ -181,17 +176,7 @@ module _ {n : ℕ} {bounds arcs roots : List ℕ} {H : ℕ} {a : Lent} {j : ℕ}
       pub roots-more : RootsSplit n bounds arcs roots H a (j + 1) (after t u (q .top)) (set lefts j (t .store .pieces))
       roots-more =
           let fits : u .used + q .top ≡ t .store .used + t .top = omega (arith, put .used-is, put .top-is) in
-          let added = all-added in
           let pieces-are : u .pieces ≡ t .store .pieces + 1 = put .added .pieces-more in
-          let starts-fit : u .pieces ≤ length (a .starts) =
-          omega (arith, only-first-length (k .starts-rest), only-first-length (added .starts-rest), added .sound .starts-room, added .sound .used-few)
-          in
-          let cuts-fit : u .pieces + 1 ≤ length (a .cuts) =
-          omega (arith, only-first-length (k .cuts-rest), only-first-length (added .cuts-rest), added .sound .cuts-room, added .sound .used-few)
-          in
-          let flat-fits : u .used ≤ length (a .flat) =
-          omega (arith, only-first-length (k .flat-rest), only-first-length (added .flat-rest), added .sound .flat-room, added .sound .used-few)
-          in
           record {
             within = omega arith;
             empty = put .top-is;
@@ -200,10 +185,10 @@ module _ {n : ℕ} {bounds arcs roots : List ℕ} {H : ℕ} {a : Lent} {j : ℕ}
                   marks-length = room .marks-length;
                   stack-length = room .stack-length;
                   fits = omega (arith, room .fits);
-                  sound = added .sound;
+                  sound = tree-added .sound;
                 };
-            starts-spare = omega (arith, only-first-length (added .starts-rest), k .starts-spare, walked .filled, put .top-is);
-            cuts-spare = omega (arith, only-first-length (added .cuts-rest), k .cuts-spare, walked .filled, put .top-is);
+            starts-spare = omega (arith, only-first-length (tree-added .starts-rest), k .starts-spare, walked .filled, put .top-is);
+            cuts-spare = omega (arith, only-first-length (tree-added .cuts-rest), k .cuts-spare, walked .filled, put .top-is);
             few = omega (arith, k .few, walked .filled, put .top-is);
             used-few =
                 inr
@@ -211,82 +196,10 @@ module _ {n : ℕ} {bounds arcs roots : List ℕ} {H : ℕ} {a : Lent} {j : ℕ}
                 (λ e. omega (arith, walked .fits, put .top-is, k .empty, unvisited-below (s .marks) r (omega (arith, k .room .marks-length)) n inside))
                 (λ e. omega (arith, walked .fits, put .top-is, k .empty, unvisited-fewer (s .marks) r n))
                 (k .used-few));
-            starts-rest = only-first-on (k .starts-rest) (added .starts-rest) (omega (arith, added .pieces-more)) starts-fit;
-            cuts-rest = only-first-on (k .cuts-rest) (added .cuts-rest) (omega (arith, added .pieces-more)) cuts-fit;
-            flat-rest = only-first-on (k .flat-rest) (added .flat-rest) (added .used-more) flat-fits;
+            held = k .held ++ (walked .parts ++ (left ∷ []));
+            added = added-on (k .added) tree-added;
             lefts-room = rw length-set (k .lefts-room);
             places = k .places ++ (t .store .pieces ∷ []);
             lefts-put = put-more (t .store .pieces) (k .lefts-put) (omega (arith, k .lefts-room));
             by-rules = by-rules-more;
           }
-
--- The arrays when the first bound is stored,
-abbrev pub bounded : Lent → Lent
-bounded a = record { starts = a .starts; cuts = set (a .cuts) 0 0; flat = a .flat; lefts = a .lefts }
-
--- and the state before the first root.
-abbrev pub unwalked : List ℕ → List ℕ → Lent → State
-unwalked marks stack a =
-    record { marks = marks; stack = stack; top = 0; store = record { starts = a .starts; cuts = set (a .cuts) 0 0; flat = a .flat; pieces = 0; used = 0 } }
-
-module _ {bounds arcs roots marks stack : List ℕ} {a : Lent} (c : Unwalked bounds arcs roots marks stack a) where
-  abbrev asked : Splittable (length stack) bounds arcs roots a
-  asked = c .splittable
-
-  first-zero : getD (set (a .cuts) 0 0) 0 0 ≡ 0
-  first-zero = getD-set-same (a .cuts) 0 0 0 (omega (arith, asked .cuts-room))
-
-  -- no piece is held yet
-  none-held : Sound (length stack) (unwalked marks stack a .store)
-  none-held =
-      record {
-        few = asked .around .few;
-        starts-room = omega (arith, asked .starts-room);
-        cuts-room = rw length-set (omega (arith, asked .cuts-room));
-        flat-room = asked .flat-room;
-        used-few = omega arith;
-        starts-inside = λ i l. absurd (omega arith);
-        first = first-zero;
-        bounded =
-            record {
-              last = first-zero;
-              within = λ i l. let q : i ≡ 0 = omega arith in rw q (omega (arith, first-zero));
-              rising = λ i l. absurd (omega arith);
-            };
-      }
-
-  -- Before the first root.
-  pub roots-first : {H : ℕ} → RootsSplit (length stack) bounds arcs roots H (bounded a) 0 (unwalked marks stack a) (a .lefts)
-  roots-first =
-      record {
-        within = omega arith;
-        empty = refl;
-        room =
-            record {
-              marks-length = c .marks-length;
-              stack-length = refl;
-              fits = omega (arith, unvisited-most (length stack) marks);
-              sound = none-held;
-            };
-        starts-spare = omega (arith, asked .starts-room);
-        cuts-spare = rw length-set (omega (arith, asked .cuts-room));
-        few = omega arith;
-        used-few = inl refl;
-        starts-rest = only-first-none 0 (a .starts) (omega arith);
-        cuts-rest = only-first-none 1 (set (a .cuts) 0 0) (rw length-set (omega (arith, asked .cuts-room)));
-        flat-rest = only-first-none 0 (a .flat) (omega arith);
-        lefts-room = asked .lefts-room;
-        places = [];
-        lefts-put = put-to-none (a .lefts) 0 (omega arith);
-        by-rules =
-            λ g edges around n-is.
-            unfold grow heldIn treesAt Rattle.lists.specs.Count.below from flat leftPlaces member any unmarked in
-            record {
-              trees = [];
-              passed = [];
-              agrees = record { size = c .marks-length ∙ sym n-is; at = λ v l. eq-eqb (getD marks v 0) 0 (c .none-marked v (omega arith)) };
-              grown = refl;
-              pieces = refl;
-              lefts = refl;
-            };
-      }

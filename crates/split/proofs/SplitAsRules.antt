@@ -4,7 +4,7 @@
 -- Assumes nothing.
 use Prim.Native.Nat.{ℕ, zero, suc, _+_, _≤_, _<_}
 use mathlib.Core.Path.{_≡_, refl, sym, ap, _∙_}
-use mathlib.Core.Bool.{Bool, true, false, not, _&&_}
+use mathlib.Core.Bool.{true, false, not}
 use mathlib.Core.List.{List, [], _∷_, _++_, map, List·Memᴰ·head, List·Memᴰ·tail}
 use mathlib.Core.Logic.{dite}
 use native.Mathlib.Decide.{ℕ-discrete}
@@ -18,8 +18,8 @@ use Rattle.lists.proofs.Member.{of-filter}
 use Rattle.graph.specs.Graph.{Graph, weightOf}
 use Rattle.rules.specs.Walk.{totalWeight}
 use Rattle.rules.specs.Cover.{Tree}
-use Rattle.rules.specs.Grow.{branch, Grown, farEnd, leadsOn, growChildren, growNode}
-use Rattle.rules.specs.Split.{Pieces, reaches, partAt, settle, splitAt}
+use Rattle.rules.specs.Grow.{Grown, farEnd, leadsOn, growChildren, growNode}
+use Rattle.rules.specs.Split.{reaches, settle, splitAt}
 use Rattle.split_laws.proofs.Weights.{weight-none, weight-cons, weight-append}
 use Rattle.split_laws.proofs.Leads.{leads-on}
 use Rattle.split_laws.proofs.Filtered.{grow-filtered}
@@ -32,12 +32,12 @@ use Rattle.split.specs.SplitBelow.{unmarked, pieceOf, SplitBelow, done, 
 use Rattle.split.proofs.Unvisited.{marks-kept, marked-now}
 
 -- The marks are those of the vertices passed.
-pub record Agrees (n : ℕ) (marks passed : List ℕ) : Type 0 where
+pub record MarksAre (n : ℕ) (marks passed : List ℕ) : Type 0 where
   pub size : length marks ≡ n
   pub at : (v : ℕ) → v < n → unmarked marks v ≡ not (member v passed)
 
 -- one vertex more
-agrees-more : {n : ℕ} {marks passed : List ℕ} → Agrees n marks passed → (v : ℕ) → v < n → Agrees n (set marks v 1) (v ∷ passed)
+agrees-more : {n : ℕ} {marks passed : List ℕ} → MarksAre n marks passed → (v : ℕ) → v < n → MarksAre n (set marks v 1) (v ∷ passed)
 unfolding member any
 agrees-more {marks = marks} {passed = passed} a v h =
     record {
@@ -68,7 +68,7 @@ module _ (g : Graph) {H v : ℕ} where
 
 -- What the rules grew is split into these parts and what is left, and the marks are those of the vertices passed then.
 pub record Gives (g : Graph) (H v : ℕ) (bunch : Load) (parts : List Tree) (left : Load) (last : List ℕ) (grown : Grown) : Type 0 where
-  pub agrees : Agrees (g .vertices) last (grown .passed)
+  pub agrees : MarksAre (g .vertices) last (grown .passed)
   pub splits : splitAt g H v (bunch .edges) (grown .branches) ≡ record { parts = parts; left = left .edges }
   pub weighs : Weighs g left
 
@@ -109,7 +109,7 @@ module _ {g : Graph} {edges bounds arcs : List ℕ} (around : Around g edges bou
   weight-is = ap arcWeight (x .is) ∙ valid-arc-weight (around .valid) v e edge-fits
 
   -- it leads on where its head has no mark
-  leads-same : {marks passed : List ℕ} → Agrees (g .vertices) marks passed → leadsOn g passed v e ≡ unmarked marks (arcHead arc)
+  leads-same : {marks passed : List ℕ} → MarksAre (g .vertices) marks passed → leadsOn g passed v e ≡ unmarked marks (arcHead arc)
   unfolding leadsOn touches
   leads-same a = rw (x .at-v, head-is) (sym (a .at (farEnd g e v) (far-end-below (around .valid) v e)))
 
@@ -151,7 +151,7 @@ module _ {g : Graph} {edges bounds arcs : List ℕ} (around : Around g edges bou
   all-arcs {v} h = record { are = around .are v h; around = λ e m. of-filter (touches g v) edges m }
 
   below-as-rules : {H v : ℕ} {rest marks last : List ℕ} {bunch left : Load} {parts : List Tree} → SplitBelow bounds arcs H v rest marks bunch parts left last
-      → (es : List ℕ) → AreArcs g edges v es rest → {passed : List ℕ} → Agrees (g .vertices) marks passed
+      → (es : List ℕ) → AreArcs g edges v es rest → {passed : List ℕ} → MarksAre (g .vertices) marks passed
       → (depth : ℕ) → unpassed g passed ≤ depth → Weighs g bunch
       → Gives g H v bunch parts left last (growChildren (growNode depth g edges) g v es passed)
   unfolding growChildren splitAt
@@ -186,7 +186,7 @@ module _ {g : Graph} {edges bounds arcs : List ℕ} (around : Around g edges bou
   -- The node of a root.
   pub node-as-rules : {H v : ℕ} {marks last : List ℕ} {left : Load} {parts : List Tree}
       → SplitBelow bounds arcs H v (segment bounds arcs v) (set marks v 1) (load [] 0) parts left last → v < g .vertices
-      → {passed : List ℕ} → Agrees (g .vertices) marks passed → Gives g H v (load [] 0) parts left last (growNode (g .vertices) g edges v passed)
+      → {passed : List ℕ} → MarksAre (g .vertices) marks passed → Gives g H v (load [] 0) parts left last (growNode (g .vertices) g edges v passed)
   node-as-rules {H} {v} {marks} {last} {left} {parts} x inside {passed} a = go (g .vertices) refl
     where
       go : (n : ℕ) → n ≡ g .vertices → Gives g H v (load [] 0) parts left last (growNode n g edges v passed)

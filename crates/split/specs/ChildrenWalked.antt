@@ -8,7 +8,7 @@ use Rattle.lists.specs.Segments.{segment}
 use Rattle.rules.specs.Cover.{Tree}
 use Rattle.forest.specs.Around.{Arcs}
 use Rattle.split.specs.Store.{Store, storeOf, Sound, Filled, Added}
-use Rattle.split.specs.Settles.{stacked, Light}
+use Rattle.split.specs.Settles.{stacked, WithinEdges}
 use Rattle.split.specs.SplitBelow.{unvisited, SplitBelow}
 use Rattle.split.specs.declared.Progress.{Progress}
 
@@ -45,7 +45,7 @@ pub record Walkable (n : ℕ) (bounds arcs : List ℕ) (v : ℕ) (s : State) : T
 pub record Bunched (n base : ℕ) (s : State) (w : ℕ) : Type 0 where
   pub room : HasRoom n s
   pub above : base ≤ s .top
-  pub light : Light w (s .top - base)
+  pub light : WithinEdges w (s .top - base)
 
 -- The children of v among the arcs `rest` were grown and split, with a bunch on the stack that weighs w: from the state s to the state t,
 -- where what is left at v stands on the stack and weighs z.

@@ -35,8 +35,8 @@ abbrev pub stacked : List ℕ → ℕ → ℕ → ℕ → Load
 stacked stack from to weight = load (slice from to stack) weight
 
 -- No more than so many edges may weigh.
-abbrev pub Light : ℕ → ℕ → Type 0
-Light weight count = weight ≤ 1000000 * count
+abbrev pub WithinEdges : ℕ → ℕ → Type 0
+WithinEdges weight count = weight ≤ 1000000 * count
 
 -- What is asked: v is a vertex, of which the stack has a place for each; the piece stands on the stack behind the bunch, and has an edge;
 -- neither weighs more than so many edges may; there is room for all edges of the stack.
@@ -46,8 +46,8 @@ pub record Settleable (v : ℕ) (b : Bunch) (stack : List ℕ) (s : Store) (p : 
   pub piece-next : b .end < p .top
   pub fits : s .used + p .top ≤ length stack
   pub sound : Sound (length stack) s
-  pub bunch-light : Light (b .weight) (b .end - b .base)
-  pub piece-light : Light (p .weight) (p .top - b .end)
+  pub bunch-light : WithinEdges (b .weight) (b .end - b .base)
+  pub piece-light : WithinEdges (p .weight) (p .top - b .end)
 
 -- What is promised: the parts split off, what is left on the stack from the bunch's place on, and what it weighs.
 pub record ChildSettled (H v : ℕ) (b : Bunch) (stack : List ℕ) (s t : Store) (p r : Progress) : Type 0 where
@@ -58,4 +58,4 @@ pub record ChildSettled (H v : ℕ) (b : Bunch) (stack : List ℕ) (s t : Store)
   pub filled : Filled s t
   pub fits : t .used + r .top ≤ s .used + p .top
   pub above : b .base ≤ r .top
-  pub light : Light (r .weight) (r .top - b .base)
+  pub light : WithinEdges (r .weight) (r .top - b .base)

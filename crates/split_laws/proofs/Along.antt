@@ -50,12 +50,12 @@ along-children S v (branch e child under later) here all =
     (along-children S v later here (λ c m. all c (List·Memᴰ·tail (Memᴰ·append-right (children under) m))))
 
 -- C holds of branches among which c is a child: where c is the first child, where C holds below the first, and where C holds of the later.
-record Place (R : ℕ → ℕ → ℕ → Type 0) (c : ℕ) (C : ℕ → Branches → Type 0) : Type 0 where
+record ChildPlace (R : ℕ → ℕ → ℕ → Type 0) (c : ℕ) (C : ℕ → Branches → Type 0) : Type 0 where
   here : {v e child : ℕ} {under later : Branches} → R v e child → c ≡ child → C v (branch e child under later)
   below : {v e child : ℕ} {under later : Branches} → R v e child → C child under → C v (branch e child under later)
   beside : {v e child : ℕ} {under later : Branches} → C v later → C v (branch e child under later)
 
-child-place : {R : ℕ → ℕ → ℕ → Type 0} {c : ℕ} {C : ℕ → Branches → Type 0} → Place R c C → {v : ℕ} {b : Branches} → Along R v b → c ∈ children b → C v b
+child-place : {R : ℕ → ℕ → ℕ → Type 0} {c : ℕ} {C : ℕ → Branches → Type 0} → ChildPlace R c C → {v : ℕ} {b : Branches} → Along R v b → c ∈ children b → C v b
 unfolding children
 child-place at bare m = absurd (List·Memᴰ·not-nil m)
 child-place {c = c} {C} at (fork {v = v} {e = e} {child = child} {under = under} {later = later} r x y) m = go (λ n. child-place at x n) (λ n. child-place at y n) m
@@ -69,7 +69,7 @@ child-place {c = c} {C} at (fork {v = v} {e = e} {child = child} {under = under}
     go a b (List·Memᴰ·tail n) = deeper a b (List·Memᴰ·append-cases (children under) n)
 
 -- Each child has its branch.
-has-branch : (R : ℕ → ℕ → ℕ → Type 0) (c : ℕ) → Place R c (λ v b. (u e : ℕ) × (e ∈ branchEdges b) × R u e c)
+has-branch : (R : ℕ → ℕ → ℕ → Type 0) (c : ℕ) → ChildPlace R c (λ v b. (u e : ℕ) × (e ∈ branchEdges b) × R u e c)
 unfolding branchEdges
 has-branch R c = record {
   here = λ {v} {e} r q. (v, e, List·Memᴰ·head refl, subst (λ (w : ℕ). R v e w) (sym q) r);
@@ -81,7 +81,7 @@ pub child-branch : {R : ℕ → ℕ → ℕ → Type 0} {v : ℕ} {b : Branches}
 child-branch {R} x {c} m = child-place (has-branch R c) x m
 
 -- Each child of branches that hang at v is linked to v by their edges.
-is-linked : (g : Graph) (c : ℕ) → Place (λ u e child. Joins g e u child) c (λ v b. Linked g (branchEdges b) v c)
+is-linked : (g : Graph) (c : ℕ) → ChildPlace (λ u e child. Joins g e u child) c (λ v b. Linked g (branchEdges b) v c)
 unfolding branchEdges
 is-linked g c = record {
   here = λ j q. linked-on (linked-edge (List·Memᴰ·head refl) j) (linked-same (sym q));

@@ -16,7 +16,7 @@ use Rattle.rules.specs.Grow.{Branches}
 use Rattle.rules.specs.Split.{partAt, splitAt}
 use Rattle.rules.proofs.Linked.{linked-same, linked-on, linked-edge, linked-more}
 use Rattle.split_laws.proofs.Along.{Hangs, children, along-both, along-children}
-use Rattle.split_laws.proofs.Rules.{Rules, Holds, split-holds}
+use Rattle.split_laws.proofs.Rules.{Rules, PiecesHold, split-holds}
 
 -- Every edge of the list is linked to v by the list.
 abbrev pub JoinedTo : Graph → ℕ → List ℕ → Type 0
@@ -64,7 +64,7 @@ connected-rules g H S = record {
 }
 
 module _ (g : Graph) (H v : ℕ) (bunch : List ℕ) (b : Branches) (hangs : Hangs g v b) (start : JoinedTo g v bunch) where
-  both : Holds (Connected g (λ x. x ∈ (v ∷ children b))) (JoinedTo g v) (splitAt g H v bunch b)
+  both : PiecesHold (Connected g (λ x. x ∈ (v ∷ children b))) (JoinedTo g v) (splitAt g H v bunch b)
   both = split-holds (connected-rules g H (λ x. x ∈ (v ∷ children b)))
       (along-both hangs (along-children (λ x. x ∈ (v ∷ children b)) v b (List·Memᴰ·head refl) (λ c m. List·Memᴰ·tail m)))
       start

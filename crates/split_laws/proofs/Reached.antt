@@ -19,11 +19,11 @@ use Rattle.split_laws.proofs.Deep.{Inside, far-inside, vertices-deep}
 use Rattle.split_laws.proofs.Trees.{allChildren, allEdges, in-all-edges, of-all-children, passedFrom, trees-grow, tree-root, tree-hangs, tree-edge-known}
 
 -- Both ends of each edge at a vertex of the list stand in the list.
-abbrev Closed : Graph → List ℕ → List ℕ → Type 0
-Closed g edges xs = (e u w : ℕ) → e ∈ edges → Joins g e u w → u ∈ xs → w ∈ xs
+abbrev ClosedAlong : Graph → List ℕ → List ℕ → Type 0
+ClosedAlong g edges xs = (e u w : ℕ) → e ∈ edges → Joins g e u w → u ∈ xs → w ∈ xs
 
 -- What is linked to a vertex of such a list stands in the list.
-closed-linked : {g : Graph} {edges xs : List ℕ} → Closed g edges xs → {u v : ℕ} → Linked g edges u v → u ∈ xs → v ∈ xs
+closed-linked : {g : Graph} {edges xs : List ℕ} → ClosedAlong g edges xs → {u v : ℕ} → Linked g edges u v → u ∈ xs → v ∈ xs
 closed-linked {g} {edges} {xs} closed l =
     linked-least (λ u v. (u ∈ xs → v ∈ xs) × (v ∈ xs → u ∈ xs))
     (λ u v q. (λ m. Memᴰ·cast (sym q) m, λ m. Memᴰ·cast q m))
@@ -50,8 +50,8 @@ reached-from-root g edges roots {x} (inr m) =
 
 module _ (g : Graph) (edges : List ℕ) (inside : Inside g edges) where
   -- The vertices passed stay closed from root to root.
-  passed-closed : (roots : List ℕ) → ((r : ℕ) → r ∈ roots → r < g .vertices) → (passed : List ℕ) → Closed g edges passed
-      → Closed g edges (passedFrom g edges roots passed)
+  passed-closed : (roots : List ℕ) → ((r : ℕ) → r ∈ roots → r < g .vertices) → (passed : List ℕ) → ClosedAlong g edges passed
+      → ClosedAlong g edges (passedFrom g edges roots passed)
   unfolding passedFrom
   passed-closed [] within passed closed = closed
   passed-closed (r ∷ roots) within passed closed =

@@ -34,7 +34,7 @@ settle-cases g H v bunch piece S alone full more = go (reaches g H piece) (reach
     go false false x y z = z refl refl
 
 -- P holds of every part and Q of what is left.
-pub record Holds (P : Tree → Type 0) (Q : List ℕ → Type 0) (s : Pieces) : Type 0 where
+pub record PiecesHold (P : Tree → Type 0) (Q : List ℕ → Type 0) (s : Pieces) : Type 0 where
   pub of-parts : (t : Tree) → t ∈ s .parts → P t
   pub of-left : Q (s .left)
 
@@ -52,15 +52,15 @@ module _ {g : Graph} {H : ℕ} {R : ℕ → ℕ → ℕ → Type 0} {P : Tree �
   single h t (List·Memᴰ·head q) = subst P (sym q) h
   single h t (List·Memᴰ·tail m) = absurd (List·Memᴰ·not-nil m)
 
-  settle-holds : {v e child : ℕ} {bunch below : List ℕ} → R v e child → Q v bunch → Q child below → Holds P (Q v) (settle g H v bunch (e ∷ below))
+  settle-holds : {v e child : ℕ} {bunch below : List ℕ} → R v e child → Q v bunch → Q child below → PiecesHold P (Q v) (settle g H v bunch (e ∷ below))
   settle-holds {v} {e} {child} {bunch} {below} r q s =
-      settle-cases g H v bunch (e ∷ below) (Holds P (Q v))
+      settle-cases g H v bunch (e ∷ below) (PiecesHold P (Q v))
       (λ a. record { of-parts = single (rules .alone r s a); of-left = q })
       (λ a b. record { of-parts = single (rules .full r q s a b); of-left = rules .empty v })
       (λ a b. record { of-parts = λ t m. absurd (List·Memᴰ·not-nil m); of-left = rules .more r q s b })
 
   -- Then P holds of every part of the branches, and Q of what is left.
-  pub split-holds : {v : ℕ} {b : Branches} → Along R v b → {bunch : List ℕ} → Q v bunch → Holds P (Q v) (splitAt g H v bunch b)
+  pub split-holds : {v : ℕ} {b : Branches} → Along R v b → {bunch : List ℕ} → Q v bunch → PiecesHold P (Q v) (splitAt g H v bunch b)
   unfolding splitAt
   split-holds bare q = record { of-parts = λ t m. absurd (List·Memᴰ·not-nil m); of-left = q }
   split-holds (fork {v = v} {e = e} {child = child} {under = under} {later = later} r x y) {bunch} q =
@@ -69,7 +69,7 @@ module _ {g : Graph} {H : ℕ} {R : ℕ → ℕ → ℕ → Type 0} {P : Tree �
       let rest = split-holds y (met .of-left) in
       record { of-parts = λ t m. go inner met rest t m; of-left = rest .of-left }
     where
-      go : {s u w : Pieces} → Holds P (Q child) s → Holds P (Q v) u → Holds P (Q v) w → (t : Tree) → t ∈ (s .parts ++ (u .parts ++ w .parts)) → P t
+      go : {s u w : Pieces} → PiecesHold P (Q child) s → PiecesHold P (Q v) u → PiecesHold P (Q v) w → (t : Tree) → t ∈ (s .parts ++ (u .parts ++ w .parts)) → P t
       go {s} {u} {w} a b c t m = outer (List·Memᴰ·append-cases (s .parts) m)
         where
           inside : (t ∈ u .parts) ⊎ (t ∈ w .parts) → P t

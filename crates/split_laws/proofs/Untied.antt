@@ -22,12 +22,12 @@ untied-fewer sub h e m (r, i, a) (s, k, b) = h e (sub e m) (r, i, linked-more (w
 
 -- The edges have no loop, in terms of labels: the other edges do not join an edge's ends, and roots that the edges link are joined from the
 -- start.
-pub record NoLoop (g : Graph) (label : Labels) (roots edges : List ℕ) : Type 0 where
+pub record NoLoopByLabels (g : Graph) (label : Labels) (roots edges : List ℕ) : Type 0 where
   pub alike : (r s : ℕ) → r ∈ roots → s ∈ roots → Linked g edges r s → label r ≡ label s
   pub no-loop : (e : ℕ) → e ∈ edges → JoinsEnds g (mergeAll g label (without e edges)) e → ⊥
 
 -- Then no edge has both its ends linked to roots by the others.
-pub labels-untied : {g : Graph} {label : Labels} {roots edges : List ℕ} → NoLoop g label roots edges → Untied g roots edges
+pub labels-untied : {g : Graph} {label : Labels} {roots edges : List ℕ} → NoLoopByLabels g label roots edges → Untied g roots edges
 labels-untied {g} {label} {roots} {edges} h e m (r, i, a) (s, k, b) =
     h .no-loop e m (sym (linked-merged g others label a) ∙ merged-coarser g label others r s (h .alike r s i k across) ∙ linked-merged g others label b)
   where

@@ -1,11 +1,11 @@
 -- `split::split_forest` meets its contract: the first n of 256 zeros are no marks, and a stack of n places.
 -- Assumes nothing.
-use Prim.Native.Nat.{ℕ, _≤_, _<_}
+use Prim.Native.Nat.{ℕ, _≤_}
 use mathlib.Core.Path.{_≡_, refl, sym, _∙_}
 use mathlib.Core.List.{List}
 use native.Mathlib.Omega.{arith}
 use borrow.Author.Needs.{needs}
-use lib.ListN.{length, take, getD, replicate, length-replicate, getD-replicate}
+use lib.ListN.{length, take, replicate, length-replicate, getD-replicate}
 use lib.Seq.{length-take-le, getD-take}
 use Rattle.split.specs.ForestSplit.{Lent, Splittable, Unwalked, ForestSplit}
 use Rattle.split.proofs.split_forest.Statement.{statement}

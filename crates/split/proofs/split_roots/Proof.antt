@@ -9,8 +9,8 @@ use Rattle.lists.proofs.Put.{put-length, only-first-length}
 use Rattle.split.specs.ChildrenWalked.{stateOf}
 use Rattle.split.specs.ForestSplit.{lent}
 use Rattle.split.proofs.ChildWalked.{walked-of}
-use Rattle.split.proofs.RootsSplit.{RootsSplit, root-walkable, left-puttable, left-number, roots-more, roots-first}
-use Rattle.split.proofs.ForestSplit.{all-split}
+use Rattle.split.proofs.RootsSplit.{RootsSplit, root-walkable, left-puttable, left-number, roots-more}
+use Rattle.split.proofs.ForestSplit.{roots-first, all-split}
 use Rattle.split.proofs.split_roots.Statement.{statement}
 use Rattle.split.proofs.split_roots.Tie as tie
 
@@ -116,13 +116,13 @@ same-length-2 : tie.Need-same-length-2 Inv-loop μ-loop
 same-length-2 c = c .before .loop .inv .room .stack-length
 
 same-length-3 : tie.Need-same-length-3 Inv-loop μ-loop
-same-length-3 c = only-first-length (c .before .loop .inv .starts-rest)
+same-length-3 c = only-first-length (c .before .loop .inv .added .starts-rest)
 
 same-length-4 : tie.Need-same-length-4 Inv-loop μ-loop
-same-length-4 c = only-first-length (c .before .loop .inv .cuts-rest) ∙ length-set (entry (c .before .before) .args .cuts .now) 0 0
+same-length-4 c = only-first-length (c .before .loop .inv .added .cuts-rest) ∙ length-set (entry (c .before .before) .args .cuts .now) 0 0
 
 same-length-5 : tie.Need-same-length-5 Inv-loop μ-loop
-same-length-5 c = only-first-length (c .before .loop .inv .flat-rest)
+same-length-5 c = only-first-length (c .before .loop .inv .added .flat-rest)
 
 same-length-6 : tie.Need-same-length-6 Inv-loop μ-loop
 same-length-6 c = put-length (c .before .loop .inv .lefts-put .put)

@@ -3,18 +3,16 @@
 -- Assumes nothing.
 use Prim.Native.Nat.{ℕ, _+_, _-_, _*_, _≤_, _<_}
 use mathlib.Core.Path.{_≡_, refl, sym, ap, _∙_}
-use mathlib.Core.Bool.{true, false}
 use native.Mathlib.Omega.{arith}
 use borrow.Author.Needs.{needs}
 use borrow.Author.Tests.{eq-eqb, ne-eqb}
 use borrow.Fn.Kinds.{In}
 use borrow.Fn.PlainCycle.{Measures, is, falls, and}
 use lib.ListN.{length, getD, set, length-set}
-use Rattle.lists.specs.Segments.{segment}
 use Rattle.lists.proofs.Put.{only-first-length}
-use Rattle.forest.specs.Around.{arcHead, arcWeight, Arcs}
+use Rattle.forest.specs.Around.{arcWeight}
 use Rattle.split.specs.SplitBelow.{unmarked, unvisited}
-use Rattle.split.specs.ChildrenWalked.{stateOf, passing, Walkable, ChildrenWalked}
+use Rattle.split.specs.ChildrenWalked.{stateOf}
 use Rattle.split.proofs.ChildWalked.{IsChild, walked-of, child-less, edge-fits, pushed-length, child-walkable, child-settleable}
 use Rattle.split.proofs.WalkUnderway.{Underway, underway-first, underway-done, underway-past, underway-child}
 use Rattle.split.proofs.walk.walk_children.Reads as walk-children
