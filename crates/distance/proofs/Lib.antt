@@ -11,8 +11,6 @@ pub mod Seeking
 pub mod Trails
 -- the invariant of the search
 pub mod Settling
--- what an arc holds is read from it again
-pub mod Arcs
 -- the arcs of a vertex are its edges
 pub mod ArcEdges
 -- once the search is over, the arrays say the distances and the shortest paths

@@ -14,9 +14,8 @@ use Rattle.rules.specs.Walk.{Linked}
 use Rattle.rules.specs.Labels.{Labels}
 use Rattle.rules.specs.Forest.{keep, forest}
 use Rattle.rules.proofs.Linked.{linked-more}
-use Rattle.forest_laws.proofs.Keeping.{kept-once}
 use Rattle.forest_laws.proofs.Loops.{kept-no-loop, kept-whole-is-loopless}
-use Rattle.forest_laws.proofs.FewEdges.{kept-few}
+use Rattle.forest_laws.proofs.FewEdges.{kept-few, kept-few-from}
 
 module _ {g : Graph} (valid : Valid g) where
   -- edges without a loop are fewer than the vertices
@@ -27,13 +26,10 @@ module _ {g : Graph} (valid : Valid g) where
   pub kept-within-few : (P : Labels) (L : List ℕ) {E : List ℕ} → Once E → ((e : ℕ) → e ∈ E → e ∈ keep g P L) → length E < g .vertices
   kept-within-few P L once sub = loopless-few once (λ e m l. kept-no-loop g P L (sub e m) (linked-more (without-within e sub) l))
 
-  pub kept-few-from : (P : Labels) (L : List ℕ) → length (keep g P L) < g .vertices
-  kept-few-from P L = kept-within-few P L (kept-once g P L) (λ e m. m)
-
   -- so it is with the forest at a limit
   pub forest-few : (P : Labels) (limit : ℕ) → length (forest g P limit) < g .vertices
   unfolding forest
-  forest-few P limit = kept-few-from P _
+  forest-few P limit = kept-few-from valid P _
 
   pub forest-within-few : (P : Labels) (limit : ℕ) {E : List ℕ} → Once E → ((e : ℕ) → e ∈ E → e ∈ forest g P limit) → length E < g .vertices
   unfolding forest

@@ -10,8 +10,7 @@ use mathlib.Core.Option.{none, some}
 use borrow.Author.Tests.{eqb-true, eq-eqb, not-false}
 use Rattle.lists.specs.Count.{below}
 use Rattle.lists.proofs.Below.{in-below, of-below}
-use Rattle.lists.proofs.First.{first-none}
-use Rattle.lists.proofs.FirstFound.{first-some, none-first}
+use Rattle.lists.proofs.First.{first-none, first-some, none-first}
 use Rattle.graph.specs.Graph.{Graph}
 use Rattle.rules.specs.Labels.{Labels, joined}
 use Rattle.rules.specs.Forest.{unjoined}

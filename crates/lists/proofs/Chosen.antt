@@ -17,15 +17,10 @@ use Rattle.lists.proofs.Filters.{filter-append}
 use Rattle.lists.proofs.FlatMap.{in-flat-map, of-flat-map}
 use Rattle.lists.proofs.Member.{in-filter, of-filter}
 use Rattle.lists.proofs.Numbered.{from-snoc}
-use Rattle.lists.proofs.Sums.{sum-append, sum-split}
+use Rattle.lists.proofs.Sums.{sum-split}
+use Rattle.lists.proofs.SumsAlike.{sum-flat-map}
 
--- a sum over lists made for each element is the sum of their sums
-pub sum-flat-map {ℓ κ} : {A : Type ℓ} {B : Type κ} (w : B → ℕ) (f : A → List B) (xs : List A) → sumOf w (flat (map f xs)) ≡ sumOf (λ x. sumOf w (f x)) xs
-unfolding sumOf flat
-sum-flat-map w f [] = refl
-sum-flat-map w f (x ∷ xs) = omega (arith, sum-append w (f x) (flat (map f xs)), sum-flat-map w f xs)
-
--- it is no more where only some elements are chosen
+-- a sum over lists made for each element is no more where only some elements are chosen
 pub sum-chosen {ℓ κ} : {A : Type ℓ} {B : Type κ} (w : B → ℕ) (f : A → List B) (t : A → Bool) (xs : List A) → sumOf w (flat (map f (filter t xs))) ≤ sumOf w (flat (map f xs))
 sum-chosen w f t xs = omega (arith, sum-flat-map w f xs, sum-flat-map w f (filter t xs), sum-split (λ x. sumOf w (f x)) t xs)
 

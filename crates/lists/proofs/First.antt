@@ -29,3 +29,9 @@ first-some {A = A} f (y ∷ ys) {x} q = go (f y) refl q (λ r. first-some f ys r
     go : (b : Bool) → f y ≡ b → cond b (some y) (firstThat f ys) ≡ some x → (firstThat f ys ≡ some x → (x ∈ ys) × (f x ≡ true)) → (x ∈ (y ∷ ys)) × (f x ≡ true)
     go true e q ih = let same : x ≡ y = cc in (List·Memᴰ·head same, ap f same ∙ e)
     go false e q ih = let r = ih q in (List·Memᴰ·tail (r .0), r .1)
+
+-- where every element fails there is none
+pub none-first {ℓ} : {A : Type ℓ} (f : A → Bool) (xs : List A) → ((x : A) → x ∈ xs → f x ≡ false) → firstThat f xs ≡ none
+unfolding firstThat
+none-first f [] each = refl
+none-first f (y ∷ ys) each = rw (each y (List·Memᴰ·head refl)) (none-first f ys (λ x m. each x (List·Memᴰ·tail m)))

@@ -1,28 +1,15 @@
--- Lengths as sums: a list without repeats is no longer than a list that has all its elements, also through a map that keeps them apart.
+-- Lengths compared: a list without repeats is no longer than a list that has all its elements, also through a map that keeps them apart.
 -- Assumes nothing.
-use Prim.Native.Nat.{ℕ, _*_, _≤_}
+use Prim.Native.Nat.{_≤_}
 use mathlib.Core.Path.{_≡_, refl, _∙_}
 use mathlib.Core.List.{List, [], _∷_, map, List·Memᴰ·head, List·Memᴰ·tail}
-use native.Mathlib.Nat.{zero-mul, suc-mul}
 use native.Mathlib.Omega.{arith}
 use lib.ListN.{length}
-use Rattle.lists.specs.Lists.{sumOf}
 use Rattle.lists.specs.Member.{_∈_}
 use Rattle.lists.proofs.Member.{of-map}
 use Rattle.lists.proofs.InOrder.{Once, none, next}
 use Rattle.lists.proofs.Sums.{sum-within}
-
--- the length is the sum of ones
-pub length-sum {ℓ} : {A : Type ℓ} (xs : List A) → sumOf (λ _. 1) xs ≡ length xs
-unfolding sumOf
-length-sum [] = refl
-length-sum (x ∷ xs) = omega (arith, length-sum xs)
-
--- where no element's value is above a bound, the sum is at most the bound for each
-pub sum-most {ℓ} : {A : Type ℓ} (f : A → ℕ) (most : ℕ) (xs : List A) → ((x : A) → x ∈ xs → f x ≤ most) → sumOf f xs ≤ length xs * most
-unfolding sumOf
-sum-most f most [] h = omega (arith, zero-mul most)
-sum-most f most (x ∷ xs) h = omega (arith, suc-mul (length xs) most, h x (List·Memᴰ·head refl), sum-most f most xs (λ y m. h y (List·Memᴰ·tail m)))
+use Rattle.lists.proofs.SumsAlike.{length-sum}
 
 -- a list in which something stands is not empty
 pub some-member {ℓ} : {A : Type ℓ} {x : A} {xs : List A} → x ∈ xs → 1 ≤ length xs

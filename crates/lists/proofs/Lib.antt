@@ -11,8 +11,6 @@ pub mod Sums
 pub mod Filters
 -- the first element that passes a test
 pub mod First
--- what is found first stands in the list and passes; where all fail there is none
-pub mod FirstFound
 -- the list without a number
 pub mod Without
 -- the sum without a number
@@ -57,7 +55,7 @@ pub mod PutOneByOne
 pub mod OnlyFirst
 -- several lists in one array: one more bound adds one more list
 pub mod Segments
--- values against a bound, their largest and their sum
+-- sums against a bound
 pub mod Bounds
 -- sums and lengths compared value by value
 pub mod SumsAlike
@@ -79,7 +77,7 @@ pub mod Chosen
 pub mod Places
 -- the largest value over a list
 pub mod Largest
--- lengths as sums
+-- lengths compared
 pub mod Lengths
 -- one more element at the end of a list
 pub mod OneMore

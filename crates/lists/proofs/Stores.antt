@@ -6,6 +6,7 @@ use mathlib.Core.List.{List, [], _∷_, _++_, append-assoc, List·Memᴰ·head, 
 use native.Mathlib.Omega.{arith}
 use lib.ListN.{length, take, drop, getD, set, length-append, take-append-drop}
 use Rattle.lists.specs.Member.{_∈_}
+use Rattle.lists.proofs.Places.{at-place}
 use lib.Seq.{sets, sets-eq, slice, take-at, drop-at, take-take, drop-append-le, length-take-le, getD-set-other, getD-drop, getD-take, length-slice}
 
 module _ {A : Type 0} where
@@ -45,15 +46,9 @@ module _ {A : Type 0} where
       getD-sets-past (set l i x) (suc i) vs j d (omega arith) ∙ getD-set-other l i j x d (omega arith)
 
 module _ {A : Type 0} (d : A) where
-  -- what stands at a place stands in the list
-  pub at-place-in : (l : List A) (i : ℕ) → i < length l → getD l i d ∈ l
-  at-place-in [] i h = absurd (omega arith)
-  at-place-in (x ∷ xs) zero h = List·Memᴰ·head refl
-  at-place-in (x ∷ xs) (suc i) h = List·Memᴰ·tail (at-place-in xs i (omega arith))
-
-  -- and in every segment around the place
+  -- what stands at a place stands in every segment around it
   pub at-place-in-slice : (f t i : ℕ) (l : List A) → f ≤ i → i < t → t ≤ length l → getD l i d ∈ slice f t l
   at-place-in-slice f t i l a b c =
       let place : f + (i - f) ≡ i = omega arith in
       let same : getD (slice f t l) (i - f) d ≡ getD l i d = getD-drop f (take t l) (i - f) d ∙ ap (λ k. getD (take t l) k d) place ∙ getD-take t l i d b in
-      Memᴰ·cast (sym same) (at-place-in (slice f t l) (i - f) (omega (arith, length-slice f t l c)))
+      Memᴰ·cast (sym same) (at-place d (slice f t l) (i - f) (omega (arith, length-slice f t l c)))

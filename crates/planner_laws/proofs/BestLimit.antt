@@ -9,7 +9,7 @@ use native.Mathlib.Omega.{arith}
 use Rattle.lists.proofs.InOrder.{rising-once}
 use Rattle.lists.proofs.Sums.{sum-within}
 use Rattle.lists.proofs.Largest.{largest-most}
-use Rattle.lists.proofs.Lengths.{sum-most}
+use Rattle.lists.proofs.Bounds.{sum-most}
 use Rattle.lists.proofs.Sorting.{sum-sort}
 use Rattle.lists.proofs.Below.{of-below}
 use Rattle.lists.proofs.Runs.{length-below}

@@ -9,7 +9,7 @@ use lib.ListN.{length, getD}
 use Rattle.lists.specs.Count.{below}
 use Rattle.lists.specs.Member.{_∈_}
 use Rattle.lists.proofs.Below.{in-below, of-below}
-use Rattle.lists.proofs.Bounds.{largest-most}
+use Rattle.lists.proofs.Largest.{largest-most}
 use Rattle.lists.proofs.Member.{in-map, of-map}
 use Rattle.lists.proofs.Places.{at-place, place-of}
 use Rattle.lists.proofs.Runs.{map-below}

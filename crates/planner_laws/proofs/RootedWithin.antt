@@ -9,7 +9,8 @@ use lib.ListN.{length, getD, length-map, List·getD-map}
 use Rattle.lists.specs.Member.{_∈_}
 use Rattle.lists.proofs.Member.{in-map}
 use Rattle.lists.proofs.Places.{at-place}
-use Rattle.lists.proofs.Bounds.{largest-each, sum-each}
+use Rattle.lists.proofs.Bounds.{sum-each}
+use Rattle.lists.proofs.Largest.{in-largest}
 use Rattle.graph.specs.Graph.{Graph, weightOf}
 use Rattle.rules.specs.Walk.{totalWeight}
 use Rattle.rules.specs.Cover.{Tree, treeWeight, heaviest, IsCover, rooted}
@@ -39,7 +40,7 @@ module _ {g : Graph} {roots : List ℕ} {trees : List Tree} (cover : IsCover g (
     -- a tree is within the limit
     pub tree-light : {t : Tree} → t ∈ trees → treeWeight g t ≤ limit
     unfolding heaviest
-    tree-light m = omega (arith, largest-each (treeWeight g) m)
+    tree-light m = omega (arith, in-largest (treeWeight g) m)
 
     -- so are its edges
     pub tree-edges-light : {t : Tree} → t ∈ trees → Within g limit (t .edges)

@@ -8,7 +8,7 @@ use mathlib.Core.Logic.{_⊎_, inl, inr}
 use native.Mathlib.Omega.{arith}
 use Rattle.lists.specs.Member.{_∈_}
 use Rattle.lists.proofs.Member.{of-map}
-use Rattle.lists.proofs.Bounds.{largest-most}
+use Rattle.lists.proofs.Largest.{largest-most}
 use Rattle.lists.proofs.SumsAlike.{length-removed}
 use Rattle.lists.proofs.Sorting.{in-rise}
 use Rattle.graph.specs.Graph.{Graph}

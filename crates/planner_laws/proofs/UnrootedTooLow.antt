@@ -10,7 +10,7 @@ use lib.ListN.{length}
 use borrow.Author.Tests.{eqb-true}
 use Rattle.lists.proofs.InOrder.{InOrder, rising-in-order}
 use Rattle.lists.proofs.InOrderWithin.{in-order-within}
-use Rattle.lists.proofs.Bounds.{largest-each}
+use Rattle.lists.proofs.Largest.{in-largest}
 use Rattle.lists.proofs.SumsAlike.{sum-no-more}
 use Rattle.lists.proofs.Shares.{shares}
 use Rattle.graph.specs.Graph.{Graph}
@@ -47,5 +47,5 @@ pub needs-too-low : {g : Graph} → EndsInside g → (k limit : ℕ) → k < nee
 unfolding heaviest
 needs-too-low {g} ends k limit low trees cover =
     let never : heaviest g trees ≤ limit → ⊥ = λ h.
-    omega (arith, within-needs ends limit (cover .all-covered) (λ t m. omega (arith, largest-each (treeWeight g) m)), cover .starts .1) in
+    omega (arith, within-needs ends limit (cover .all-covered) (λ t m. omega (arith, in-largest (treeWeight g) m)), cover .starts .1) in
     omega arith
