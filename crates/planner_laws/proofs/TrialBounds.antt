@@ -15,12 +15,7 @@ use Rattle.rules.specs.Cover.{Tree, heaviest, Crews, rooted, unrooted, IsCover}
 use Rattle.rules.specs.RootedTrial.{Choices, GoodChoices, unjoinedAt, rootedParts, mayGo, isAssignable, rootedCover}
 use Rattle.rules.specs.UnrootedTrial.{needed, unrootedTrees}
 use Rattle.rules.specs.Search.{nobody, accepts}
-use Rattle.rules.specs.Meaning.{NoneWithin}
-
--- What holds of the free choices at a limit. An unrooted trial has none.
-abbrev pub GoodFor : Graph → Crews → ℕ → Choices → Type 0
-GoodFor g (rooted roots) limit c = GoodChoices g roots limit c
-GoodFor g (unrooted k) limit c = Unit {0}
+use Rattle.rules.specs.Meaning.{GoodFor, NoneWithin}
 
 -- The trees of an accepted trial.
 abbrev pub trialTrees : Graph → Crews → ℕ → Choices → List Tree

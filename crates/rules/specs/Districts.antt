@@ -92,7 +92,7 @@ unfolding headD
     CheckCover.startsRight CheckCover.startsBelow CheckCover.entryRises CheckCover.entryRight CheckCover.entriesRight CheckCover.loopFree
     CheckCover.allJoined CheckCover.treesRight CheckCover.verticesCovered CheckCover.coverFault
     Questions.numberIn Questions.sheetFault Questions.crewCount Questions.tooManyRoots Questions.crewFault Questions.limitFault
-    Questions.roomFault Questions.askTrial Questions.askBest Questions.askCheck
+    Questions.roomFault Questions.trialFault Questions.askTrial Questions.bestFault Questions.askBest Questions.askCheck
 answer (trial sheet crews limit c) = reply (askTrial sheet crews limit 32708 c)
 answer (best sheet crews c) = reply (askBest sheet crews 32708 c)
 answer (check sheet crews cover) = verdict (askCheck sheet crews cover)

@@ -48,17 +48,25 @@ limitFault limit = faultIf (ltb 2048000000 limit) 22
 unfoldable pub roomFault : ℕ → Fault
 roomFault room = faultIf (ltb room 32708) 23
 
+-- What is refused of a trial question, in document 01's order.
+unfoldable pub trialFault : List ℕ → Crews → ℕ → ℕ → Fault
+trialFault b crews limit room = firstFault (sheetFault b ∷ crewFault crews (graphOf b .vertices) ∷ limitFault limit ∷ roomFault room ∷ [])
+
 -- The trial question: a graph's bytes, crews, a limit and the length of the buffer.
 unfoldable pub askTrial : List ℕ → Crews → ℕ → ℕ → Choices → Reply
 askTrial b crews limit room c =
     let answer = trial (graphOf b) crews limit c in
-    refusedOr refused (firstFault (sheetFault b ∷ crewFault crews (graphOf b .vertices) ∷ limitFault limit ∷ roomFault room ∷ [])) answer
+    refusedOr refused (trialFault b crews limit room) answer
+
+-- What is refused of a best-limit question.
+unfoldable pub bestFault : List ℕ → Crews → ℕ → Fault
+bestFault b crews room = firstFault (sheetFault b ∷ crewFault crews (graphOf b .vertices) ∷ roomFault room ∷ [])
 
 -- The best-limit question.
 unfoldable pub askBest : List ℕ → Crews → ℕ → Choices → Reply
 askBest b crews room c =
     let answer = best (graphOf b) crews c in
-    refusedOr refused (firstFault (sheetFault b ∷ crewFault crews (graphOf b .vertices) ∷ roomFault room ∷ [])) answer
+    refusedOr refused (bestFault b crews room) answer
 
 -- The check of a filed cover's bytes.
 unfoldable pub askCheck : List ℕ → Crews → List ℕ → Verdict
