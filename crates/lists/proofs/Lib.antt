@@ -67,3 +67,5 @@ pub mod Images
 pub mod LeastOf
 -- tests that say the same
 pub mod SameTests
+-- an array of zeros
+pub mod Zeros

@@ -4,7 +4,6 @@ use Prim.Native.Nat.{ℕ, _+_, _≤_, _<_}
 use mathlib.Core.Path.{_≡_, refl, ap, _∙_}
 use mathlib.Core.Bool.{Bool}
 use mathlib.Core.List.{List}
-use native.Mathlib.Omega.{arith}
 use lib.ListN.{length, getD, drop}
 use Rattle.lists.specs.Put.{OnlyFirst}
 use Rattle.lists.proofs.OnlyFirst.{only-first-none, only-first-on}

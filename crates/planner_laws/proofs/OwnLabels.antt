@@ -20,7 +20,7 @@ use Rattle.graph.specs.Graph.{Graph, oneEnd}
 use Rattle.graph.specs.Valid.{Valid}
 use Rattle.rules.specs.Walk.{totalWeight}
 use Rattle.rules.specs.Labels.{Labels, apart, joined, mergeAll}
-use Rattle.rules.specs.Forest.{forest, labelsAt, lowest}
+use Rattle.rules.specs.Forest.{forest, lowest}
 use Rattle.rules.specs.UnrootedTrial.{needed}
 use Rattle.forest_laws.proofs.VertexLabels.{VertexLabels, own, apart-vertices, merged-vertices}
 use Rattle.forest_laws.proofs.Forest.{forest-merges}
