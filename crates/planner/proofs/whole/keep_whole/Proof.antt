@@ -19,13 +19,21 @@ same-length c = search needs
 same-length-2 : tie.Need-same-length-2
 same-length-2 c = search needs
 
+-- Where the edges are kept: where the labels were started, and what was asked.
+module _ (k : tie.After-keep-edges) where
+  abbrev started : tie.After-start-labels
+  started = k .before .before .before .before .before
+
+  abbrev counted : tie.After-vertex-count
+  counted = started .before .before
+
+  abbrev start : tie.Start
+  start = counted .before .before .before .before .before .before
+
 returns : tie.Need-returns
 returns c =
     let k = c .before .before .before .before in
-    let s = k .before .before .before .before .before in
-    let v = s .before .before in
-    let start = v .before .before .before .before .before .before in
-    whole-forest (v .vertex-count .ensures .is) (s .start-labels .ensures) (rw (start .pre .in-order) at (k .keep-edges .ensures))
+    whole-forest (counted k .vertex-count .ensures .is) (started k .start-labels .ensures) (rw (start k .pre .in-order) at (k .keep-edges .ensures))
 
 pub keep-whole-spec : {M : Type 1} → statement M
 keep-whole-spec =
