@@ -183,16 +183,17 @@ fn to_the_top(record: &Record) -> bool {
 fn left_at_the_threshold(record: &Record) -> bool {
     let graph = read(&record.sheet).expect("admitted");
     let (k, limit) = (record.k, record.limit);
-    if record.kind == Kind::Unrooted || !plan(&graph, k, limit).is_ok() {
+    if record.kind == Kind::Unrooted || plan(&graph, k, limit).is_err() {
         return is_accepted(record);
     }
     let roots: Vec<usize> = (0..k).collect();
     let found = split(&graph, &rooted(&graph, k, limit).kept, &roots, limit + 1);
+    let distance = from_roots(&graph, k);
     let mut allowed = Vec::new();
     for part in &found.parts {
         let ends = graph.ends(&part.edges);
-        for from_root in from_roots(&graph, k) {
-            allowed.push(u8::from(closest(&from_root, &ends).is_some_and(|near| near.0 <= limit)));
+        for from_root in &distance {
+            allowed.push(u8::from(closest(from_root, &ends).is_some_and(|near| near.0 <= limit)));
         }
     }
     let p = found.parts.len();
@@ -240,7 +241,9 @@ fn tempting_mistakes_would_show() {
         };
         let shows = |i: &usize| {
             let record = &made()[*i];
-            admitted(record) && Some(wrong(record)) != accepted(&lines()[*i])
+            record.sheet.len() < 1_000
+                && admitted(record)
+                && Some(wrong(record)) != accepted(&lines()[*i])
         };
         let count = (0..made().len()).filter(shows).count();
         assert!(count >= 5, "{name}: {count}");
