@@ -5,6 +5,7 @@ use crate::bytes::{put_two, two};
 use crate::check::check;
 use crate::cover::{encode, Tree};
 use crate::graph::{sheet, Graph};
+use crate::made_shapes::damaged_sheets;
 use crate::question::Kind;
 use crate::random::Random;
 
@@ -68,23 +69,23 @@ fn around_a_cover(random: &mut Random) -> Vec<Filing> {
     covers.into_iter().map(file).collect()
 }
 
-/// The cover with each of its fields changed: one more, one less, and to any number.
-fn changed_fields(random: &mut Random, good: &[u8]) -> Vec<Vec<u8>> {
+/// Bytes with each of their two-byte fields changed: one more, one less, and to any number.
+pub fn changed_fields(random: &mut Random, good: &[u8]) -> Vec<Vec<u8>> {
     let mut out = Vec::new();
     for at in (0..good.len()).step_by(2) {
         let value = two(good, at);
         for other in [value + 1, value.wrapping_sub(1) % 65_536, random.below(12)] {
-            let mut cover = good.to_vec();
-            cover[at] = (other % 256) as u8;
-            cover[at + 1] = (other / 256 % 256) as u8;
-            out.push(cover);
+            let mut changed = good.to_vec();
+            changed[at] = (other % 256) as u8;
+            changed[at + 1] = (other / 256 % 256) as u8;
+            out.push(changed);
         }
     }
     out
 }
 
-/// The cover cut short at every place, and longer by one byte and by two.
-fn changed_lengths(good: &[u8]) -> Vec<Vec<u8>> {
+/// Bytes cut short at every place, and longer by one byte and by two.
+pub fn changed_lengths(good: &[u8]) -> Vec<Vec<u8>> {
     let mut out: Vec<Vec<u8>> = (0..good.len()).map(|end| good[..end].to_vec()).collect();
     out.push([good, &[0]].concat());
     out.push([good, &[0, 0]].concat());
@@ -116,16 +117,8 @@ fn changed_trees(random: &mut Random, graph: &Graph, trees: &[Tree]) -> Vec<Vec<
 
 /// Questions refused for the sheet (11 to 16) or the number of trees (21), with a cover that would do.
 fn refused_before_the_cover() -> Vec<Filing> {
-    let line = [(0, 1, 1)];
-    let short = sheet(2, &line);
-    let mut sheets = vec![vec![], vec![2, 0, 1], short[..11].to_vec(), [&short[..], &[0]].concat()];
-    sheets.push(sheet(0, &[]));
-    sheets.push(sheet(257, &[]));
-    sheets.push(sheet(2, &vec![(0, 1, 1); 2_049]));
-    for bad in [(2, 1, 1), (0, 2, 1), (1, 1, 1), (0, 1, 0), (0, 1, 1_000_001)] {
-        sheets.push(sheet(2, &[bad]));
-        sheets.push(sheet(2, &[(0, 1, 1), bad]));
-    }
+    let sheets = damaged_sheets();
+    let short = sheet(2, &[(0, 1, 1)]);
     let cover = encode(&[Tree::new(0, vec![0])]);
     let mut all = Vec::new();
     for kind in [Kind::Rooted, Kind::Unrooted] {

@@ -1,20 +1,19 @@
 //! Records of made graphs, to compare the forests and the parts of another implementation on.
 
-use crate::bytes::{put_four, put_two};
+use crate::bytes::{four, put_four, put_two, two};
 use crate::graph::{sheet, Graph};
+use crate::made_shapes::{ends, graph, mixed, shuffled, weighed, Shape, Weights};
 use crate::question::Kind;
 use crate::random::Random;
 
 /// A graph's bytes, right or wrong, with what is asked of it.
+#[derive(Clone, Debug, PartialEq, Eq)]
 pub struct Record {
     pub kind: Kind,
     pub k: usize,
     pub limit: u64,
     pub sheet: Vec<u8>,
 }
-
-/// The edges (end, end, weight) of a graph that is being made.
-type Edges = Vec<(usize, usize, u64)>;
 
 /// Every record: the smallest graphs, refused bytes, random graphs, and graphs of the largest size.
 pub fn records() -> Vec<Record> {
@@ -25,6 +24,7 @@ pub fn records() -> Vec<Record> {
     (0..60).for_each(|i| all.extend(at_random(&mut random, i, (10, 60), 120, 1)));
     all.extend(trees(&mut random));
     all.extend(dense(&mut random));
+    all.extend(distant(&mut random));
     all
 }
 
@@ -41,8 +41,21 @@ pub fn encode(records: &[Record]) -> Vec<u8> {
     out
 }
 
+/// Reads records from bytes: kind 1 is rooted, every other unrooted. Nothing if they end within a record.
+pub fn decode(mut bytes: &[u8]) -> Option<Vec<Record>> {
+    let mut all = Vec::new();
+    while !bytes.is_empty() {
+        let (head, rest) = bytes.split_at_checked(10)?;
+        let (sheet, rest) = rest.split_at_checked(two(head, 8))?;
+        let kind = if two(head, 0) == 1 { Kind::Rooted } else { Kind::Unrooted };
+        all.push(Record { kind, k: two(head, 2), limit: four(head, 4), sheet: sheet.to_vec() });
+        bytes = rest;
+    }
+    Some(all)
+}
+
 /// A record of each kind for a graph's bytes.
-fn both(sheet: &[u8], k: usize, limit: u64) -> Vec<Record> {
+pub fn both(sheet: &[u8], k: usize, limit: u64) -> Vec<Record> {
     let of = |kind: Kind| Record { kind, k, limit, sheet: sheet.to_vec() };
     vec![of(Kind::Rooted), of(Kind::Unrooted)]
 }
@@ -86,8 +99,8 @@ fn at_random(
     let graph = if number % 2 == 0 {
         random.graph(n, m, most)
     } else {
-        let tree = (1..n).map(|v| (random.below(v), v)).collect();
-        let weighed = weighed(random, tree, most);
+        let tree = ends(random, Shape::Tree, n, 0);
+        let weighed = weighed(random, tree, Weights::Between(1, most));
         let more = random.graph(n, m.saturating_sub(n), most).edges;
         let extra = more.iter().map(|edge| (edge.a, edge.b, edge.weight));
         let edges = weighed.into_iter().chain(extra).collect();
@@ -103,41 +116,17 @@ fn at_random(
     all
 }
 
-/// A random weight, from 1 to a most, for each pair of ends.
-fn weighed(random: &mut Random, ends: Vec<(usize, usize)>, most: usize) -> Edges {
-    ends.into_iter().map(|(a, b)| (a, b, random.between(1, most) as u64)).collect()
-}
-
-/// A list in a random order.
-fn shuffled<T>(random: &mut Random, mut list: Vec<T>) -> Vec<T> {
-    for i in (1..list.len()).rev() {
-        list.swap(i, random.below(i + 1));
-    }
-    list
-}
-
-/// The graph with its edges in a random order and its vertices renumbered at random.
-fn mixed(random: &mut Random, n: usize, edges: Edges) -> Graph {
-    let name = shuffled(random, (0..n).collect());
-    let renamed = edges.iter().map(|&(a, b, weight)| (name[a], name[b], weight)).collect();
-    Graph::new(n, &shuffled(random, renamed))
-}
-
 /// A path, a star, a caterpillar and a random tree of 256 vertices.
 fn trees(random: &mut Random) -> Vec<Record> {
-    let shapes: [Vec<(usize, usize)>; 4] = [
-        (1..256).map(|v| (v - 1, v)).collect(),
-        (1..256).map(|v| (v, 0)).collect(),
-        (1..256).map(|v| if v < 128 { (v - 1, v) } else { (v, v - 128) }).collect(),
-        (1..256).map(|v| (random.below(v), v)).collect(),
-    ];
+    let shapes = [Shape::Path, Shape::Star, Shape::Caterpillar, Shape::Tree];
+    let shapes = shapes.map(|shape| (shape, ends(random, shape, 256, 0)));
     let mut all = Vec::new();
-    for (number, ends) in shapes.into_iter().enumerate() {
-        let edges = weighed(random, ends, 9);
-        let graph = if number < 3 {
-            Graph::new(256, &shuffled(random, edges))
-        } else {
+    for (shape, ends) in shapes {
+        let edges = weighed(random, ends, Weights::Between(1, 9));
+        let graph = if shape == Shape::Tree {
             mixed(random, 256, edges)
+        } else {
+            Graph::new(256, &shuffled(random, edges))
         };
         let bytes = graph.to_sheet();
         let limits = [(1, 0), (7, 9), (1, 90), (32, 90), (1, graph.total()), (1, 2_000_000)];
@@ -154,5 +143,20 @@ fn dense(random: &mut Random) -> Vec<Record> {
     all.extend(both(&equal, 32, 12));
     all.extend(both(&varied, 7, 300_000));
     all.extend(both(&varied, 32, 1_500_000));
+    all
+}
+
+/// A path as heavy as can be, a grid with many shortest paths, and one graph apart from another, of 256 vertices each.
+fn distant(random: &mut Random) -> Vec<Record> {
+    let rows = [
+        (Shape::Path, Weights::Between(1_000_000, 1_000_000), 2, 255_000_000),
+        (Shape::Grid, Weights::Between(2, 3), 5, 12),
+        (Shape::Apart, Weights::Either(1, 1_000_000), 3, 1_000_000),
+    ];
+    let mut all = Vec::new();
+    for (shape, weights, k, limit) in rows {
+        let graph = graph(random, shape, 256, k, weights);
+        all.extend(both(&graph.to_sheet(), k, limit));
+    }
     all
 }

@@ -5,33 +5,11 @@ mod common;
 use common::{input, N};
 use reference::graph::sheet;
 use reference::judge_text::{judge, Verdict};
+use reference::made_shapes::{CHAIN, CROWD, HALVES, LOOP};
 use reference::rounds::rounds;
 
 /// Name, question number, k, limit, vertices, edges (end, end, weight) and the text due.
 type Row = (&'static str, usize, usize, u64, usize, &'static [(usize, usize, u64)], &'static str);
-
-/// Two paths from root 0, of which root 1 is near the far end of the second edge only.
-const CHAIN: &[(usize, usize, u64)] = &[(0, 2, 5), (2, 3, 5), (1, 3, 5)];
-
-/// The shortest path from root 1 to the part 0 1 closes a loop with what is left at root 1.
-const LOOP: &[(usize, usize, u64)] =
-    &[(0, 2, 5), (2, 3, 5), (1, 4, 2), (4, 5, 2), (1, 5, 3), (5, 3, 5), (0, 6, 9)];
-
-/// Two halves joined by one edge of weight 8.
-const HALVES: &[(usize, usize, u64)] = &[(5, 1, 7), (3, 1, 6), (5, 4, 8), (4, 2, 6), (4, 0, 5)];
-
-/// Three parts at limit 10, of which only root 0 is near two.
-const CROWD: &[(usize, usize, u64)] = &[
-    (2, 1, 1),
-    (0, 7, 2),
-    (7, 4, 8),
-    (3, 1, 8),
-    (5, 4, 7),
-    (7, 8, 8),
-    (7, 3, 3),
-    (6, 3, 9),
-    (0, 7, 10),
-];
 
 const ROWS: &[Row] = &[
     (

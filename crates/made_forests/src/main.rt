@@ -1,6 +1,8 @@
-// Prints forests, components, parts and leftovers of the graphs on standard input, a record for each: the kind (2 bytes: 1 rooted,
+// Prints forests, components, parts, leftovers and distances of the graphs on standard input, a record for each: the kind (2 bytes: 1 rooted,
 // otherwise unrooted), k (2), the limit B (4), a length (2), and so many bytes of a graph, all lowest byte first.
 // What it must print for its input was printed by an unrelated implementation.
+mod distances;
+mod numbers;
 mod pieces;
 mod text;
 

@@ -20,10 +20,15 @@ pub(crate) fn print_line(word: &[u8], number: u64) {
     io::write_all(1, b"\n");
 }
 
-// Writes a number after a space.
-fn print_number(number: u16) {
+// Writes a weight after a space.
+pub(crate) fn print_weight(weight: u64) {
     io::write_all(1, b" ");
-    io::print_decimal(1, number as u64);
+    io::print_decimal(1, weight);
+}
+
+// Writes the number of a vertex or an edge after a space.
+fn print_number(number: u16) {
+    print_weight(number as u64);
 }
 
 // Writes numbers, each after a space.

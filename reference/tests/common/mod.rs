@@ -1,12 +1,14 @@
 //! What several tables of cases share.
-#![allow(dead_code)]
+#![allow(dead_code, unused_imports)]
 
+pub mod other;
 pub mod replies;
 
 use std::sync::OnceLock;
 
-use reference::bytes::{put_four, put_two};
+use reference::bytes::put_two;
 use reference::graph::{sheet, Graph};
+pub use reference::made_questions::input;
 use reference::question::{Answer, Kind, BUFFER};
 
 /// The edges (end, end, weight) of sheet N, which has four vertices.
@@ -33,16 +35,6 @@ pub fn buffer_of(length: usize) -> Vec<u8> {
 pub fn buffer() -> Vec<u8> {
     static ONCE: OnceLock<Vec<u8>> = OnceLock::new();
     ONCE.get_or_init(|| buffer_of(BUFFER)).clone()
-}
-
-/// The input of the program `rounds`.
-pub fn input(question: usize, k: usize, limit: u64, sheet: &[u8]) -> Vec<u8> {
-    let mut out = Vec::new();
-    put_two(&mut out, question);
-    put_two(&mut out, k);
-    put_four(&mut out, limit);
-    out.extend_from_slice(sheet);
-    out
 }
 
 /// The question number of a trial of a kind, or of a best limit.

@@ -1,45 +1,69 @@
--- `made_forests::pieces::order_light` meets its contract: the edges stand by weight, and there are no more within the limit than there are.
+-- `made_forests::pieces::order_light` meets its contract: all edges stand in the array by weight, those within the limit first.
 -- Assumes nothing.
-use Prim.Native.Nat.{_≤_}
-use mathlib.Core.Path.{sym}
+use Prim.Native.Nat.{ℕ, _≤_}
+use mathlib.Core.Path.{_≡_, sym, _∙_}
+use mathlib.Core.List.{List}
 use native.Mathlib.Omega.{arith}
-use lib.ListN.{length}
-use lib.Seq.{length-take-le}
-use borrow.Author.Needs.{needs}
+use lib.ListN.{length, take}
+use lib.Seq.{length-take-le, take-take}
+use Rattle.lists.specs.Member.{_∈_}
+use Rattle.lists.proofs.Member.{of-filter}
+use Rattle.lists.proofs.Put.{put-taken, put-fits, put-length}
+use Rattle.graph.specs.Graph.{Graph, weightOf}
 use Rattle.graph.specs.Bytes.{graphOf}
-use Rattle.forest.proofs.Writing.{wrote-front}
-use Rattle.forest_laws.proofs.Ordering.{ordered-by-weight}
+use Rattle.rules.specs.Order.{ordered}
+use Rattle.forest_laws.proofs.Ordering.{ordered-by-weight, of-ordered}
+use lib.Dec.{leb}
+use borrow.Author.Needs.{needs}
 use Rattle.made_forests.proofs.pieces.order_light.Statement.{statement}
 use Rattle.made_forests.proofs.pieces.order_light.Tie as tie
+
+-- Once the edges are ordered: they are what stands at the front of the array.
+module _ (c : tie.After-order-edges) where
+  abbrev g : Graph
+  g = graphOf (c .before .before .before .before .args .b .now)
+
+  abbrev array : List ℕ
+  array = c .order-edges .last .1 .0
+
+  front : take (c .order-edges .result) array ≡ ordered g
+  front = put-taken (c .order-edges .ensures .put)
+
+  fits : c .order-edges .result ≤ length array
+  fits = let p = c .order-edges .ensures .put in omega (arith, put-fits p, put-length (p .put))
 
 order-edges-requires : tie.Need-order-edges-requires
 order-edges-requires c κs = search needs
 
 slice-reshare-prefix-light-count : tie.Need-slice-reshare-prefix-light-count
-slice-reshare-prefix-light-count c = search needs
+slice-reshare-prefix-light-count c = fits (c .before .before)
 
 slice-aggregate-light-count : tie.Need-slice-aggregate-light-count
-slice-aggregate-light-count c = sym (length-take-le _ _ (omega arith))
+slice-aggregate-light-count c = sym (length-take-le _ _ (fits (c .before .before .before)))
 
 light-count-requires : tie.Need-light-count-requires
-light-count-requires c κs =
-    let k = c .before .before .before .before .before in
-    let s = k .before .before .before .before .before .before in
-    rw (wrote-front (k .order-edges .ensures .edges-are)) (ordered-by-weight (graphOf (s .args .b .now)))
+light-count-requires c κs = rw (front (c .before .before .before)) (ordered-by-weight (g (c .before .before .before)))
 
 same-length : tie.Need-same-length
 same-length c = search needs
 
-same-length-2 : tie.Need-same-length-2
-same-length-2 c = search needs
-
 returns : tie.Need-returns
 returns c =
-    let k = c .before .before .before .before .before .before in
-    let s = k .before .before .before .before .before .before in
-    let o = k .order-edges in
-    let h : o .result ≤ length (o .last .1 .0) = omega arith in
-    omega (arith, c .light-count .ensures .few, length-take-le (o .result) (o .last .1 .0) h, o .ensures .count, s .pre .graph .valid .edges-most)
+    let o = c .before .before .before .before in
+    let m = o .order-edges .result in
+    let r = c .light-count .result in
+    let l = c .light-count .ensures in
+    let few : r ≤ m = omega (arith, l .few, length-take-le m (array o) (fits o)) in
+    record {
+      fits = omega (arith, few, fits o);
+      edges =
+          record {
+            inside =
+                λ e h.
+                of-ordered (g o)
+                (rw (front o) at (of-filter (λ x. leb (weightOf (g o) x) (c .before .before .before .before .before .before .before .before .args .limit)) (take m (array o)) (rw (sym (take-take r m (array o) few) ∙ l .front) at h) .0));
+          };
+    }
 
 pub order-light-spec : {M : Type 1} → statement M
 order-light-spec =
@@ -50,5 +74,4 @@ order-light-spec =
     slice-aggregate-light-count
     light-count-requires
     same-length
-    same-length-2
     returns)

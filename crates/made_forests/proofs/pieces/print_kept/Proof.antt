@@ -1,10 +1,50 @@
--- `made_forests::pieces::print_kept` meets its contract: no more edges are kept than are given. Assumes nothing.
-use mathlib.Core.Path.{sym}
+-- `made_forests::pieces::print_kept` meets its contract: the edges kept are some of those given, and fewer than the vertices.
+-- Assumes nothing.
+use Prim.Native.Nat.{ℕ, _≤_}
+use mathlib.Core.Path.{refl, sym}
+use mathlib.Core.List.{List}
 use native.Mathlib.Omega.{arith}
+use lib.ListN.{length, getD}
 use lib.Seq.{length-take-le}
+use Rattle.lists.specs.Put.{PutTo}
+use Rattle.lists.proofs.Put.{put-taken, put-fits, put-length}
+use Rattle.graph.specs.Graph.{Graph}
+use Rattle.graph.specs.Bytes.{graphOf}
+use Rattle.rules.specs.Labels.{Labels}
+use Rattle.rules.specs.Forest.{keep}
+use Rattle.forest_laws.proofs.Keeping.{kept-subset}
+use Rattle.made_forests.specs.Asked.{Kept}
 use borrow.Author.Needs.{needs}
 use Rattle.made_forests.proofs.pieces.print_kept.Statement.{statement}
 use Rattle.made_forests.proofs.pieces.print_kept.Tie as tie
+
+-- Once the edges are kept.
+module _ (c : tie.After-keep-edges) where
+  abbrev start : tie.Start
+  start = c .before .before .before .before .before .before .before .before .before .before .before .before .before
+
+  abbrev g : Graph
+  g = graphOf (start .args .b .now)
+
+  abbrev labels : Labels
+  labels = λ v. getD (c .before .before .before .before .before .start-labels .last .1 .1 .0) v 0
+
+  put : PutTo 0 (keep g labels (start .args .edges .now)) (start .args .kept .now) (c .keep-edges .last .1 .1 .1 .0) (c .keep-edges .result)
+  put = c .keep-edges .ensures .edges-are labels (λ v h. refl)
+
+  fits : c .keep-edges .result ≤ length (c .keep-edges .last .1 .1 .1 .0)
+  fits = omega (arith, put-fits put, put-length (put .put))
+
+  kept : Kept (start .args .b .now) (c .keep-edges .last .1 .1 .1 .0) (c .keep-edges .result)
+  kept =
+      record {
+        fewer = c .keep-edges .ensures .fewer;
+        first =
+            record {
+              fits = fits;
+              edges = record { inside = λ e h. start .pre .1 .inside e (kept-subset g labels (start .args .edges .now) (rw (put-taken put) at h)) };
+            };
+      }
 
 vertex-count-requires : tie.Need-vertex-count-requires
 vertex-count-requires c κs = search needs
@@ -19,10 +59,10 @@ slice-aggregate-print-list : tie.Need-slice-aggregate-print-list
 slice-aggregate-print-list c = search needs
 
 slice-reshare-prefix-print-list : tie.Need-slice-reshare-prefix-print-list
-slice-reshare-prefix-print-list c = search needs
+slice-reshare-prefix-print-list c = fits (c .before .before .before .before .before)
 
 slice-aggregate-print-list-2 : tie.Need-slice-aggregate-print-list-2
-slice-aggregate-print-list-2 c = sym (length-take-le _ _ (omega arith))
+slice-aggregate-print-list-2 c = sym (length-take-le _ _ (fits (c .before .before .before .before .before .before)))
 
 print-list-requires : tie.Need-print-list-requires
 print-list-requires c κs = search needs
@@ -34,7 +74,7 @@ same-length-2 : tie.Need-same-length-2
 same-length-2 c = search needs
 
 returns : tie.Need-returns
-returns c = search needs
+returns c = kept (c .before .before .before .before .before .before .before)
 
 pub print-kept-spec : {M : Type 1} → statement M
 print-kept-spec =

@@ -10,18 +10,18 @@ use Rattle.made_forests.proofs.pieces.print_trees.Statement.{statement}
 use Rattle.made_forests.proofs.pieces.print_trees.Tie as tie
 
 abbrev Inv-loop : tie.InvT-loop
-Inv-loop word starts bounds edges₀ i₀ edges i = (i ≤ length starts) × (length edges ≡ length edges₀)
+Inv-loop word wanted starts bounds edges₀ lefts i₀ edges i = (i ≤ length starts) × (length edges ≡ length edges₀)
 
 abbrev μ-loop : tie.MeasureT-loop
-μ-loop word starts bounds edges₀ i₀ edges i = length starts - i
+μ-loop word wanted starts bounds edges₀ lefts i₀ edges i = length starts - i
 
 -- Both bounds are read: they rise, and lie within the edges.
 module _ (c : tie.After-wide2 Inv-loop μ-loop) where
   between : (c .before .before .wide .result ≤ c .wide2 .result) × (c .wide2 .result ≤ length (c .before .before .before .before .before .loop .edges))
   between =
-      let s = c .before .before .before .before .before .before .before .before .before .before .pre in
+      let s = c .before .before .before .before .before .before .before .before .before .before .before .pre in
       let i = c .before .before .before .before .before .loop .i in
-      omega (arith, c .before .before .wide .ensures .is, c .wide2 .ensures .is, s .bounded .rising i (omega arith), s .bounded .within (i + 1) (omega arith), s .fits)
+      omega (arith, c .before .before .wide .ensures .is, c .wide2 .ensures .is, s .bounded .rising i (omega arith), s .bounded .within (i + 1) (omega arith), s .fits, c .before .before .before .before .before .loop .inv .1)
 
 loop-holds : tie.Need-loop-holds Inv-loop μ-loop
 loop-holds c = search needs
@@ -47,26 +47,29 @@ shared-slice-read-wide-2 c = search needs
 wide-requires-2 : tie.Need-wide-requires-2 Inv-loop μ-loop
 wide-requires-2 c κs = search needs
 
-mul-print-rising : tie.Need-mul-print-rising Inv-loop μ-loop
-mul-print-rising c = search needs
+is-left-requires : tie.Need-is-left-requires Inv-loop μ-loop
+is-left-requires c κs = search needs
 
-shared-slice-read-print-rising : tie.Need-shared-slice-read-print-rising Inv-loop μ-loop
-shared-slice-read-print-rising c = search needs
+mul-print-piece : tie.Need-mul-print-piece Inv-loop μ-loop
+mul-print-piece c = search needs
 
-mul-print-rising-2 : tie.Need-mul-print-rising-2 Inv-loop μ-loop
-mul-print-rising-2 c = omega (arith, between (c .before))
+shared-slice-read-print-piece : tie.Need-shared-slice-read-print-piece Inv-loop μ-loop
+shared-slice-read-print-piece c = search needs
 
-sub-print-rising : tie.Need-sub-print-rising Inv-loop μ-loop
-sub-print-rising c = omega (arith, between (c .before))
+mul-print-piece-2 : tie.Need-mul-print-piece-2 Inv-loop μ-loop
+mul-print-piece-2 c = omega (arith, between (c .before .before))
 
-part-print-rising-start : tie.Need-part-print-rising-start Inv-loop μ-loop
-part-print-rising-start c = omega (arith, between (c .before))
+sub-print-piece : tie.Need-sub-print-piece Inv-loop μ-loop
+sub-print-piece c = omega (arith, between (c .before .before))
 
-part-print-rising-end : tie.Need-part-print-rising-end Inv-loop μ-loop
-part-print-rising-end c = omega (arith, between (c .before))
+part-print-piece-start : tie.Need-part-print-piece-start Inv-loop μ-loop
+part-print-piece-start c = omega (arith, between (c .before .before))
 
-print-rising-requires : tie.Need-print-rising-requires Inv-loop μ-loop
-print-rising-requires c κs = simp (length-take, length-drop) (omega (arith, between (c .before .before), c .before .before .before .before .before .before .before .loop .inv, c .before .before .before .before .before .before .before .before .before .before .before .before .pre .small))
+part-print-piece-end : tie.Need-part-print-piece-end Inv-loop μ-loop
+part-print-piece-end c = omega (arith, between (c .before .before))
+
+print-piece-requires : tie.Need-print-piece-requires Inv-loop μ-loop
+print-piece-requires c κs = search needs
 
 add-i : tie.Need-add-i Inv-loop μ-loop
 add-i c = search needs
@@ -76,11 +79,11 @@ loop-less c = search needs
 
 loop-again : tie.Need-loop-again Inv-loop μ-loop
 loop-again c =
-    let from = c .before .before .before .before .before .before .before .wide .result in
-    let to = c .before .before .before .before .before .wide2 .result in
-    let at = c .before .before .before .before .before .before .before .before .before .before .loop in
-    let p = c .before .before .print-rising in
-    (omega arith, same-len-mid from (to - from) (at .edges) (p .last .1 .1 .0) (p .kept .1 .1 .0) ∙ at .inv .1)
+    let from = c .before .before .before .before .before .before .before .before .wide .result in
+    let to = c .before .before .before .before .before .before .wide2 .result in
+    let at = c .before .before .before .before .before .before .before .before .before .before .before .loop in
+    let p = c .before .before .print-piece in
+    (omega arith, same-len-mid from (to - from) (at .edges) (p .last .1 .1 .1 .1 .0) (p .kept .1 .1 .1 .1 .0) ∙ at .inv .1)
 
 same-length : tie.Need-same-length Inv-loop μ-loop
 same-length c = search needs
@@ -102,13 +105,14 @@ print-trees-spec =
     mul-wide-2
     shared-slice-read-wide-2
     wide-requires-2
-    mul-print-rising
-    shared-slice-read-print-rising
-    mul-print-rising-2
-    sub-print-rising
-    part-print-rising-start
-    part-print-rising-end
-    print-rising-requires
+    is-left-requires
+    mul-print-piece
+    shared-slice-read-print-piece
+    mul-print-piece-2
+    sub-print-piece
+    part-print-piece-start
+    part-print-piece-end
+    print-piece-requires
     add-i
     loop-less
     loop-again

@@ -1,19 +1,23 @@
--- `made_forests::pieces::print_unrooted` is safe: the roots are the lowest vertices of the components. Assumes nothing.
+-- `made_forests::pieces::print_unrooted` is safe: the roots are the lowest vertices of the components.
+-- Assumes nothing.
 use Prim.Native.Nat.{ℕ, _≤_}
 use mathlib.Core.Path.{sym}
 use native.Mathlib.Omega.{arith}
 use lib.ListN.{length, length-replicate}
 use lib.Seq.{length-take-le}
-use borrow.Author.Needs.{needs}
 use Rattle.graph.specs.Bytes.{graphOf}
 use Rattle.made_forests.proofs.Roots.{components-inside}
+use borrow.Author.Needs.{needs}
 use Rattle.made_forests.proofs.pieces.print_unrooted.Statement.{statement}
 use Rattle.made_forests.proofs.pieces.print_unrooted.Tie as tie
 
 -- There are no more components than vertices, and there is room for them.
 module _ (c : tie.After-lowest-of-each) where
+  abbrev start : tie.Start
+  start = c .before .before .before .before .before .before .before .before .before .before
+
   few-roots : c .lowest-of-each .result ≤ 256
-  few-roots = let s = c .before .before .before .before .before .before .before .before .before .before .pre in omega (arith, c .lowest-of-each .ensures .few, s .vertices-are, s .graph .valid .vertices-most)
+  few-roots = omega (arith, c .lowest-of-each .ensures .few, start .pre .vertices-are, start .pre .graph .valid .vertices-most)
 
   roots-room : c .lowest-of-each .result ≤ length (c .lowest-of-each .last .1 .1 .0)
   roots-room = omega (arith, few-roots, c .lowest-of-each .kept .1 .1 .0, length-replicate {A = ℕ} 256 0)
@@ -31,7 +35,12 @@ slice-aggregate-print-forest-3 : tie.Need-slice-aggregate-print-forest-3
 slice-aggregate-print-forest-3 c = search needs
 
 print-forest-requires : tie.Need-print-forest-requires
-print-forest-requires c κs = search needs
+print-forest-requires c κs =
+    let s = c .before .before .before .before .pre .graph in
+    record {
+      labelable = record { graph = s; room = omega (arith, s .valid .vertices-most, length-replicate {A = ℕ} 256 0) };
+      room = omega (arith, s .valid .vertices-most, length-replicate {A = ℕ} 256 0);
+    }
 
 slice-aggregate-lowest-of-each : tie.Need-slice-aggregate-lowest-of-each
 slice-aggregate-lowest-of-each c = search needs
@@ -54,11 +63,11 @@ slice-aggregate-print-list-2 c = sym (length-take-le _ _ (roots-room (c .before 
 print-list-requires : tie.Need-print-list-requires
 print-list-requires c κs = search needs
 
-array-share-prefix-kept : tie.Need-array-share-prefix-kept
-array-share-prefix-kept c = search needs
+array-borrow-prefix-kept : tie.Need-array-borrow-prefix-kept
+array-borrow-prefix-kept c = search needs
 
 slice-aggregate-print-pieces : tie.Need-slice-aggregate-print-pieces
-slice-aggregate-print-pieces c = sym (length-take-le _ _ (omega arith))
+slice-aggregate-print-pieces c = sym (length-take-le _ _ (c .before .before .before .before .before .before .before .before .before .before .print-forest .ensures .first .fits))
 
 array-share-prefix-roots-3 : tie.Need-array-share-prefix-roots-3
 array-share-prefix-roots-3 c = search needs
@@ -71,12 +80,15 @@ mul-print-pieces c = search needs
 
 print-pieces-requires : tie.Need-print-pieces-requires
 print-pieces-requires c κs =
-    let k = c .before .before .before .before .before .before in
-    let s = c .before .before .before .before .before .before .before .before .before .before .before .before .before .before .before .before in
-    let o = k .lowest-of-each in
+    let o = c .before .before .before .before .before .before .lowest-of-each in
+    let s = start (c .before .before .before .before .before .before) in
+    let k = c .before .before .before .before .before .before .before .before .before .before .before .print-forest in
     record {
       graph = s .pre .graph;
-      few = omega (arith, length-take-le (o .result) (o .last .1 .1 .0) (roots-room k), few-roots k);
+      vertices-are = s .pre .vertices-are;
+      edges-of = k .ensures .first .edges;
+      fewer = omega (arith, length-take-le (k .result) (k .last .1 .1 .1 .1 .0) (k .ensures .first .fits), k .ensures .fewer, s .pre .vertices-are);
+      few = omega (arith, length-take-le (o .result) (o .last .1 .1 .0) (roots-room (c .before .before .before .before .before .before)), few-roots (c .before .before .before .before .before .before));
       inside = components-inside (graphOf (s .args .b .now)) (o .ensures) (sym (s .pre .vertices-are));
     }
 
@@ -99,7 +111,7 @@ print-unrooted-spec =
     array-share-prefix-roots-2
     slice-aggregate-print-list-2
     print-list-requires
-    array-share-prefix-kept
+    array-borrow-prefix-kept
     slice-aggregate-print-pieces
     array-share-prefix-roots-3
     slice-aggregate-print-pieces-2

@@ -1,24 +1,28 @@
--- `made_forests::pieces::print_rooted` is safe: the roots are the vertices below k. Assumes nothing.
+-- `made_forests::pieces::print_trial` is safe: the roots are the vertices below k.
+-- Assumes nothing.
 use Prim.Native.Nat.{ℕ, _≤_}
 use mathlib.Core.Path.{sym}
 use native.Mathlib.Omega.{arith}
 use lib.ListN.{length, length-replicate}
 use lib.Seq.{length-take-le}
+use Rattle.made_forests.proofs.Roots.{numbers-inside}
 use borrow.Author.Needs.{needs}
-use Rattle.made_forests.proofs.Roots.{numbered-inside}
-use Rattle.made_forests.proofs.pieces.print_rooted.Statement.{statement}
-use Rattle.made_forests.proofs.pieces.print_rooted.Tie as tie
+use Rattle.made_forests.proofs.pieces.print_trial.Statement.{statement}
+use Rattle.made_forests.proofs.pieces.print_trial.Tie as tie
 
 -- There is room for the roots.
-module _ (c : tie.After-first-vertices) where
-  roots-room : c .before .before .before .args .k ≤ length (c .first-vertices .last .1 .0)
-  roots-room = omega (arith, c .before .before .before .pre .1, c .first-vertices .kept .1 .0, length-replicate {A = ℕ} 32 0)
+module _ (c : tie.After-first-numbers) where
+  abbrev start : tie.Start
+  start = c .before .before .before
 
-slice-aggregate-first-vertices : tie.Need-slice-aggregate-first-vertices
-slice-aggregate-first-vertices c = search needs
+  roots-room : start .args .k ≤ length (c .first-numbers .last .1 .0)
+  roots-room = omega (arith, start .pre .1, c .first-numbers .kept .1 .0, length-replicate {A = ℕ} 32 0)
 
-first-vertices-requires : tie.Need-first-vertices-requires
-first-vertices-requires c κs = search needs
+slice-aggregate-first-numbers : tie.Need-slice-aggregate-first-numbers
+slice-aggregate-first-numbers c = search needs
+
+first-numbers-requires : tie.Need-first-numbers-requires
+first-numbers-requires c κs = search needs
 
 array-share-prefix-roots : tie.Need-array-share-prefix-roots
 array-share-prefix-roots c = search needs
@@ -33,7 +37,12 @@ slice-aggregate-print-forest-3 : tie.Need-slice-aggregate-print-forest-3
 slice-aggregate-print-forest-3 c = search needs
 
 print-forest-requires : tie.Need-print-forest-requires
-print-forest-requires c κs = search needs
+print-forest-requires c κs =
+    let s = c .before .before .before .before .before .before .before .pre .0 .graph in
+    record {
+      labelable = record { graph = s; room = omega (arith, s .valid .vertices-most, length-replicate {A = ℕ} 256 0) };
+      room = omega (arith, s .valid .vertices-most, length-replicate {A = ℕ} 256 0);
+    }
 
 slice-aggregate-lowest-unjoined : tie.Need-slice-aggregate-lowest-unjoined
 slice-aggregate-lowest-unjoined c = search needs
@@ -53,11 +62,11 @@ print-line-requires c κs = search needs
 enum-told : tie.Need-enum-told
 enum-told c = search needs
 
-array-share-prefix-kept : tie.Need-array-share-prefix-kept
-array-share-prefix-kept c = search needs
+array-borrow-prefix-kept : tie.Need-array-borrow-prefix-kept
+array-borrow-prefix-kept c = search needs
 
 slice-aggregate-print-pieces : tie.Need-slice-aggregate-print-pieces
-slice-aggregate-print-pieces c = sym (length-take-le _ _ (omega arith))
+slice-aggregate-print-pieces c = sym (length-take-le _ _ (c .before .before .before .before .before .before .before .print-forest .ensures .first .fits))
 
 array-share-prefix-roots-2 : tie.Need-array-share-prefix-roots-2
 array-share-prefix-roots-2 c = search needs
@@ -68,12 +77,16 @@ slice-aggregate-print-pieces-2 c = sym (length-take-le _ _ (roots-room (c .befor
 print-pieces-requires : tie.Need-print-pieces-requires
 print-pieces-requires c κs =
     let f = c .before .before .before .before .before .before .before .before .before .before .before .before .before in
-    let s = c .before .before .before .before .before .before .before .before .before .before .before .before .before .before .before .before in
-    let l = length-take-le (s .args .k) (f .first-vertices .last .1 .0) (roots-room f) in
+    let s = start f in
+    let k = c .before .before .before .before .before .before .before .before .print-forest in
+    let l = length-take-le (s .args .k) (f .first-numbers .last .1 .0) (roots-room f) in
     record {
       graph = s .pre .0 .graph;
-      few = omega (arith, s .pre .1);
-      inside = λ j h. omega (arith, numbered-inside (f .first-vertices .ensures) (roots-room f) j h, s .pre .0 .vertices-are, s .pre .1);
+      vertices-are = s .pre .0 .vertices-are;
+      edges-of = k .ensures .first .edges;
+      fewer = omega (arith, length-take-le (k .result) (k .last .1 .1 .1 .1 .0) (k .ensures .first .fits), k .ensures .fewer, s .pre .0 .vertices-are);
+      few = omega (arith, l, s .pre .1);
+      inside = λ j h. omega (arith, numbers-inside (f .first-numbers .ensures) j h, s .pre .1);
     }
 
 returns : tie.Need-returns
@@ -82,12 +95,12 @@ returns c = search needs
 returns-2 : tie.Need-returns-2
 returns-2 c = search needs
 
-pub print-rooted-spec : {M : Type 1} → statement M
-print-rooted-spec =
+pub print-trial-spec : {M : Type 1} → statement M
+print-trial-spec =
     tie.close
     (tie.spec
-    slice-aggregate-first-vertices
-    first-vertices-requires
+    slice-aggregate-first-numbers
+    first-numbers-requires
     array-share-prefix-roots
     slice-aggregate-print-forest
     slice-aggregate-print-forest-2
@@ -99,7 +112,7 @@ print-rooted-spec =
     slice-aggregate-print-line
     print-line-requires
     enum-told
-    array-share-prefix-kept
+    array-borrow-prefix-kept
     slice-aggregate-print-pieces
     array-share-prefix-roots-2
     slice-aggregate-print-pieces-2

@@ -1,0 +1,110 @@
+//! Another planner's replies: allowed ones, with each free choice made the other way round.
+
+use reference::assignment::{assign, roots_near, Assigned};
+use reference::best;
+use reference::cover::{decode, encode, gather, heaviest, Tree};
+use reference::distance::closest;
+use reference::forest::thin;
+use reference::graph::{read, Graph};
+use reference::judge_trials::{own_reply, Full};
+use reference::made_graphs::Record;
+use reference::question::{Answer, Kind};
+use reference::rooted::{plan, Plan};
+use reference::rounds::{question, rounds, text};
+use reference::trial::admit;
+
+/// The reply to a record with the parts and the roots taken from the last on, and with other shortest paths.
+pub fn other_reply(record: &Record) -> Full {
+    let Record { kind, k, limit, sheet } = record;
+    let admitted = admit(*kind, sheet, *k as u64, *limit, usize::MAX);
+    let (Kind::Rooted, Ok((graph, k))) = (kind, admitted) else {
+        return own_reply(record);
+    };
+    match plan(&graph, k, *limit) {
+        Ok(plan) => other_choices(&graph, k, *limit, &plan),
+        Err(_) => own_reply(record),
+    }
+}
+
+/// The reply of a planned trial.
+fn other_choices(graph: &Graph, k: usize, limit: u64, plan: &Plan) -> Full {
+    let p = plan.parts.len();
+    let backward: Vec<u8> = plan.allowed.iter().rev().copied().collect();
+    let mut bytes = vec![0; p];
+    let assigned = assign(p, k, &backward, &mut bytes);
+    bytes.reverse();
+    let (case, values, trees) = if assigned == Assigned::Roots {
+        let part_of =
+            |root: usize| bytes.iter().position(|&byte| k - 1 - usize::from(byte) == root);
+        let tree = |root: usize| other_tree(graph, plan, root, part_of(root));
+        let trees: Vec<Tree> = (0..k).map(tree).collect();
+        (0, vec![limit, heaviest(graph, &trees), k as u64], trees)
+    } else {
+        let marked: Vec<bool> = bytes.iter().map(|&byte| byte == 1).collect();
+        let chosen = (0..p).filter(|&i| marked[i]);
+        let mut parts: Vec<Tree> = chosen.map(|i| plan.parts[i].clone()).collect();
+        parts.sort_by_key(|part| part.edges[0]);
+        let near = roots_near(k, &plan.allowed, &marked);
+        (2, vec![parts.len() as u64, near as u64], parts)
+    };
+    Full { case, values, front: encode(&trees), rest: 1 }
+}
+
+/// The tree of one root, with a path to the highest of the nearest vertices of its part.
+fn other_tree(graph: &Graph, plan: &Plan, root: usize, part: Option<usize>) -> Tree {
+    let mut union = plan.left[root].edges.clone();
+    if let Some(part) = part {
+        let edges = &plan.parts[part].edges;
+        let distance = &plan.distance[root];
+        let ends = graph.ends(edges);
+        let near = closest(distance, &ends).map(|(near, _)| near);
+        let target = ends.iter().rev().find(|&&v| distance[v] == near).expect("a nearest vertex");
+        union.extend(edges);
+        union.extend(other_path(graph, distance, *target));
+    }
+    union.sort_unstable();
+    union.dedup();
+    Tree::new(root, thin(graph, &union))
+}
+
+/// A shortest path, each time by the highest last edge.
+fn other_path(graph: &Graph, distance: &[Option<u64>], target: usize) -> Vec<usize> {
+    let mut path = Vec::new();
+    let mut vertex = target;
+    while distance[vertex] != Some(0) {
+        let last = |&e: &usize| {
+            let edge = graph.edges[e];
+            let before = if edge.a == vertex { edge.b } else { edge.a };
+            let ends_here = edge.a == vertex || edge.b == vertex;
+            ends_here && distance[before].map(|d| d + edge.weight) == distance[vertex]
+        };
+        let e = (0..graph.edges.len()).rev().find(last).expect("a last edge");
+        path.push(e);
+        vertex = graph.edges[e].a + graph.edges[e].b - vertex;
+    }
+    path
+}
+
+/// The text of another program `rounds`, which makes these choices.
+pub fn other_rounds(input: &[u8]) -> String {
+    let own = rounds(input);
+    let Ok(asked) = question(input) else { return own };
+    let Ok(graph) = read(asked.sheet) else { return own };
+    let (kind, k, sheet) = (asked.kind, asked.k as usize, asked.sheet.to_vec());
+    if kind == Kind::Unrooted || own.starts_with("refused") || own.starts_with("no cover") {
+        return own;
+    }
+    let best = || best::search(kind, &graph, k).map(|(limit, _)| limit).expect("a cover exists");
+    let limit = asked.limit.unwrap_or_else(best);
+    let full = other_reply(&Record { kind, k, limit, sheet });
+    match (full.case, &full.values[..]) {
+        (0, &[limit, heaviest, _]) => {
+            let trees = gather(&decode(&full.front).expect("cover bytes"));
+            text(&Answer::Cover { limit, heaviest }, Some((&graph, &trees)))
+        }
+        (2, &[parts, roots]) => {
+            text(&Answer::Parts { parts: parts as usize, roots: roots as usize }, None)
+        }
+        _ => own,
+    }
+}

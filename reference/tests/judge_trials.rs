@@ -1,0 +1,176 @@
+//! Replies in full to the made trials: this package's own and another planner's pass, wrong ones do not.
+
+mod common;
+
+use std::sync::OnceLock;
+
+use common::other::other_reply;
+use common::sheet_n;
+use reference::judge_trials::{decode, encode, judge_all, judge_reply, own_reply, Full};
+use reference::made_graphs::Record;
+use reference::made_trials::records;
+use reference::question::{Kind, LIMIT};
+
+/// The made trials, made once.
+fn made() -> &'static [Record] {
+    static ONCE: OnceLock<Vec<Record>> = OnceLock::new();
+    ONCE.get_or_init(records)
+}
+
+/// Every fifth of the made trials.
+fn some() -> &'static [Record] {
+    static ONCE: OnceLock<Vec<Record>> = OnceLock::new();
+    ONCE.get_or_init(|| made().iter().step_by(5).cloned().collect())
+}
+
+/// The bytes of a planner's replies to records.
+fn replies(records: &[Record], planner: impl Fn(&Record) -> Full) -> Vec<u8> {
+    records.iter().flat_map(|record| encode(&planner(record))).collect()
+}
+
+/// How many of a planner's replies to some trials are wrong.
+fn wrong(planner: impl Fn(&Record) -> Full) -> usize {
+    judge_all(some(), &replies(some(), planner)).err().map_or(0, |wrong| wrong.len())
+}
+
+#[test]
+fn our_own_replies_pass() {
+    assert_eq!(judge_all(made(), &replies(made(), own_reply)), Ok(made().len()));
+}
+
+#[test]
+fn replies_with_other_choices_pass() {
+    let mut differing = [0; 3];
+    for record in made() {
+        let other = other_reply(record);
+        if other != own_reply(record) {
+            assert_eq!(judge_reply(record, &other), Ok(()), "{other:?} to {record:?}");
+            differing[other.case] += 1;
+        }
+    }
+    assert!(differing[0] > 100 && differing[2] > 40, "{differing:?}");
+}
+
+/// The replies next to a right one: every number moved, added or taken away, and the bytes written cut, grown or touched.
+fn near(full: &Full) -> Vec<Full> {
+    let mut all = Vec::new();
+    let mut with = |change: &dyn Fn(&mut Full)| {
+        let mut copy = full.clone();
+        change(&mut copy);
+        all.push(copy);
+    };
+    with(&|copy| copy.case += 1);
+    with(&|copy| copy.case = (copy.case + 21) % 42);
+    with(&|copy| copy.rest = 0);
+    with(&|copy| copy.rest = 2);
+    with(&|copy| copy.values.push(0));
+    with(&|copy| copy.front.push(0xa5));
+    with(&|copy| copy.front.extend([0; 32_708]));
+    for i in 0..full.values.len() {
+        with(&|copy| copy.values[i] += 1);
+        with(&|copy| copy.values[i] = copy.values[i].wrapping_sub(1));
+        with(&|copy| copy.values[i] += 1 << 32);
+        with(&|copy| copy.values.truncate(i));
+    }
+    if !full.front.is_empty() {
+        (0..4).for_each(|i| with(&|copy| copy.front[i] ^= 1));
+        with(&|copy| copy.front.clear());
+        with(&|copy| copy.front.truncate(copy.front.len() - 1));
+        with(&|copy| *copy.front.last_mut().unwrap() ^= 128);
+    }
+    all
+}
+
+#[test]
+fn changed_replies_do_not_pass() {
+    let mut said_no = [0; 5];
+    for record in some() {
+        let full = own_reply(record);
+        assert_eq!(judge_reply(record, &full), Ok(()));
+        for changed in near(&full) {
+            assert!(judge_reply(record, &changed).is_err(), "{changed:?} to {record:?}");
+            said_no[full.case.min(4)] += 1;
+        }
+    }
+    assert!(said_no.iter().all(|&count| count > 100), "{said_no:?}");
+}
+
+#[test]
+fn replies_must_be_as_many_as_the_records() {
+    let few = &made()[..150];
+    let bytes = replies(few, own_reply);
+    assert_eq!(judge_all(few, &bytes), Ok(150));
+    for end in (bytes.len() - 40..bytes.len()).chain([0, 1, bytes.len() / 2]) {
+        assert!(judge_all(few, &bytes[..end]).is_err(), "{end} bytes");
+    }
+    assert!(judge_all(few, &[&bytes[..], &[0]].concat()).is_err());
+    assert!(judge_all(few, &[&bytes[..], &encode(&own_reply(&few[0]))].concat()).is_err());
+    assert!(judge_all(&few[1..], &bytes).is_err());
+}
+
+#[test]
+fn a_wrong_reply_is_named_by_its_number() {
+    let mut all: Vec<Full> = some().iter().map(own_reply).collect();
+    all[100].rest = 0;
+    all[400].case += 1;
+    let bytes: Vec<u8> = all.iter().flat_map(encode).collect();
+    let wrong = judge_all(some(), &bytes).expect_err("two wrong replies");
+    assert_eq!(wrong.len(), 2, "{wrong:?}");
+    assert!(wrong[0].starts_with("reply 100 (") && wrong[1].starts_with("reply 400 ("));
+}
+
+/// A reply without bytes written.
+fn bare(case: usize, values: &[u64]) -> Full {
+    Full { case, values: values.to_vec(), front: vec![], rest: 1 }
+}
+
+/// A record with the limit moved.
+fn moved(record: &Record, more: u64) -> Record {
+    Record { limit: (record.limit + more).min(LIMIT), ..record.clone() }
+}
+
+#[test]
+fn planners_that_cheat_do_not_pass() {
+    let unwritten = |record: &Record| Full { front: vec![], ..own_reply(record) };
+    let of_other_limit = |record: &Record| {
+        let mut full = own_reply(&moved(record, 1));
+        if full.case == 0 {
+            full.values[0] = record.limit;
+        }
+        full
+    };
+    let of_other_kind = |record: &Record| {
+        let kind = if record.kind == Kind::Rooted { Kind::Unrooted } else { Kind::Rooted };
+        own_reply(&Record { kind, ..record.clone() })
+    };
+    let rows: [(&str, usize); 7] = [
+        ("always refused", wrong(|_| bare(21, &[]))),
+        ("always too low, stop", wrong(|_| bare(1, &[2]))),
+        ("always too low, needs", wrong(|record| bare(3, &[record.k as u64 + 1]))),
+        ("always no cover", wrong(|_| bare(4, &[]))),
+        ("nothing written", wrong(unwritten)),
+        ("the reply to a limit one higher", wrong(of_other_limit)),
+        ("the reply of the other kind", wrong(of_other_kind)),
+    ];
+    for (name, count) in rows {
+        assert!(count > 100, "{name}: {count} wrong of {}", some().len());
+    }
+}
+
+#[test]
+fn a_reply_is_read_as_it_was_written() {
+    let full = Full { case: 2, values: vec![1 << 40, 7], front: vec![9, 8, 7], rest: 1 };
+    let bytes = encode(&full);
+    let due = [
+        &[2, 0, 2, 0][..],
+        &[0, 0, 0, 0, 0, 1, 0, 0, 7, 0, 0, 0, 0, 0, 0, 0],
+        &[3, 0, 0, 0, 9, 8, 7, 1],
+    ];
+    assert_eq!(bytes, due.concat());
+    assert_eq!(decode(&[&bytes[..], &[5]].concat()), Some((full, &[5][..])));
+    (0..bytes.len()).for_each(|end| assert_eq!(decode(&bytes[..end]), None));
+    let record = Record { kind: Kind::Rooted, k: 2, limit: 4, sheet: sheet_n() };
+    let cover = [2, 0, 2, 0, 0, 0, 1, 0, 0, 0, 0, 0, 0, 0, 1, 0].to_vec();
+    let due = Full { case: 0, values: vec![4, 6, 2], front: cover, rest: 1 };
+    assert_eq!(own_reply(&record), due);
+}
