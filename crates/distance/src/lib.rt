@@ -4,14 +4,13 @@
 mod last;
 mod list;
 mod relax;
-mod wide;
 
 use crate::last::last_edge;
 use crate::last::vertex_before;
 use crate::list::nearest;
 use crate::list::start;
 use crate::relax::relax_arcs;
-use crate::wide::wide;
+use forest::index::wide;
 ghost use lib.ListN.{length};
 ghost use Rattle.lists.specs.Put.{PutTo};
 ghost use Rattle.distance.specs.Trail.{trailOf, CanGoBack};

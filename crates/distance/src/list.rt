@@ -1,6 +1,6 @@
 // The list of the vertices reached: first those that are settled, then those that wait.
 use crate::UNREACHED;
-use crate::wide::wide;
+use forest::index::wide;
 ghost use Rattle.distance.specs.Reached.{Startable, Started, Seekable, Nearest};
 
 // At the start the root alone is reached, and waits.

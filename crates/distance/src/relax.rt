@@ -1,9 +1,16 @@
 // Relaxing the arcs of a vertex.
 use crate::UNREACHED;
 use crate::last::last_of;
-use crate::wide::wide;
-use crate::wide::wide_distance;
+use forest::index::wide;
+ghost use Rattle.graph.specs.Bytes.{Reads};
 ghost use Rattle.distance.specs.Relaxing.{ArcRelaxable, ArcRelaxed, Relaxable, AllRelaxed};
+
+// A distance, to add to.
+fn wide_distance(x: u32) -> u64
+    ensures { λ r. ⌜ Reads x 4294967296 r ⌝ }
+{
+    x as u64
+}
 
 // Relaxes one arc of u, which has distance d: where the arc's head is nearer this way, it takes that distance, and the arc's edge as its last.
 // Says whether the head was not reached before.
