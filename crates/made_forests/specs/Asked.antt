@@ -24,6 +24,12 @@ pub record Orderable (b order : List ℕ) : Type 0 where
   pub graph : IsGraph b
   pub room : 2048 ≤ length order
 
+-- The bytes of a graph, with room for a label and an edge of each vertex.
+pub record Forestable (b label kept : List ℕ) : Type 0 where
+  pub graph : IsGraph b
+  pub label-room : 256 ≤ length label
+  pub kept-room : 256 ≤ length kept
+
 -- The list has edges of the graph alone.
 pub record EdgesOf (b edges : List ℕ) : Type 0 where
   pub inside : (e : ℕ) → e ∈ edges → e < edgeCount (graphOf b)
@@ -39,7 +45,7 @@ pub record Kept (b array : List ℕ) (r : ℕ) : Type 0 where
   pub first : FirstEdges b array r
 
 -- The bytes of a graph of n vertices, fewer edges of it than that, and roots that are vertices of it.
-pub record Rooted (b : List ℕ) (n : ℕ) (edges roots : List ℕ) : Type 0 where
+pub record RootedForest (b : List ℕ) (n : ℕ) (edges roots : List ℕ) : Type 0 where
   pub graph : IsGraph b
   pub vertices-are : n ≡ graphOf b .vertices
   pub edges-of : EdgesOf b edges
@@ -48,7 +54,7 @@ pub record Rooted (b : List ℕ) (n : ℕ) (edges roots : List ℕ) : Type 0 whe
   pub inside : (j : ℕ) → j < length roots → getD roots j 0 < n
 
 -- The arcs of n vertices, and roots among these.
-pub record Arcked (n : ℕ) (bounds arcs roots : List ℕ) : Type 0 where
+pub record RootedArcs (n : ℕ) (bounds arcs roots : List ℕ) : Type 0 where
   pub around : Arcs n bounds arcs
   pub few : length roots ≤ 256
   pub inside : (j : ℕ) → j < length roots → getD roots j 0 < n
@@ -72,7 +78,7 @@ pub record AroundAll (b : List ℕ) (n : ℕ) (bounds arcs : List ℕ) : Type 0 
   pub around : Around (graphOf b) (below (edgeCount (graphOf b))) bounds arcs
 
 -- The arrays hold the distance of each of the n vertices of a graph from the root, and the last edges of shortest paths.
-pub record Walked (b : List ℕ) (n root : ℕ) (dist last : List ℕ) : Type 0 where
+pub record Measured (b : List ℕ) (n root : ℕ) (dist last : List ℕ) : Type 0 where
   pub vertices-are : n ≡ graphOf b .vertices
   pub few : n ≤ 256
   pub shortest : Shortest (graphOf b) root dist last

@@ -8,7 +8,7 @@ use forest::around::put_around;
 use forest::index::weight_of;
 ghost use Prim.Native.Nat.{_≤_, _<_};
 ghost use lib.ListN.{length};
-ghost use Rattle.made_forests.specs.Asked.{AroundAll, Walked, Measurable};
+ghost use Rattle.made_forests.specs.Asked.{AroundAll, Measured, Measurable};
 
 // Prints a distance, or that there is none.
 fn print_distance(d: u32) {
@@ -43,7 +43,7 @@ fn total_weight(b: &[u8], edges: &[u16]) -> u64
 
 // Prints the weight of the path from the root to a vertex, or that there is none.
 fn print_path(b: &[u8], n: usize, root: usize, v: usize, dist: &[u32], last: &[u32])
-    requires { ⌜ Walked (now b) n root (now dist) (now last) × (v < n) ⌝ }
+    requires { ⌜ Measured (now b) n root (now dist) (now last) × (v < n) ⌝ }
 {
     if dist[v] == UNREACHED {
         io::write_all(1, b" -");
@@ -56,7 +56,7 @@ fn print_path(b: &[u8], n: usize, root: usize, v: usize, dist: &[u32], last: &[u
 
 // Prints the weight of the path to each vertex.
 fn print_paths(b: &[u8], n: usize, root: usize, dist: &[u32], last: &[u32])
-    requires { ⌜ Walked (now b) n root (now dist) (now last) ⌝ }
+    requires { ⌜ Measured (now b) n root (now dist) (now last) ⌝ }
 {
     let mut v = 0;
     while v < n {

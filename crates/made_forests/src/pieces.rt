@@ -15,9 +15,8 @@ use forest::lowest::lowest_unjoined;
 use forest::order::order_edges;
 use forest::order::rise_edges;
 ghost use Prim.Native.Nat.{_≤_};
-ghost use lib.ListN.{length};
 ghost use Rattle.forest.specs.Keeping.{Keepable};
-ghost use Rattle.made_forests.specs.Asked.{Asked, Orderable, EdgesOf, FirstEdges, Kept, Rooted, Arcked, Cut};
+ghost use Rattle.made_forests.specs.Asked.{Asked, Orderable, Forestable, EdgesOf, FirstEdges, Kept, RootedForest, RootedArcs, Cut};
 
 // Writes the edges within the limit, by weight, then number, to the front of the array. Says how many.
 fn order_light(b: &[u8], limit: u64, order: &mut [u16]) -> usize
@@ -41,7 +40,7 @@ fn print_kept(b: &[u8], roots: &[u16], edges: &[u16], label: &mut [u16], kept: &
 
 // Prints the forest at a limit, and leaves its edges at the front of the array. Says how many.
 fn print_forest(b: &[u8], roots: &[u16], limit: u64, label: &mut [u16], kept: &mut [u16]) -> usize
-    requires { ⌜ Keepable (now b) (now label) (now kept) ⌝ }
+    requires { ⌜ Forestable (now b) (now label) (now kept) ⌝ }
     ensures { λ r. ⌜ Kept (now (b .entry)) (now (kept .exit)) r ⌝ }
 {
     let mut order = [0u16; 2048];
@@ -98,7 +97,7 @@ fn print_trees(
 
 // Splits the trees of a forest at the roots with threshold h, and prints the parts and what is left.
 fn print_split(n: usize, bounds: &[u16], arcs: &[u64], roots: &[u16], h: u64)
-    requires { ⌜ Arcked n (now bounds) (now arcs) (now roots) ⌝ }
+    requires { ⌜ RootedArcs n (now bounds) (now arcs) (now roots) ⌝ }
 {
     let mut starts = [0u16; 512];
     let mut cuts = [0u16; 513];
@@ -122,7 +121,7 @@ fn print_split(n: usize, bounds: &[u16], arcs: &[u64], roots: &[u16], h: u64)
 
 // Puts the edges of a forest around its vertices, by rising number, and has it split.
 fn print_pieces(b: &[u8], n: usize, edges: &mut [u16], roots: &[u16], h: u64)
-    requires { ⌜ Rooted (now b) n (now edges) (now roots) ⌝ }
+    requires { ⌜ RootedForest (now b) n (now edges) (now roots) ⌝ }
 {
     let mut bounds = [0u16; 257];
     let mut arcs = [0u64; 512];

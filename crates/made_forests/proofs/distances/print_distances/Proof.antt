@@ -31,6 +31,10 @@ module _ (c : tie.After-first-numbers) where
   numbers : take (c .before .before .edge-count .result) (c .first-numbers .last .1 .0) ≡ below (edgeCount (graphOf (start .args .b .now)))
   numbers = put-taken (c .first-numbers .ensures) ∙ ap below count-is
 
+-- Back to the numbers.
+abbrev at-numbers : tie.After-arcs → tie.After-first-numbers
+at-numbers c = c .before .before .before .before
+
 edge-count-requires : tie.Need-edge-count-requires
 edge-count-requires c κs = search needs
 
@@ -38,7 +42,10 @@ slice-aggregate-first-numbers : tie.Need-slice-aggregate-first-numbers
 slice-aggregate-first-numbers c = search needs
 
 first-numbers-requires : tie.Need-first-numbers-requires
-first-numbers-requires c κs = let few = c .before .before .before .pre .graph .valid .edges-most in (omega (arith, c .before .edge-count .ensures .is, few), omega (arith, c .before .edge-count .ensures .is, few, length-replicate {A = ℕ} 2048 0))
+first-numbers-requires c κs =
+    let few = c .before .before .before .pre .graph .valid .edges-most in
+    let is = c .before .edge-count .ensures .is in
+    (omega (arith, is, few), omega (arith, is, few, length-replicate {A = ℕ} 2048 0))
 
 array-share-prefix-edges : tie.Need-array-share-prefix-edges
 array-share-prefix-edges c = room (c .before)
@@ -54,7 +61,7 @@ slice-aggregate-put-around-3 c = search needs
 
 put-around-requires : tie.Need-put-around-requires
 put-around-requires c κs =
-    let o = c .before .before .before .before in
+    let o = at-numbers c in
     let s = start o .pre .graph in
     let l = length-take-le _ (o .first-numbers .last .1 .0) (room o) in
     record {
@@ -73,9 +80,10 @@ slice-aggregate-print-each-2 c = search needs
 
 print-each-requires : tie.Need-print-each-requires
 print-each-requires c κs =
-    let o = c .before .before .before .before .before .before .before .before .before in
+    let p = c .before .before .before .before in
+    let o = at-numbers (p .before) in
     let s = start o .pre in
-    (record { vertices-are = s .vertices-are; around = rw (numbers o) at (c .before .before .before .before .put-around .ensures .around) }, s .few)
+    (record { vertices-are = s .vertices-are; around = rw (numbers o) at (p .put-around .ensures .around) }, s .few)
 
 returns : tie.Need-returns
 returns c = search needs

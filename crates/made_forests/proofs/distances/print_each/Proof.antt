@@ -12,7 +12,7 @@ Inv-loop b k n bounds arcs root₀ root = root ≤ k
 abbrev μ-loop : tie.MeasureT-loop
 μ-loop b k n bounds arcs root₀ root = k - root
 
--- The graph is the whole one's at each root.
+-- Back to the start.
 module _ (c : tie.In-loop Inv-loop μ-loop) where
   abbrev start : tie.Start Inv-loop μ-loop
   start = c .before .before .before .before .before

@@ -10,10 +10,14 @@ use borrow.Author.Needs.{needs}
 use Rattle.made_forests.proofs.distances.print_from.Statement.{statement}
 use Rattle.made_forests.proofs.distances.print_from.Tie as tie
 
+-- Back to the start.
+abbrev begin : tie.After-last → tie.Start
+begin c = c .before .before .before .before .before
+
 -- Once the distances are found: each vertex has one in the array.
 module _ (c : tie.After-distances-from) where
   abbrev start : tie.Start
-  start = c .before .before .before .before .before .before
+  start = begin (c .before)
 
   few : start .args .n ≤ 256
   few = omega (arith, start .pre .0 .vertices-are, start .pre .0 .around .sound .few)
@@ -24,6 +28,13 @@ module _ (c : tie.After-distances-from) where
   last-room : start .args .n ≤ length (c .distances-from .last .1 .1 .1 .1 .1 .0)
   last-room = omega (arith, few, c .distances-from .kept .1 .1 .1 .1 .1 .0, length-replicate {A = ℕ} 256 0)
 
+-- Back to the search, from where a word is written, and to there, from where the paths are printed.
+abbrev at-search : tie.After-write-all → tie.After-distances-from
+at-search c = c .before .before .before .before
+
+abbrev at-word : tie.After-last3 → tie.After-write-all
+at-word c = c .before .before .before .before .before .before
+
 slice-aggregate-distances-from : tie.Need-slice-aggregate-distances-from
 slice-aggregate-distances-from c = search needs
 
@@ -32,7 +43,7 @@ slice-aggregate-distances-from-2 c = search needs
 
 distances-from-requires : tie.Need-distances-from-requires
 distances-from-requires c κs =
-    let s = c .before .before .before .before .before in
+    let s = begin c in
     let q : s .args .n ≡ graphOf (s .args .b .now) .vertices = s .pre .0 .vertices-are in
     let sound = s .pre .0 .around .sound in
     record {
@@ -49,10 +60,10 @@ write-all-requires : tie.Need-write-all-requires
 write-all-requires c κs = search needs
 
 array-share-prefix-dist : tie.Need-array-share-prefix-dist
-array-share-prefix-dist c = room (c .before .before .before .before)
+array-share-prefix-dist c = room (at-search c)
 
 slice-aggregate-print-reached : tie.Need-slice-aggregate-print-reached
-slice-aggregate-print-reached c = sym (length-take-le _ _ (room (c .before .before .before .before .before)))
+slice-aggregate-print-reached c = sym (length-take-le _ _ (room (at-search (c .before))))
 
 print-reached-requires : tie.Need-print-reached-requires
 print-reached-requires c κs = search needs
@@ -71,7 +82,7 @@ slice-aggregate-print-paths-2 c = search needs
 
 print-paths-requires : tie.Need-print-paths-requires
 print-paths-requires c κs =
-    let o = c .before .before .before .before .before .before .before .before .before .before in
+    let o = at-search (at-word c) in
     let s = start o .pre .0 in
     record {
       vertices-are = s .vertices-are;

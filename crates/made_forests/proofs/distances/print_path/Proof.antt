@@ -3,13 +3,12 @@
 use Prim.Native.Nat.{ℕ, _≤_, _<_}
 use mathlib.Core.Path.{_≡_, sym}
 use native.Mathlib.Omega.{arith}
-use lib.ListN.{length, getD, length-replicate}
+use lib.ListN.{length, length-replicate}
 use lib.Seq.{length-take-le}
 use Rattle.lists.proofs.Put.{put-fits, put-length}
 use Rattle.graph.specs.Bytes.{graphOf}
 use Rattle.rules.specs.Distance.{Distance}
 use Rattle.distance.specs.Shortest.{unreached, SaysDistance, nowhere, there}
-use Rattle.distance.specs.Trail.{CanGoBack}
 use Rattle.distance.proofs.NearestPath.{can-go-back}
 use borrow.Author.Needs.{needs}
 use Rattle.made_forests.proofs.distances.print_path.Statement.{statement}
@@ -19,6 +18,10 @@ use Rattle.made_forests.proofs.distances.print_path.Tie as tie
 reached : {x : ℕ} {d : Distance} → SaysDistance x d → (x ≡ unreached → ⊥) → x < unreached
 reached (nowhere p q) h = absurd (h p)
 reached (there p q) h = p
+
+-- Back to the start.
+abbrev start : tie.After-path → tie.Start
+start c = c .before .before .before .before .before .before
 
 -- The path is written: it has no more edges than there is room for.
 module _ (c : tie.After-path-back) where
@@ -48,7 +51,7 @@ slice-aggregate-path-back c = search needs
 
 path-back-requires : tie.Need-path-back-requires
 path-back-requires c κs =
-    let s = c .before .before .before .before .before .before in
+    let s = start c in
     let w = s .pre .0 in
     let inside : s .args .v < graphOf (s .args .b .now) .vertices = omega (arith, w .vertices-are, s .pre .1) in
     can-go-back (w .shortest) inside (reached (w .shortest .distance (s .args .v) inside) (c .before .if1 .left)) (omega (arith, w .vertices-are, w .last-room))

@@ -1,7 +1,6 @@
 -- `made_forests::distances::print_paths` is safe and ends. The measure is how many vertices are left.
 -- Assumes nothing.
 use Prim.Native.Nat.{_-_, _≤_}
-use native.Mathlib.Omega.{arith}
 use borrow.Author.Needs.{needs}
 use Rattle.made_forests.proofs.distances.print_paths.Statement.{statement}
 use Rattle.made_forests.proofs.distances.print_paths.Tie as tie

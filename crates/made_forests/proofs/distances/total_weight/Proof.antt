@@ -1,7 +1,6 @@
 -- `made_forests::distances::total_weight` is safe and ends: so few weights of four bytes add up to less than eight bytes hold.
 -- Assumes nothing.
-use Prim.Native.Nat.{_+_, _*_, _-_, _≤_}
-use native.Mathlib.Omega.{arith}
+use Prim.Native.Nat.{_*_, _-_, _≤_}
 use lib.ListN.{length}
 use borrow.Author.Needs.{needs}
 use Rattle.made_forests.proofs.distances.total_weight.Statement.{statement}

@@ -6,7 +6,6 @@ use mathlib.Core.List.{List}
 use native.Mathlib.Omega.{arith}
 use lib.ListN.{length, take}
 use lib.Seq.{length-take-le, take-take}
-use Rattle.lists.specs.Member.{_∈_}
 use Rattle.lists.proofs.Member.{of-filter}
 use Rattle.lists.proofs.Put.{put-taken, put-fits, put-length}
 use Rattle.graph.specs.Graph.{Graph, weightOf}
@@ -60,8 +59,8 @@ returns c =
           record {
             inside =
                 λ e h.
-                of-ordered (g o)
-                (rw (front o) at (of-filter (λ x. leb (weightOf (g o) x) (c .before .before .before .before .before .before .before .before .args .limit)) (take m (array o)) (rw (sym (take-take r m (array o) few) ∙ l .front) at h) .0));
+                let k = rw (sym (take-take r m (array o) few) ∙ l .front) at h in
+                of-ordered (g o) (rw (front o) at (of-filter (λ x. leb (weightOf (g o) x) (o .before .before .before .before .args .limit)) (take m (array o)) k .0));
           };
     }
 

@@ -2,11 +2,17 @@
 -- Assumes nothing.
 use mathlib.Core.Path.{sym}
 use native.Mathlib.Omega.{arith}
-use lib.ListN.{length, length-replicate}
 use lib.Seq.{length-take-le}
 use borrow.Author.Needs.{needs}
 use Rattle.made_forests.proofs.pieces.print_forest.Statement.{statement}
 use Rattle.made_forests.proofs.pieces.print_forest.Tie as tie
+
+-- Back to the ordering, and from there to the start.
+abbrev ordered : tie.After-print-kept-arg2 → tie.After-order-light
+ordered c = c .before .before .before .before
+
+abbrev start : tie.After-order-light → tie.Start
+start c = c .before .before .before .before .before .before
 
 slice-aggregate-order-light : tie.Need-slice-aggregate-order-light
 slice-aggregate-order-light c = search needs
@@ -18,10 +24,16 @@ array-share-prefix-order : tie.Need-array-share-prefix-order
 array-share-prefix-order c = search needs
 
 slice-aggregate-print-kept : tie.Need-slice-aggregate-print-kept
-slice-aggregate-print-kept c = let o = c .before .before .order-light in sym (length-take-le _ _ (o .ensures .fits))
+slice-aggregate-print-kept c = sym (length-take-le _ _ (c .before .before .order-light .ensures .fits))
 
 print-kept-requires : tie.Need-print-kept-requires
-print-kept-requires c κs = (c .before .before .before .before .before .before .before .before .before .before .pre, c .before .before .before .before .order-light .ensures .edges)
+print-kept-requires c κs =
+    let o = ordered c in
+    let s = start o .pre in
+    let most = s .graph .valid .vertices-most in (
+      record { labelable = record { graph = s .graph; room = omega (arith, most, s .label-room) }; room = omega (arith, most, s .kept-room) },
+      o .order-light .ensures .edges,
+    )
 
 same-length : tie.Need-same-length
 same-length c = search needs

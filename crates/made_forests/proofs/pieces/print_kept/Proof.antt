@@ -1,8 +1,7 @@
 -- `made_forests::pieces::print_kept` meets its contract: the edges kept are some of those given, and fewer than the vertices.
 -- Assumes nothing.
-use Prim.Native.Nat.{ℕ, _≤_}
+use Prim.Native.Nat.{_≤_}
 use mathlib.Core.Path.{refl, sym}
-use mathlib.Core.List.{List}
 use native.Mathlib.Omega.{arith}
 use lib.ListN.{length, getD}
 use lib.Seq.{length-take-le}
@@ -26,8 +25,11 @@ module _ (c : tie.After-keep-edges) where
   abbrev g : Graph
   g = graphOf (start .args .b .now)
 
+  abbrev started : tie.After-start-labels
+  started = c .before .before .before .before .before
+
   abbrev labels : Labels
-  labels = λ v. getD (c .before .before .before .before .before .start-labels .last .1 .1 .0) v 0
+  labels = λ v. getD (started .start-labels .last .1 .1 .0) v 0
 
   put : PutTo 0 (keep g labels (start .args .edges .now)) (start .args .kept .now) (c .keep-edges .last .1 .1 .1 .0) (c .keep-edges .result)
   put = c .keep-edges .ensures .edges-are labels (λ v h. refl)
@@ -46,6 +48,10 @@ module _ (c : tie.After-keep-edges) where
             };
       }
 
+-- Back to the keeping.
+abbrev at-kept : tie.After-print-list-arg → tie.After-keep-edges
+at-kept c = c .before .before .before .before .before
+
 vertex-count-requires : tie.Need-vertex-count-requires
 vertex-count-requires c κs = search needs
 
@@ -59,10 +65,10 @@ slice-aggregate-print-list : tie.Need-slice-aggregate-print-list
 slice-aggregate-print-list c = search needs
 
 slice-reshare-prefix-print-list : tie.Need-slice-reshare-prefix-print-list
-slice-reshare-prefix-print-list c = fits (c .before .before .before .before .before)
+slice-reshare-prefix-print-list c = fits (at-kept c)
 
 slice-aggregate-print-list-2 : tie.Need-slice-aggregate-print-list-2
-slice-aggregate-print-list-2 c = sym (length-take-le _ _ (fits (c .before .before .before .before .before .before)))
+slice-aggregate-print-list-2 c = sym (length-take-le _ _ (fits (at-kept (c .before))))
 
 print-list-requires : tie.Need-print-list-requires
 print-list-requires c κs = search needs
@@ -74,7 +80,7 @@ same-length-2 : tie.Need-same-length-2
 same-length-2 c = search needs
 
 returns : tie.Need-returns
-returns c = kept (c .before .before .before .before .before .before .before)
+returns c = kept (at-kept (c .before .before))
 
 pub print-kept-spec : {M : Type 1} → statement M
 print-kept-spec =

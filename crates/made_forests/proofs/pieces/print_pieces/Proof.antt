@@ -1,14 +1,21 @@
 -- `made_forests::pieces::print_pieces` is safe: the edges are the graph's, fewer than its vertices, and the arrays have room for their arcs.
 -- Assumes nothing.
-use Prim.Native.Nat.{ℕ, _≤_}
+use Prim.Native.Nat.{ℕ}
 use mathlib.Core.Path.{_≡_}
 use native.Mathlib.Omega.{arith}
-use lib.ListN.{length, length-replicate}
+use lib.ListN.{length-replicate}
 use Rattle.lists.proofs.Sorting.{of-rise}
 use Rattle.graph.specs.Bytes.{graphOf}
 use borrow.Author.Needs.{needs}
 use Rattle.made_forests.proofs.pieces.print_pieces.Statement.{statement}
 use Rattle.made_forests.proofs.pieces.print_pieces.Tie as tie
+
+-- Back to where the edges rise, and from there to the start.
+abbrev risen : tie.After-arcs → tie.After-rise-edges
+risen c = c .before .before .before .before .before
+
+abbrev start : tie.After-rise-edges → tie.Start
+start c = c .before .before .before .before .before
 
 rise-edges-requires : tie.Need-rise-edges-requires
 rise-edges-requires c κs = search needs
@@ -21,8 +28,8 @@ slice-aggregate-put-around-2 c = search needs
 
 put-around-requires : tie.Need-put-around-requires
 put-around-requires c κs =
-    let s = c .before .before .before .before .before .before .before .before .before .before in
-    let o = c .before .before .before .before .before .rise-edges in
+    let s = start (risen c) in
+    let o = risen c .rise-edges in
     let few = s .pre .graph .valid .vertices-most in
     record {
       graph = s .pre .graph;
@@ -40,9 +47,10 @@ slice-aggregate-print-split-2 c = search needs
 
 print-split-requires : tie.Need-print-split-requires
 print-split-requires c κs =
-    let s = c .before .before .before .before .before .before .before .before .before .before .before .before .before .before .before in
+    let a = c .before .before .before .before in
+    let s = start (risen (a .before)) in
     let q : s .args .n ≡ graphOf (s .args .b .now) .vertices = s .pre .vertices-are in
-    record { around = rw q (c .before .before .before .before .put-around .ensures .around .sound); few = s .pre .few; inside = s .pre .inside }
+    record { around = rw q (a .put-around .ensures .around .sound); few = s .pre .few; inside = s .pre .inside }
 
 same-length : tie.Need-same-length
 same-length c = search needs

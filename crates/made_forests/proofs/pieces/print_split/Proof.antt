@@ -1,6 +1,6 @@
 -- `made_forests::pieces::print_split` is safe: there is room for the pieces of 256 vertices and 256 roots, and the bounds cut them.
 -- Assumes nothing.
-use Prim.Native.Nat.{ℕ, _+_, _≤_}
+use Prim.Native.Nat.{ℕ, _≤_}
 use mathlib.Core.Path.{_≡_, sym, _∙_}
 use mathlib.Core.List.{List}
 use native.Mathlib.Omega.{arith}
@@ -11,10 +11,21 @@ use borrow.Author.Needs.{needs}
 use Rattle.made_forests.proofs.pieces.print_split.Statement.{statement}
 use Rattle.made_forests.proofs.pieces.print_split.Tie as tie
 
+-- Back to the start.
+abbrev begin : tie.After-lefts → tie.Start
+begin c = c .before .before .before .before .before .before .before
+
+-- Back to the splitting, from where the parts are printed, and from where the leftovers are.
+abbrev at-parts : tie.After-print-trees-arg → tie.After-split-forest
+at-parts c = c .before .before .before .before .before
+
+abbrev at-lefts : tie.After-print-trees-arg2 → tie.After-split-forest
+at-lefts c = c .before .before .before .before .before .before .before .before .before .before .before .before
+
 -- Once the forest is split.
 module _ (c : tie.After-split-forest) where
   abbrev start : tie.Start
-  start = c .before .before .before .before .before .before .before .before
+  start = begin (c .before)
 
   abbrev pieces : ℕ
   pieces = c .split-forest .result
@@ -63,7 +74,7 @@ slice-aggregate-split-forest-4 c = search needs
 
 split-forest-requires : tie.Need-split-forest-requires
 split-forest-requires c κs =
-    let s = c .before .before .before .before .before .before .before .pre in
+    let s = begin c .pre in
     record {
       around = s .around;
       roots-inside = s .inside;
@@ -78,10 +89,10 @@ slice-aggregate-print-trees : tie.Need-slice-aggregate-print-trees
 slice-aggregate-print-trees c = search needs
 
 array-share-prefix-starts : tie.Need-array-share-prefix-starts
-array-share-prefix-starts c = fits (c .before .before .before .before .before)
+array-share-prefix-starts c = fits (at-parts c)
 
 slice-aggregate-print-trees-2 : tie.Need-slice-aggregate-print-trees-2
-slice-aggregate-print-trees-2 c = sym (length-take-le _ _ (fits (c .before .before .before .before .before .before)))
+slice-aggregate-print-trees-2 c = sym (length-take-le _ _ (fits (at-parts (c .before))))
 
 slice-aggregate-print-trees-3 : tie.Need-slice-aggregate-print-trees-3
 slice-aggregate-print-trees-3 c = search needs
@@ -93,19 +104,19 @@ array-share-prefix-lefts : tie.Need-array-share-prefix-lefts
 array-share-prefix-lefts c = search needs
 
 slice-aggregate-print-trees-5 : tie.Need-slice-aggregate-print-trees-5
-slice-aggregate-print-trees-5 c = sym (length-take-le _ _ (lefts-fit (c .before .before .before .before .before .before .before .before .before)))
+slice-aggregate-print-trees-5 c = sym (length-take-le _ _ (lefts-fit (at-parts (c .before .before .before .before))))
 
 print-trees-requires : tie.Need-print-trees-requires
-print-trees-requires c κs = cut (c .before .before .before .before .before .before .before .before .before) _ (flat-length (c .before .before .before .before .before .before .before .before .before))
+print-trees-requires c κs = let d = at-parts (c .before .before .before .before) in cut d _ (flat-length d)
 
 slice-aggregate-print-trees-6 : tie.Need-slice-aggregate-print-trees-6
 slice-aggregate-print-trees-6 c = search needs
 
 array-share-prefix-starts-2 : tie.Need-array-share-prefix-starts-2
-array-share-prefix-starts-2 c = fits (c .before .before .before .before .before .before .before .before .before .before .before .before)
+array-share-prefix-starts-2 c = fits (at-lefts c)
 
 slice-aggregate-print-trees-7 : tie.Need-slice-aggregate-print-trees-7
-slice-aggregate-print-trees-7 c = sym (length-take-le _ _ (fits (c .before .before .before .before .before .before .before .before .before .before .before .before .before)))
+slice-aggregate-print-trees-7 c = sym (length-take-le _ _ (fits (at-lefts (c .before))))
 
 slice-aggregate-print-trees-8 : tie.Need-slice-aggregate-print-trees-8
 slice-aggregate-print-trees-8 c = search needs
@@ -117,10 +128,13 @@ array-share-prefix-lefts-2 : tie.Need-array-share-prefix-lefts-2
 array-share-prefix-lefts-2 c = search needs
 
 slice-aggregate-print-trees-10 : tie.Need-slice-aggregate-print-trees-10
-slice-aggregate-print-trees-10 c = sym (length-take-le _ _ (lefts-fit (c .before .before .before .before .before .before .before .before .before .before .before .before .before .before .before .before)))
+slice-aggregate-print-trees-10 c = sym (length-take-le _ _ (lefts-fit (at-lefts (c .before .before .before .before))))
 
 print-trees-requires-2 : tie.Need-print-trees-requires-2
-print-trees-requires-2 c κs = cut (c .before .before .before .before .before .before .before .before .before .before .before .before .before .before .before .before) _ (c .before .before .before .before .before .before .print-trees .kept .1 .1 .1 .1 .0 ∙ flat-length (c .before .before .before .before .before .before .before .before .before .before .before .before .before .before .before .before))
+print-trees-requires-2 c κs =
+    let p = c .before .before .before .before in
+    let d = at-lefts p in
+    cut d _ (p .before .before .print-trees .kept .1 .1 .1 .1 .0 ∙ flat-length d)
 
 returns : tie.Need-returns
 returns c = search needs

@@ -1,9 +1,9 @@
 -- `made_forests::pieces::print_trees` is safe and ends: the bounds rise within the edges. The measure is what is left of the starts.
 -- Assumes nothing.
-use Prim.Native.Nat.{_+_, _-_, _≤_}
+use Prim.Native.Nat.{ℕ, _+_, _-_, _≤_}
 use mathlib.Core.Path.{_≡_, _∙_}
 use native.Mathlib.Omega.{arith}
-use lib.ListN.{length, length-take, length-drop}
+use lib.ListN.{length}
 use borrow.Rule.Slice.PartMut.{same-len-mid}
 use borrow.Author.Needs.{needs}
 use Rattle.made_forests.proofs.pieces.print_trees.Statement.{statement}
@@ -17,11 +17,29 @@ abbrev μ-loop : tie.MeasureT-loop
 
 -- Both bounds are read: they rise, and lie within the edges.
 module _ (c : tie.After-wide2 Inv-loop μ-loop) where
-  between : (c .before .before .wide .result ≤ c .wide2 .result) × (c .wide2 .result ≤ length (c .before .before .before .before .before .loop .edges))
+  abbrev turn : tie.At-loop Inv-loop μ-loop
+  turn = c .before .before .before .before .before
+
+  abbrev start : tie.Start Inv-loop μ-loop
+  start = turn .before .before .before .before .before .before
+
+  abbrev from : ℕ
+  from = c .before .before .wide .result
+
+  abbrev to : ℕ
+  to = c .wide2 .result
+
+  between : (from ≤ to) × (to ≤ length (turn .loop .edges))
   between =
-      let s = c .before .before .before .before .before .before .before .before .before .before .before .pre in
-      let i = c .before .before .before .before .before .loop .i in
-      omega (arith, c .before .before .wide .ensures .is, c .wide2 .ensures .is, s .bounded .rising i (omega arith), s .bounded .within (i + 1) (omega arith), s .fits, c .before .before .before .before .before .loop .inv .1)
+      let s = start .pre in
+      let i = turn .loop .i in
+      let rising = s .bounded .rising i (omega arith) in
+      let within = s .bounded .within (i + 1) (omega arith) in
+      omega (arith, c .before .before .wide .ensures .is, c .wide2 .ensures .is, rising, within, s .fits, turn .loop .inv .1)
+
+-- Back to the bounds, from where the piece is printed.
+abbrev bounds-read : tie.After-slice-known2 Inv-loop μ-loop → tie.After-wide2 Inv-loop μ-loop
+bounds-read c = c .before .before .before .before .before .before
 
 loop-holds : tie.Need-loop-holds Inv-loop μ-loop
 loop-holds c = search needs
@@ -79,11 +97,9 @@ loop-less c = search needs
 
 loop-again : tie.Need-loop-again Inv-loop μ-loop
 loop-again c =
-    let from = c .before .before .before .before .before .before .before .before .wide .result in
-    let to = c .before .before .before .before .before .before .wide2 .result in
-    let at = c .before .before .before .before .before .before .before .before .before .before .before .loop in
+    let w = bounds-read c in
     let p = c .before .before .print-piece in
-    (omega arith, same-len-mid from (to - from) (at .edges) (p .last .1 .1 .1 .1 .0) (p .kept .1 .1 .1 .1 .0) ∙ at .inv .1)
+    (omega arith, same-len-mid (from w) (to w - from w) (turn w .loop .edges) (p .last .1 .1 .1 .1 .0) (p .kept .1 .1 .1 .1 .0) ∙ turn w .loop .inv .1)
 
 same-length : tie.Need-same-length Inv-loop μ-loop
 same-length c = search needs

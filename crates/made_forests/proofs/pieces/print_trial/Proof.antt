@@ -18,6 +18,13 @@ module _ (c : tie.After-first-numbers) where
   roots-room : start .args .k ≤ length (c .first-numbers .last .1 .0)
   roots-room = omega (arith, start .pre .1, c .first-numbers .kept .1 .0, length-replicate {A = ℕ} 32 0)
 
+-- Back to the forest, and from there to the roots.
+abbrev at-forest : tie.After-kept3 → tie.After-print-forest
+at-forest c = c .before .before .before .before .before .before .before
+
+abbrev at-roots : tie.After-print-forest → tie.After-first-numbers
+at-roots c = c .before .before .before .before .before
+
 slice-aggregate-first-numbers : tie.Need-slice-aggregate-first-numbers
 slice-aggregate-first-numbers c = search needs
 
@@ -37,12 +44,7 @@ slice-aggregate-print-forest-3 : tie.Need-slice-aggregate-print-forest-3
 slice-aggregate-print-forest-3 c = search needs
 
 print-forest-requires : tie.Need-print-forest-requires
-print-forest-requires c κs =
-    let s = c .before .before .before .before .before .before .before .pre .0 .graph in
-    record {
-      labelable = record { graph = s; room = omega (arith, s .valid .vertices-most, length-replicate {A = ℕ} 256 0) };
-      room = omega (arith, s .valid .vertices-most, length-replicate {A = ℕ} 256 0);
-    }
+print-forest-requires c κs = search needs
 
 slice-aggregate-lowest-unjoined : tie.Need-slice-aggregate-lowest-unjoined
 slice-aggregate-lowest-unjoined c = search needs
@@ -66,19 +68,19 @@ array-borrow-prefix-kept : tie.Need-array-borrow-prefix-kept
 array-borrow-prefix-kept c = search needs
 
 slice-aggregate-print-pieces : tie.Need-slice-aggregate-print-pieces
-slice-aggregate-print-pieces c = sym (length-take-le _ _ (c .before .before .before .before .before .before .before .print-forest .ensures .first .fits))
+slice-aggregate-print-pieces c = sym (length-take-le _ _ (at-forest c .print-forest .ensures .first .fits))
 
 array-share-prefix-roots-2 : tie.Need-array-share-prefix-roots-2
 array-share-prefix-roots-2 c = search needs
 
 slice-aggregate-print-pieces-2 : tie.Need-slice-aggregate-print-pieces-2
-slice-aggregate-print-pieces-2 c = sym (length-take-le _ _ (roots-room (c .before .before .before .before .before .before .before .before .before .before .before .before .before)))
+slice-aggregate-print-pieces-2 c = sym (length-take-le _ _ (roots-room (at-roots (at-forest (c .before)))))
 
 print-pieces-requires : tie.Need-print-pieces-requires
 print-pieces-requires c κs =
-    let f = c .before .before .before .before .before .before .before .before .before .before .before .before .before in
+    let k = at-forest (c .before) .print-forest in
+    let f = at-roots (at-forest (c .before)) in
     let s = start f in
-    let k = c .before .before .before .before .before .before .before .before .print-forest in
     let l = length-take-le (s .args .k) (f .first-numbers .last .1 .0) (roots-room f) in
     record {
       graph = s .pre .0 .graph;

@@ -11,10 +11,20 @@ use borrow.Author.Needs.{needs}
 use Rattle.made_forests.proofs.pieces.print_unrooted.Statement.{statement}
 use Rattle.made_forests.proofs.pieces.print_unrooted.Tie as tie
 
+-- Back to the components, from there to the forest, and from there to the start.
+abbrev at-lowest : tie.After-kept3 → tie.After-lowest-of-each
+at-lowest c = c .before .before .before .before .before
+
+abbrev at-forest : tie.After-lowest-of-each → tie.After-print-forest
+at-forest c = c .before .before .before .before .before
+
+abbrev begin : tie.After-print-forest → tie.Start
+begin c = c .before .before .before .before .before
+
 -- There are no more components than vertices, and there is room for them.
 module _ (c : tie.After-lowest-of-each) where
   abbrev start : tie.Start
-  start = c .before .before .before .before .before .before .before .before .before .before
+  start = begin (at-forest c)
 
   few-roots : c .lowest-of-each .result ≤ 256
   few-roots = omega (arith, c .lowest-of-each .ensures .few, start .pre .vertices-are, start .pre .graph .valid .vertices-most)
@@ -35,12 +45,7 @@ slice-aggregate-print-forest-3 : tie.Need-slice-aggregate-print-forest-3
 slice-aggregate-print-forest-3 c = search needs
 
 print-forest-requires : tie.Need-print-forest-requires
-print-forest-requires c κs =
-    let s = c .before .before .before .before .pre .graph in
-    record {
-      labelable = record { graph = s; room = omega (arith, s .valid .vertices-most, length-replicate {A = ℕ} 256 0) };
-      room = omega (arith, s .valid .vertices-most, length-replicate {A = ℕ} 256 0);
-    }
+print-forest-requires c κs = search needs
 
 slice-aggregate-lowest-of-each : tie.Need-slice-aggregate-lowest-of-each
 slice-aggregate-lowest-of-each c = search needs
@@ -67,28 +72,29 @@ array-borrow-prefix-kept : tie.Need-array-borrow-prefix-kept
 array-borrow-prefix-kept c = search needs
 
 slice-aggregate-print-pieces : tie.Need-slice-aggregate-print-pieces
-slice-aggregate-print-pieces c = sym (length-take-le _ _ (c .before .before .before .before .before .before .before .before .before .before .print-forest .ensures .first .fits))
+slice-aggregate-print-pieces c = sym (length-take-le _ _ (at-forest (at-lowest c) .print-forest .ensures .first .fits))
 
 array-share-prefix-roots-3 : tie.Need-array-share-prefix-roots-3
 array-share-prefix-roots-3 c = search needs
 
 slice-aggregate-print-pieces-2 : tie.Need-slice-aggregate-print-pieces-2
-slice-aggregate-print-pieces-2 c = sym (length-take-le _ _ (roots-room (c .before .before .before .before .before .before)))
+slice-aggregate-print-pieces-2 c = sym (length-take-le _ _ (roots-room (at-lowest (c .before))))
 
 mul-print-pieces : tie.Need-mul-print-pieces
 mul-print-pieces c = search needs
 
 print-pieces-requires : tie.Need-print-pieces-requires
 print-pieces-requires c κs =
-    let o = c .before .before .before .before .before .before .lowest-of-each in
-    let s = start (c .before .before .before .before .before .before) in
-    let k = c .before .before .before .before .before .before .before .before .before .before .before .print-forest in
+    let l = at-lowest (c .before) in
+    let o = l .lowest-of-each in
+    let s = start l in
+    let k = at-forest l .print-forest in
     record {
       graph = s .pre .graph;
       vertices-are = s .pre .vertices-are;
       edges-of = k .ensures .first .edges;
       fewer = omega (arith, length-take-le (k .result) (k .last .1 .1 .1 .1 .0) (k .ensures .first .fits), k .ensures .fewer, s .pre .vertices-are);
-      few = omega (arith, length-take-le (o .result) (o .last .1 .1 .0) (roots-room (c .before .before .before .before .before .before)), few-roots (c .before .before .before .before .before .before));
+      few = omega (arith, length-take-le (o .result) (o .last .1 .1 .0) (roots-room l), few-roots l);
       inside = components-inside (graphOf (s .args .b .now)) (o .ensures) (sym (s .pre .vertices-are));
     }
 

@@ -24,10 +24,17 @@ module _ (s : tie.Start) where
   room : (v : ℕ) → v < g s .vertices → v * roots s + roots s ≤ length (s .args .table .now)
   room v h = row-room v (g s .vertices) (roots s) _ h (s .pre .room)
 
+-- The start, from where the one end is read; and where the row was marked for it, from where the other is read.
+abbrev begun : tie.After-one-end → tie.Start
+begun o = o .before .before .before .before
+
+abbrev one-done : tie.After-other-end → tie.After-mark-vertex
+one-done o = o .before .before .before
+
 -- After the one end was looked at.
 module _ (t : tie.After-mark-vertex) where
   abbrev s₁ : tie.Start
-  s₁ = t .before .before .before .before .before .before
+  s₁ = begun (t .before .before)
 
   marked-one : Marked (nearOne (s₁ .args .table .now) (roots s₁) (s₁ .args .limit) (oneEnd (g s₁) (s₁ .args .e) ∷ [])) (s₁ .args .row .now) (t .mark-vertex .last .1 .1 .1 .0)
   marked-one =
@@ -38,7 +45,7 @@ one-end-requires c κs = search needs
 
 mark-vertex-requires : tie.Need-mark-vertex-requires
 mark-vertex-requires c κs =
-    let s = c .before .before .before .before .before in
+    let s = begun (c .before) in
     rw (c .before .one-end .ensures .is) (room s _ (one-end-below (s .pre .graph .valid) (s .args .e)))
 
 other-end-requires : tie.Need-other-end-requires
@@ -46,7 +53,7 @@ other-end-requires c κs = search needs
 
 mark-vertex-requires-2 : tie.Need-mark-vertex-requires-2
 mark-vertex-requires-2 c κs =
-    let t = c .before .before .before .before in
+    let t = one-done (c .before) in
     let s = s₁ t in
     rw (c .before .other-end .ensures .is, marked-one t .size) (room s _ (other-end-below (s .pre .graph .valid) (s .args .e)))
 
@@ -56,7 +63,7 @@ same-length c = search needs
 returns : tie.Need-returns
 returns c =
     let u = c .before .before in
-    let t = u .before .before .before .before .before in
+    let t = one-done (u .before .before) in
     let s = s₁ t in
     marked-on (s .args .table .now) (roots s) (s .args .limit) (oneEnd (g s) (s .args .e) ∷ []) (otherEnd (g s) (s .args .e) ∷ []) (marked-one t)
     (marked-vertex (s .args .table .now) (roots s) (s .args .limit) _

@@ -28,10 +28,14 @@ Inv-loop b table start edges limit row₀ i₀ row i =
 abbrev μ-loop : tie.MeasureT-loop
 μ-loop b table start edges limit row₀ i₀ row i = length edges - i
 
+-- The function's start, from where it first lends the row.
+abbrev begun : tie.After-slice-known Inv-loop μ-loop → tie.Start Inv-loop μ-loop
+begun c = c .before .before .before .before
+
 -- The row after the start was looked at, which is the row where the loop begins.
 module _ (t : tie.After-mark-vertex Inv-loop μ-loop) where
   abbrev s₀ : tie.Start Inv-loop μ-loop
-  s₀ = t .before .before .before .before .before .before
+  s₀ = begun (t .before .before)
 
   abbrev k : ℕ
   k = length (s₀ .args .row .now)
@@ -49,7 +53,7 @@ module _ (l : tie.At-loop Inv-loop μ-loop) where
 
 mark-vertex-requires : tie.Need-mark-vertex-requires Inv-loop μ-loop
 mark-vertex-requires c κs =
-    let s = c .before .before .before .before .before in
+    let s = begun (c .before) in
     row-room (s .args .start) (graphOf (s .args .b .now) .vertices) (length (s .args .row .now)) _ (s .pre .start-inside) (s .pre .given .room)
 
 loop-holds : tie.Need-loop-holds Inv-loop μ-loop
@@ -80,7 +84,8 @@ loop-less c = search needs
 loop-again : tie.Need-loop-again Inv-loop μ-loop
 loop-again c =
     let w = c .before .before in
-    let l = w .before .before .before .before .before in
+    let inside = w .before .before .before .before in
+    let l = inside .before in
     let s = s₀ (t₁ l) in
     let row₀ = t₁ l .mark-vertex .last .1 .1 .1 .0 in
     let g = graphOf (s .args .b .now) in
