@@ -22,34 +22,34 @@ use Rattle.rules.specs.CoverBytes.{treesIn, entriesIn, startIn, entryTree, entr
 use Rattle.rules.specs.CheckCover.{verticesCovered}
 use Rattle.forest.specs.Marks.{AllMarked}
 use Rattle.cover_laws.proofs.VertexTest.{passed-covered, covered-passes}
-use Rattle.cover.specs.Vertices.{Marked, Covered, OnlyCovered, StartsMarked, EndsMarked}
+use Rattle.cover.specs.Vertices.{VertexMarked, Covered, OnlyCovered, StartsMarked, EndsMarked}
 
 -- One mark more.
 module _ (marks : List ℕ) (x : ℕ) where
   -- What is marked now was marked before, or is the new one.
-  mark-of : (v : ℕ) → Marked (set marks x 1) v → (v ≡ x) ⊎ Marked marks v
+  mark-of : (v : ℕ) → VertexMarked (set marks x 1) v → (v ≡ x) ⊎ VertexMarked marks v
   mark-of v p = go (equal-or-not v x)
     where
-      go : (v ≡ x) ⊎ (v ≡ x → ⊥) → (v ≡ x) ⊎ Marked marks v
+      go : (v ≡ x) ⊎ (v ≡ x → ⊥) → (v ≡ x) ⊎ VertexMarked marks v
       go (inl q) = inl q
       go (inr d) = inr (sym (getD-set-other marks x v 1 0 d) ∙ p)
 
   module _ (h : x < length marks) where
-    mark-here : Marked (set marks x 1) x
+    mark-here : VertexMarked (set marks x 1) x
     mark-here = getD-set-same marks x 1 0 h
 
     -- What was marked stays so.
-    mark-kept : (v : ℕ) → Marked marks v → Marked (set marks x 1) v
+    mark-kept : (v : ℕ) → VertexMarked marks v → VertexMarked (set marks x 1) v
     mark-kept v p = go (equal-or-not v x)
       where
-        go : (v ≡ x) ⊎ (v ≡ x → ⊥) → Marked (set marks x 1) v
+        go : (v ≡ x) ⊎ (v ≡ x → ⊥) → VertexMarked (set marks x 1) v
         go (inl q) = rw q mark-here
         go (inr d) = getD-set-other marks x v 1 0 d ∙ p
 
   only-more : (g : Graph) (c : List ℕ) → Covered g c x → OnlyCovered g c marks → OnlyCovered g c (set marks x 1)
   only-more g c new only v p = go (mark-of v p)
     where
-      go : (v ≡ x) ⊎ Marked marks v → Covered g c v
+      go : (v ≡ x) ⊎ VertexMarked marks v → Covered g c v
       go (inl q) = rw q new
       go (inr old) = only v old
 
@@ -87,7 +87,7 @@ module _ {c : List ℕ} {j : ℕ} {before after : List ℕ} (s : StartsMarked c 
       let x = startIn c j in
       let inside : x < length after = omega arith in
       record {
-        starts = below-more (λ k. Marked (set after x 1) (startIn c k)) j (λ k m. mark-kept after x inside (startIn c k) (s .starts k m)) (mark-here after x inside);
+        starts = below-more (λ k. VertexMarked (set after x 1) (startIn c k)) j (λ k m. mark-kept after x inside (startIn c k) (s .starts k m)) (mark-here after x inside);
         only = λ g only. only-more after x g c (start-covered g c j h) (s .only g only);
       }
 
@@ -107,10 +107,10 @@ module _ {g : Graph} {c : List ℕ} {i : ℕ} {before after : List ℕ} (s : End
       let once = set after u 1 in
       let inside : u < length after = omega arith in
       let inside-once : v < length once = omega (arith, length-set after u 1) in
-      let kept : (w : ℕ) → Marked after w → Marked (set once v 1) w = λ w p. mark-kept once v inside-once w (mark-kept after u inside w p) in
+      let kept : (w : ℕ) → VertexMarked after w → VertexMarked (set once v 1) w = λ w p. mark-kept once v inside-once w (mark-kept after u inside w p) in
       record {
         ends =
-            below-more (λ k. Marked (set once v 1) (oneEnd g (entryEdge c k)) × Marked (set once v 1) (otherEnd g (entryEdge c k))) i
+            below-more (λ k. VertexMarked (set once v 1) (oneEnd g (entryEdge c k)) × VertexMarked (set once v 1) (otherEnd g (entryEdge c k))) i
             (λ k m. (kept (oneEnd g (entryEdge c k)) (s .ends k m .0), kept (otherEnd g (entryEdge c k)) (s .ends k m .1)))
             (mark-kept once v inside-once u (mark-here after u inside), mark-here once v inside-once);
         only = λ named only.
@@ -132,8 +132,8 @@ module _ {g : Graph} {c : List ℕ} {i : ℕ} {before after : List ℕ} (s : End
   ends-all h = record { ends = λ k l. s .ends k (omega arith); only = s .only; kept = s .kept }
 
 -- Where all starts and all ends are marked, every vertex that is covered is.
-module _ (g : Graph) (c marks : List ℕ) (starts : (j : ℕ) → j < treesIn c → Marked marks (startIn c j))
-    (ends : (i : ℕ) → i < entriesIn c → Marked marks (oneEnd g (entryEdge c i)) × Marked marks (otherEnd g (entryEdge c i))) where
+module _ (g : Graph) (c marks : List ℕ) (starts : (j : ℕ) → j < treesIn c → VertexMarked marks (startIn c j))
+    (ends : (i : ℕ) → i < entriesIn c → VertexMarked marks (oneEnd g (entryEdge c i)) × VertexMarked marks (otherEnd g (entryEdge c i))) where
   -- An edge of a tree is that of an entry.
   entry-of : (j e : ℕ) → e ∈ treeIn c j .edges → (i : ℕ) × (i < entriesIn c) × (e ≡ entryEdge c i)
   unfolding treeIn
@@ -141,20 +141,20 @@ module _ (g : Graph) (c marks : List ℕ) (starts : (j : ℕ) → j < treesIn c 
       let r = of-map (entryEdge c) (filter (λ k. eqb (entryTree c k) j) (below (entriesIn c))) m in
       (r .0, of-below (entriesIn c) (of-filter (λ k. eqb (entryTree c k) j) (below (entriesIn c)) (r .1) .0), r .2)
 
-  tree-marked : (v j : ℕ) → j < treesIn c → Covers g (treeIn c j) v → Marked marks v
+  tree-marked : (v j : ℕ) → j < treesIn c → Covers g (treeIn c j) v → VertexMarked marks v
   unfolding treeIn
   tree-marked v j h (at-start q) = rw q (starts j h)
   tree-marked v j h (at-one-end e m q) = let (i, l, p) = entry-of j e m in rw (q, p) (ends i l .0)
   tree-marked v j h (at-other-end e m q) = let (i, l, p) = entry-of j e m in rw (q, p) (ends i l .1)
 
-  pub covered-marked : (v : ℕ) → Covered g c v → Marked marks v
+  pub covered-marked : (v : ℕ) → Covered g c v → VertexMarked marks v
   unfolding decode
   covered-marked v (t, m, covers) =
       let r = of-map (treeIn c) (below (treesIn c)) m in
       tree-marked v (r .0) (of-below (treesIn c) (r .1)) (rw (r .2) at covers)
 
 -- No vertex is marked.
-pub none-marked : (n v : ℕ) → Marked (replicate n 0) v → ⊥
+pub none-marked : (n v : ℕ) → VertexMarked (replicate n 0) v → ⊥
 none-marked zero v q = omega arith
 none-marked (suc n) zero q = omega arith
 none-marked (suc n) (suc v) q = none-marked n v q
@@ -166,7 +166,7 @@ same-test false true to back = back refl
 same-test false false to back = refl
 
 -- Starts and ends were marked where nothing was: all vertices are marked exactly where all are covered.
-pub all-marked-covered : (g : Graph) (c m₀ m₁ m₂ : List ℕ) → ((v : ℕ) → Marked m₀ v → ⊥) → StartsMarked c (treesIn c) m₀ m₁ → EndsMarked g c (entriesIn c) m₁ m₂
+pub all-marked-covered : (g : Graph) (c m₀ m₁ m₂ : List ℕ) → ((v : ℕ) → VertexMarked m₀ v → ⊥) → StartsMarked c (treesIn c) m₀ m₁ → EndsMarked g c (entriesIn c) m₁ m₂
     → ((i : ℕ) → i < entriesIn c → entryTree c i < treesIn c) → (r : Bool) → (r ≡ true) ↔ AllMarked m₂ (g .vertices) → r ≡ verticesCovered g (decode c)
 all-marked-covered g c m₀ m₁ m₂ none s e named r decides =
     same-test r (verticesCovered g (decode c))

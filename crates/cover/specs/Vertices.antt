@@ -1,4 +1,4 @@
--- Marked vertices: a byte for each, 1 where a tree of the cover is found to cover it.
+-- VertexMarked vertices: a byte for each, 1 where a tree of the cover is found to cover it.
 -- Assumes nothing.
 use Prim.Native.Nat.{ℕ, _<_}
 use mathlib.Core.Path.{_≡_}
@@ -10,8 +10,8 @@ use Rattle.rules.specs.Cover.{Tree, Covers}
 use Rattle.rules.specs.CoverBytes.{treesIn, entriesIn, startIn, entryTree, entryEdge, decode}
 
 -- The vertex is marked.
-abbrev pub Marked : List ℕ → ℕ → Type 0
-Marked marks v = getD marks v 0 ≡ 1
+abbrev pub VertexMarked : List ℕ → ℕ → Type 0
+VertexMarked marks v = getD marks v 0 ≡ 1
 
 -- Some tree of the cover covers the vertex.
 abbrev pub Covered : Graph → List ℕ → ℕ → Type 0
@@ -19,16 +19,16 @@ Covered g c v = (t : Tree) × (t ∈ decode c) × Covers g t v
 
 -- Every marked vertex is covered.
 abbrev pub OnlyCovered : Graph → List ℕ → List ℕ → Type 0
-OnlyCovered g c marks = (v : ℕ) → Marked marks v → Covered g c v
+OnlyCovered g c marks = (v : ℕ) → VertexMarked marks v → Covered g c v
 
 -- The starts of the first n trees were marked, and nothing but vertices that are covered.
 pub record StartsMarked (c : List ℕ) (n : ℕ) (before after : List ℕ) : Type 0 where
-  pub starts : (j : ℕ) → j < n → Marked after (startIn c j)
+  pub starts : (j : ℕ) → j < n → VertexMarked after (startIn c j)
   pub only : (g : Graph) → OnlyCovered g c before → OnlyCovered g c after
 
 -- The ends of the edges of the first n entries were marked, and, where each entry names a tree, nothing but vertices that are covered.
 -- What was marked stays so.
 pub record EndsMarked (g : Graph) (c : List ℕ) (n : ℕ) (before after : List ℕ) : Type 0 where
-  pub ends : (i : ℕ) → i < n → Marked after (oneEnd g (entryEdge c i)) × Marked after (otherEnd g (entryEdge c i))
+  pub ends : (i : ℕ) → i < n → VertexMarked after (oneEnd g (entryEdge c i)) × VertexMarked after (otherEnd g (entryEdge c i))
   pub only : ((i : ℕ) → i < entriesIn c → entryTree c i < treesIn c) → OnlyCovered g c before → OnlyCovered g c after
-  pub kept : (v : ℕ) → Marked before v → Marked after v
+  pub kept : (v : ℕ) → VertexMarked before v → VertexMarked after v

@@ -40,7 +40,7 @@ pub record Seekable (list : List ℕ) (s t : ℕ) (dist : List ℕ) : Type 0 whe
   pub inside : (i : ℕ) → i < t → getD list i 0 < length dist
 
 -- None of those at the places from s up to t is nearer than the one at place r.
-pub record Nearest (list : List ℕ) (s t : ℕ) (dist : List ℕ) (r : ℕ) : Type 0 where
+pub record NearestListed (list : List ℕ) (s t : ℕ) (dist : List ℕ) (r : ℕ) : Type 0 where
   pub from : s ≤ r
   pub to : r < t
   pub least : (i : ℕ) → s ≤ i → i < t → getD dist (getD list r 0) 0 ≤ getD dist (getD list i 0) 0

@@ -1,7 +1,7 @@
 // The list of the vertices reached: first those that are settled, then those that wait.
 use crate::UNREACHED;
 use forest::index::wide;
-ghost use Rattle.distance.specs.Reached.{Startable, Started, Seekable, Nearest};
+ghost use Rattle.distance.specs.Reached.{Startable, Started, Seekable, NearestListed};
 
 // At the start the root alone is reached, and waits.
 pub(crate) fn start(n: usize, root: usize, dist: &mut [u32], list: &mut [u16])
@@ -20,7 +20,7 @@ pub(crate) fn start(n: usize, root: usize, dist: &mut [u32], list: &mut [u16])
 // The place of the nearest of the vertices at the places from s up to t.
 pub(crate) fn nearest(list: &[u16], s: usize, t: usize, dist: &[u32]) -> usize
     requires { ⌜ Seekable (now list) s t (now dist) ⌝ }
-    ensures { λ r. ⌜ Nearest (now (list .entry)) s t (now (dist .entry)) r ⌝ }
+    ensures { λ r. ⌜ NearestListed (now (list .entry)) s t (now (dist .entry)) r ⌝ }
 {
     let mut best = s;
     let mut least = dist[wide(list[s])];

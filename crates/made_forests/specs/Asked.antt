@@ -40,7 +40,7 @@ pub record FirstEdges (b array : List ℕ) (r : ℕ) : Type 0 where
   pub edges : EdgesOf b (take r array)
 
 -- The same, and they are fewer than the vertices.
-pub record Kept (b array : List ℕ) (r : ℕ) : Type 0 where
+pub record KeptEdges (b array : List ℕ) (r : ℕ) : Type 0 where
   pub fewer : r < graphOf b .vertices
   pub first : FirstEdges b array r
 

@@ -3,7 +3,7 @@
 use Prim.Native.Nat.{_-_}
 use native.Mathlib.Omega.{arith}
 use borrow.Author.Needs.{needs}
-use Rattle.distance.proofs.Searching.{Searching, searching-start, searched-since, searching-few, searching-seekable, searched-all, searching-relaxable, searching-more}
+use Rattle.distance.proofs.SearchTurns.{Searching, searching-start, searched-since, searching-few, searching-seekable, searched-all, searching-relaxable, searching-more}
 use Rattle.distance.proofs.distances_from.Statement.{statement}
 use Rattle.distance.proofs.distances_from.Tie as tie
 

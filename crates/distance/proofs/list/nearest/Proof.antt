@@ -5,7 +5,7 @@ use mathlib.Core.Path.{_≡_, ap}
 use native.Mathlib.Omega.{arith}
 use lib.ListN.{length, getD}
 use borrow.Author.Needs.{needs}
-use Rattle.distance.proofs.Seeking.{Seeking, seeking-first, seeking-passed, seeking-taken}
+use Rattle.distance.proofs.NearestWaiting.{Seeking, seeking-first, seeking-passed, seeking-taken}
 use Rattle.distance.proofs.list.nearest.Statement.{statement}
 use Rattle.distance.proofs.list.nearest.Tie as tie
 

@@ -6,7 +6,7 @@ use native.Mathlib.Omega.{arith}
 use lib.ListN.{length}
 use lib.Seq.{getD-set-same}
 use borrow.Author.Needs.{needs}
-use Rattle.distance.proofs.Seeking.{Starting, starting-none, starting-more, starting-all}
+use Rattle.distance.proofs.NearestWaiting.{Starting, starting-none, starting-more, starting-all}
 use Rattle.distance.proofs.list.start.Statement.{statement}
 use Rattle.distance.proofs.list.start.Tie as tie
 

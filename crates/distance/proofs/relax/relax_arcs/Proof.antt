@@ -8,8 +8,8 @@ use borrow.Author.Tests.{not-true, not-false}
 use borrow.Author.Needs.{needs}
 use Rattle.forest.specs.Around.{arcHead}
 use Rattle.distance.specs.Relaxing.{ArcAt, Relaxed}
-use Rattle.distance.proofs.Relaxing.{relaxed-none, relaxed-more}
-use Rattle.distance.proofs.Finding.{Finding, finding-none, finding-passed, finding-room, finding-more}
+use Rattle.distance.proofs.ArcsRelaxed.{relaxed-none, relaxed-more}
+use Rattle.distance.proofs.FoundListed.{Finding, finding-none, finding-passed, finding-room, finding-more}
 use Rattle.distance.proofs.relax.relax_arcs.Statement.{statement}
 use Rattle.distance.proofs.relax.relax_arcs.Tie as tie
 

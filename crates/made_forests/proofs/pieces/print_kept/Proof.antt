@@ -12,7 +12,7 @@ use Rattle.graph.specs.Bytes.{graphOf}
 use Rattle.rules.specs.Labels.{Labels}
 use Rattle.rules.specs.Forest.{keep}
 use Rattle.forest_laws.proofs.Keeping.{kept-subset}
-use Rattle.made_forests.specs.Asked.{Kept}
+use Rattle.made_forests.specs.Asked.{KeptEdges}
 use borrow.Author.Needs.{needs}
 use Rattle.made_forests.proofs.pieces.print_kept.Statement.{statement}
 use Rattle.made_forests.proofs.pieces.print_kept.Tie as tie
@@ -37,7 +37,7 @@ module _ (c : tie.After-keep-edges) where
   fits : c .keep-edges .result ≤ length (c .keep-edges .last .1 .1 .1 .0)
   fits = omega (arith, put-fits put, put-length (put .put))
 
-  kept : Kept (start .args .b .now) (c .keep-edges .last .1 .1 .1 .0) (c .keep-edges .result)
+  kept : KeptEdges (start .args .b .now) (c .keep-edges .last .1 .1 .1 .0) (c .keep-edges .result)
   kept =
       record {
         fewer = c .keep-edges .ensures .fewer;

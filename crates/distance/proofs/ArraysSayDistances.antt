@@ -25,7 +25,7 @@ use Rattle.distance.specs.Trail.{lastOf, lastEdge, vertexBefore, IsTrail
 use Rattle.distance.specs.Shortest.{unreached, SaysDistance, nowhere, there, IsPathBack, Shortest}
 use Rattle.distance.proofs.Trails.{trail-of}
 use Rattle.distance.proofs.ArcEdges.{IsEdge, arc-edges, edge-arcs}
-use Rattle.distance.proofs.Settling as settling
+use Rattle.distance.proofs.SettledInvariant as settling
 
 -- The last edge and the vertex before it are read from their number again.
 last-edge : (a u : ℕ) → lastEdge (lastOf (arcEdge a) u) ≡ arcEdge a

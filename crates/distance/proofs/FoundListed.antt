@@ -10,7 +10,7 @@ use lib.Seq.{getD-set-other}
 use Rattle.forest.specs.Around.{arcHead}
 use Rattle.distance.specs.Reached.{Listed}
 use Rattle.distance.specs.Relaxing.{ArcRelaxed, kept, lowered, found}
-use Rattle.distance.proofs.Listing.{listed-room, listed-lowered, listed-found}
+use Rattle.distance.proofs.ReachedList.{listed-room, listed-lowered, listed-found}
 
 -- The list begins with the t that it had, and is still that of the vertices reached, of whatever number n of vertices that it may be of.
 pub record Finding (May : ℕ → Type 0) (list : List ℕ) (t : ℕ) (dist list-now : List ℕ) (r : ℕ) (dist-now : List ℕ) : Type 0 where

@@ -8,7 +8,7 @@ use lib.ListN.{length, getD, set, drop}
 use lib.Seq.{getD-set-same, getD-set-other, drop-set-lt}
 use Rattle.lists.proofs.AfterStore.{at-or-not, after-store}
 use Rattle.distance.specs.Shortest.{unreached}
-use Rattle.distance.specs.Reached.{Started, Nearest}
+use Rattle.distance.specs.Reached.{Started, NearestListed}
 
 -- The vertices below v are not reached.
 pub record Starting (n v : ℕ) (dist₀ dist : List ℕ) : Type 0 where
@@ -35,7 +35,7 @@ module _ {n v : ℕ} {dist₀ dist : List ℕ} (s : Starting n v dist₀ dist) w
 
 -- Of those at the places from s up to i the one at place `best` is nearest, and `least` is its distance.
 pub record Seeking (list : List ℕ) (s : ℕ) (dist : List ℕ) (best least i : ℕ) : Type 0 where
-  pub found : Nearest list s i dist best
+  pub found : NearestListed list s i dist best
   pub is : least ≡ getD dist (getD list best 0) 0
 
 pub seeking-first : {list : List ℕ} {s : ℕ} {dist : List ℕ} {least : ℕ} → least ≡ getD dist (getD list s 0) 0 → Seeking list s dist s least (s + 1)

@@ -12,7 +12,7 @@ use Rattle.forest.specs.Around.{arcEdge, arcHead, arcWeight}
 use Rattle.distance.specs.Trail.{lastOf}
 use Rattle.distance.specs.Shortest.{unreached}
 use Rattle.distance.specs.Relaxing.{ArcAt, Becomes, same, nearer, Relaxed}
-use Rattle.distance.proofs.Relaxing.{becomes-low}
+use Rattle.distance.proofs.ArcsRelaxed.{becomes-low}
 
 -- The last edges lead from v back to the root, over settled vertices and at most that many edges, and the distances add up.
 pub data Back (n : ℕ) (bounds arcs : List ℕ) (root : ℕ) (Open : ℕ → Type 0) (dist last : List ℕ) : ℕ → ℕ → Type 0 where
@@ -64,12 +64,12 @@ module _ {n : ℕ} {bounds arcs : List ℕ} {root : ℕ} {W X : ℕ → Type 0} 
     (was-open : (v : ℕ) → X v → W v) (still-open : (v : ℕ) → W v → (v ≡ u → ⊥) → X v) (not-open : X u → ⊥)
     (r : Relaxed arcs (getD bounds u 0) (getD bounds (u + 1) 0) u d l e m)
   where
-    Kept : ℕ → Type 0
-    Kept x = (getD e x 0 ≡ getD d x 0) × (getD m x 0 ≡ getD l x 0)
+    AsBefore : ℕ → Type 0
+    AsBefore x = (getD e x 0 ≡ getD d x 0) × (getD m x 0 ≡ getD l x 0)
 
     -- What is no farther than u is kept.
-    near-kept : (x : ℕ) → getD d x 0 ≤ getD d u 0 → Kept x
-    unfolding Kept
+    near-kept : (x : ℕ) → getD d x 0 ≤ getD d u 0 → AsBefore x
+    unfolding AsBefore
     near-kept x h = go (r .each x)
       where
         go : Becomes arcs (getD bounds u 0) (getD bounds (u + 1) 0) u x d l e m → (getD e x 0 ≡ getD d x 0) × (getD m x 0 ≡ getD l x 0)
@@ -87,25 +87,25 @@ module _ {n : ℕ} {bounds arcs : List ℕ} {root : ℕ} {W X : ℕ → Type 0} 
         go (inl q) = rw q (omega arith)
         go (inr w) = s .settled-near x u h w is-open
 
-    settled-kept : (x : ℕ) → x < n → (X x → ⊥) → Kept x
+    settled-kept : (x : ℕ) → x < n → (X x → ⊥) → AsBefore x
     settled-kept x h out = near-kept x (settled-low x h out)
 
     -- The way back from a vertex that is kept is as it was.
-    back-kept : {k v : ℕ} → Back n bounds arcs root W d l k v → Kept v → Back n bounds arcs root X e m k v
-    unfolding Kept
+    back-kept : {k v : ℕ} → Back n bounds arcs root W d l k v → AsBefore v → Back n bounds arcs root X e m k v
+    unfolding AsBefore
     back-kept (home q) kept = home q
     back-kept (over {u = x} x-inside out arc head edge sum b less) kept =
         let k = settled-kept x x-inside (λ w. out (was-open x w)) in
         over x-inside (λ w. out (was-open x w)) arc head (kept .1 ∙ edge) (omega (arith, kept, k)) (back-kept b k) less
 
-    own-kept : Kept u
+    own-kept : AsBefore u
     own-kept = settled-kept u inside not-open
 
     own-back : Back n bounds arcs root X e m c u
     own-back = back-kept (s .reached u inside low) own-kept
 
     pub settling-more : {f : ℕ} → c < f → Settling n bounds arcs root X f e m
-    unfolding Kept
+    unfolding AsBefore
     settling-more {f} more = record {
       root-zero = omega (arith, becomes-low (r .each root), s .root-zero);
       bounded = λ v h. omega (arith, becomes-low (r .each v), s .bounded v h);

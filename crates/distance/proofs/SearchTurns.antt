@@ -15,11 +15,11 @@ use Rattle.lists.proofs.Member.{either}
 use Rattle.lists.proofs.Put.{only-first, only-first-length, only-first-rest}
 use Rattle.forest.specs.Around.{arcHead, Arcs}
 use Rattle.distance.specs.Shortest.{unreached, Searchable, Searched}
-use Rattle.distance.specs.Reached.{Stands, Listed, Started, Seekable, Nearest}
+use Rattle.distance.specs.Reached.{Stands, Listed, Started, Seekable, NearestListed}
 use Rattle.distance.specs.Relaxing.{ArcAt, Becomes, same, nearer, Relaxed, Relaxable, AllRelaxed}
-use Rattle.distance.proofs.Listing.{listed-start, listed-few, listed-swapped, swapped-second, swapped-other}
-use Rattle.distance.proofs.Settling.{Settling, settling-none, settling-more, Settled, settled-all}
-use Rattle.distance.proofs.Tracing.{traced-all}
+use Rattle.distance.proofs.ReachedList.{listed-start, listed-few, listed-swapped, swapped-second, swapped-other}
+use Rattle.distance.proofs.SettledInvariant.{Settling, settling-none, settling-more, Settled, settled-all}
+use Rattle.distance.proofs.ArraysSayDistances.{traced-all}
 
 -- v is a vertex, and is not among the first s, which are settled.
 abbrev pub Open : ℕ → List ℕ → ℕ → ℕ → Type 0
@@ -136,7 +136,7 @@ module _ {n : ℕ} {bounds arcs : List ℕ} {root : ℕ} {dist₀ last₀ list :
         }
 
     -- The nearest that waits, u, changes places with the first that waits, and its arcs are relaxed.
-    module _ {at u : ℕ} (near : Nearest list s t dist at) (is : u ≡ getD list at 0) where
+    module _ {at u : ℕ} (near : NearestListed list s t dist at) (is : u ≡ getD list at 0) where
       abbrev moved : List ℕ
       moved = set (set list at (getD list s 0)) s (getD list at 0)
 
