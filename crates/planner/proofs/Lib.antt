@@ -7,6 +7,8 @@ pub mod WholeForest
 pub mod RowPlaces
 -- rows of marks: one more root, one more vertex
 pub mod RowMarks
+-- a row of marks for each of several trees
+pub mod RowsMarked
 -- the nearest of vertices looked at one after the other
 pub mod NearestSoFar
 -- edges marked one after the other
