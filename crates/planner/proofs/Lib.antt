@@ -25,3 +25,5 @@ pub mod ComponentsLabelled
 pub mod Insertion
 -- sorting by images, and by an array of keys
 pub mod SortedImages
+-- the places of the parts, between those of the leftovers
+pub mod PartsBetween

@@ -3,6 +3,8 @@
 pub mod Whole
 -- which roots are near a part
 pub mod Near
+-- the places of the parts among the pieces
+pub mod Places
 -- the parts of a rooted trial, placed
 pub mod Placed
 -- the vertex of a part that is nearest to a root
