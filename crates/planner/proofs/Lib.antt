@@ -27,3 +27,5 @@ pub mod Insertion
 pub mod SortedImages
 -- the places of the parts, between those of the leftovers
 pub mod PartsBetween
+-- the table of distances, column by column, and the rows of last edges
+pub mod ColumnsWritten

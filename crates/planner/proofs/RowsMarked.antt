@@ -23,7 +23,7 @@ pub row-within : (i n k size : ℕ) → i < n → n * k ≤ size → i * k + k �
 row-within i n k size h room = omega (arith, suc-mul i k, mul-le-mul-right k h)
 
 -- The row before another ends where that begins, or earlier.
-row-before : (h i k : ℕ) → h < i → h * k + k ≤ i * k
+pub row-before : (h i k : ℕ) → h < i → h * k + k ≤ i * k
 row-before h i k l = row-within h i k (i * k) l (omega arith)
 
 module _ {A : Type 0} where

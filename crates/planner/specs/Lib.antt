@@ -7,6 +7,8 @@ pub mod Near
 pub mod Places
 -- the parts of a rooted trial, placed
 pub mod Placed
+-- the table of distances, and the last edges
+pub mod Table
 -- the vertex of a part that is nearest to a root
 pub mod Nearest
 -- the edges of a union that are kept

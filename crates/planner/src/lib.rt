@@ -6,5 +6,6 @@ pub mod near;
 pub mod nearest;
 pub mod needs;
 pub mod places;
+pub mod table;
 pub mod union;
 pub mod whole;
