@@ -29,3 +29,7 @@ pub mod SortedImages
 pub mod PartsBetween
 -- the table of distances, column by column, and the rows of last edges
 pub mod ColumnsWritten
+-- the pieces of a rooted trial by their numbers
+pub mod PiecesByNumber
+-- an assignment asked as it must be
+pub mod NotRefused

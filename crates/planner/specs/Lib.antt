@@ -7,6 +7,8 @@ pub mod Near
 pub mod Places
 -- the parts of a rooted trial, placed
 pub mod Placed
+-- what placing the parts asks, step by step
+pub mod Parts
 -- the table of distances, and the last edges
 pub mod Table
 -- the vertex of a part that is nearest to a root
