@@ -33,3 +33,9 @@ pub mod ColumnsWritten
 pub mod PiecesByNumber
 -- an assignment asked as it must be
 pub mod NotRefused
+-- the rows of marks say which root a part may go to
+pub mod NearMeansMayGo
+-- assignments by tests that agree
+pub mod SameTests
+-- pieces, rows and assignment together
+pub mod PartsAssembled
