@@ -7,6 +7,8 @@ pub mod WholeForest
 pub mod RowPlaces
 -- rows of marks: one more root, one more vertex
 pub mod RowMarks
+-- a row of marks for each of several trees
+pub mod RowsMarked
 -- the nearest of vertices looked at one after the other
 pub mod NearestSoFar
 -- edges marked one after the other
@@ -23,3 +25,17 @@ pub mod ComponentsLabelled
 pub mod Insertion
 -- sorting by images, and by an array of keys
 pub mod SortedImages
+-- the places of the parts, between those of the leftovers
+pub mod PartsBetween
+-- the table of distances, column by column, and the rows of last edges
+pub mod ColumnsWritten
+-- the pieces of a rooted trial by their numbers
+pub mod PiecesByNumber
+-- an assignment asked as it must be
+pub mod NotRefused
+-- the rows of marks say which root a part may go to
+pub mod NearMeansMayGo
+-- assignments by tests that agree
+pub mod SameTests
+-- pieces, rows and assignment together
+pub mod PartsAssembled

@@ -3,8 +3,14 @@
 pub mod Whole
 -- which roots are near a part
 pub mod Near
+-- the places of the parts among the pieces
+pub mod Places
 -- the parts of a rooted trial, placed
 pub mod Placed
+-- what placing the parts asks, step by step
+pub mod Parts
+-- the table of distances, and the last edges
+pub mod Table
 -- the vertex of a part that is nearest to a root
 pub mod Nearest
 -- the edges of a union that are kept

@@ -48,6 +48,11 @@ pub record TrialArrays : Type 0 where
   pub rows : List ℕ
   pub out : List ℕ
 
+-- The same, array by array.
+abbrev pub trialArrays : List ℕ → List ℕ → List ℕ → List ℕ → List ℕ → List ℕ → List ℕ → TrialArrays
+trialArrays starts cuts flat lefts places rows out =
+    record { starts = starts; cuts = cuts; flat = flat; lefts = lefts; places = places; rows = rows; out = out }
+
 -- The parts are placed, `parts` of them: the arrays hold the trial's pieces, the rows say which roots are near, and an assignment was found
 -- or else a deficient set.
 pub record PartsPlaced (g : Graph) (roots : List ℕ) (limit : ℕ) (a : TrialArrays) (parts : ℕ) (assigned : Bool) : Type 0 where

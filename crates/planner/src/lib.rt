@@ -5,5 +5,8 @@ pub mod deficient;
 pub mod near;
 pub mod nearest;
 pub mod needs;
+pub mod parts;
+pub mod places;
+pub mod table;
 pub mod union;
 pub mod whole;

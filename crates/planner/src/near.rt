@@ -9,7 +9,7 @@ ghost use lib.ListN.{length, getD};
 ghost use lib.Dec.{leb};
 ghost use Rattle.graph.specs.Bytes.{graphOf};
 ghost use Rattle.rules.specs.Distance.{treeVertices};
-ghost use Rattle.planner.specs.Near.{distanceIn, nearOne, treeOf, endsOf, Marked, TableGiven, PartGiven};
+ghost use Rattle.planner.specs.Near.{distanceIn, nearOne, nearTree, treeOf, endsOf, Marked, RowsMarked, TableGiven, PartGiven, TreeGiven, TreesGiven};
 
 // The mark of a root: 1 where the distance is at most the limit, and otherwise as it was.
 fn marked_near(mark: u8, distance: u32, limit: u32) -> u8
@@ -60,6 +60,53 @@ pub fn mark_part(b: &[u8], table: &[u32], start: usize, edges: &[u16], limit: u3
     let mut i = 0;
     while i < edges.len() {
         mark_ends(b, table, wide(edges[i]), limit, row);
+        i += 1;
+    }
+}
+
+// The same of tree c of those that three arrays hold.
+fn mark_tree(
+    b: &[u8],
+    table: &[u32],
+    limit: u32,
+    starts: &[u16],
+    cuts: &[u16],
+    flat: &[u16],
+    c: usize,
+    row: &mut [u8],
+)
+    requires { ⌜ TreeGiven (now b) (now table) (length (now row)) (now starts) (now cuts) (now flat) c ⌝ }
+    ensures { λ _. ⌜ Marked (nearTree (graphOf (now (b .entry))) (now (table .entry)) (length (now (row .entry))) limit
+        (now (starts .entry)) (now (cuts .entry)) (now (flat .entry)) c) (now (row .entry)) (now (row .exit)) ⌝ }
+{
+    let start = wide(starts[c]);
+    let from = wide(cuts[c]);
+    let to = wide(cuts[c + 1]);
+    mark_part(b, table, start, &flat[from..to], limit, row);
+}
+
+// For each of several such trees a row of k marks, one row after the other: the roots that are near the tree.
+pub fn mark_parts(
+    b: &[u8],
+    table: &[u32],
+    limit: u32,
+    k: usize,
+    starts: &[u16],
+    cuts: &[u16],
+    flat: &[u16],
+    places: &[u16],
+    rows: &mut [u8],
+)
+    requires { ⌜ TreesGiven (now b) (now table) k (now starts) (now cuts) (now flat) (now places) (now rows) ⌝ }
+    ensures { λ _. ⌜ RowsMarked (nearTree (graphOf (now (b .entry))) (now (table .entry)) k limit
+        (now (starts .entry)) (now (cuts .entry)) (now (flat .entry))) k (now (places .entry)) (now (rows .entry)) (now (rows .exit)) ⌝ }
+{
+    let mut i = 0;
+    while i < places.len() {
+        let c = wide(places[i]);
+        let from = i * k;
+        let to = from + k;
+        mark_tree(b, table, limit, starts, cuts, flat, c, &mut rows[from..to]);
         i += 1;
     }
 }
