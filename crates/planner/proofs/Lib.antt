@@ -23,3 +23,5 @@ pub mod ComponentsLabelled
 pub mod Insertion
 -- sorting by images, and by an array of keys
 pub mod SortedImages
+-- lists laid one after the other into one array
+pub mod LaidLists

@@ -15,3 +15,5 @@ pub mod Deficient
 pub mod Needs
 -- trees in order of their keys
 pub mod Chosen
+-- lists of edges held one after the other
+pub mod Pieces

@@ -5,5 +5,6 @@ pub mod deficient;
 pub mod near;
 pub mod nearest;
 pub mod needs;
+pub mod pieces;
 pub mod union;
 pub mod whole;

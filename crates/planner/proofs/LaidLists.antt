@@ -1,0 +1,75 @@
+-- Lists laid one after the other into one array, each put behind the others: what a loop that lays them knows at each turn.
+-- Assumes nothing.
+use Prim.Native.Nat.{ℕ, _+_, _-_, _≤_, _<_}
+use mathlib.Core.Path.{_≡_, refl, sym, ap, _∙_}
+use mathlib.Core.List.{List, _++_}
+use native.Mathlib.Omega.{arith}
+use lib.ListN.{length, getD, take, drop, set}
+use lib.Seq.{drop-drop, getD-set-same, getD-set-other}
+use borrow.Author.Count.{below-more}
+use Rattle.lists.specs.Put.{Put, PutTo}
+use Rattle.lists.specs.Segments.{segment, Bounded}
+use Rattle.lists.specs.Sort.{rise}
+use Rattle.lists.proofs.Fronts.{put-slice, put-before}
+use Rattle.lists.proofs.Put.{put-head, put-rest, put-length}
+use Rattle.lists.proofs.SegmentSizes.{slice-taken}
+use Rattle.lists.proofs.Segments.{segment-kept, segment-new, bounded-more}
+use Rattle.lists.proofs.Sorting.{sum-rise}
+use Rattle.lists.proofs.SumsAlike.{length-sum}
+
+-- Sorting keeps the number of elements.
+pub rise-length : (xs : List ℕ) → length (rise xs) ≡ length xs
+rise-length xs = length-sum (rise xs) ∙ sum-rise (λ _. 1) xs ∙ sym (length-sum xs)
+
+-- A list was put into an array, and then what stands there was sorted in place: the sorted list was put.
+pub put-then-risen : {at end : ℕ} {xs ys a b : List ℕ} → PutTo at xs a b end → ys ≡ rise (take (end - at) (drop at b))
+    → PutTo at (rise xs) a (take at b ++ (ys ++ drop (end - at) (drop at b))) end
+put-then-risen {at} {end} {xs} {ys} {a} {b} p q =
+    let size = rise-length xs in
+    let same = put-length (p .put) in
+    let room = p .put .room in
+    let behind = p .behind in
+    let there : take (end - at) (drop at b) ≡ xs =
+    sym (slice-taken at end b (omega arith) (omega arith)) ∙ ap (λ n. drop at (take n b)) behind ∙ put-slice (p .put) in
+    let place : at + (end - at) ≡ at + length xs + 0 = omega arith in
+    let none : at + length xs + 0 ≡ at + length (rise xs) = omega arith in
+    let rest : drop (end - at) (drop at b) ≡ drop (at + length (rise xs)) a =
+    drop-drop (end - at) at b ∙ ap (λ n. drop n b) place ∙ put-rest (p .put) 0 ∙ ap (λ n. drop n a) none in
+    record {
+      put = record { room = omega arith; is = rw (put-before (p .put), q, there, rest) };
+      behind = omega arith;
+    }
+
+-- The first i lists are laid: they take up the array's elements before `at`.
+pub record Laying (lists : ℕ → List ℕ) (i at : ℕ) (cuts flat : List ℕ) : Type 0 where
+  pub bounded : Bounded cuts i at
+  pub inside : at ≤ length flat
+  pub are : (h : ℕ) → h < i → segment cuts flat h ≡ lists h
+
+-- None yet, where the first bound is 0.
+pub laying-none : (lists : ℕ → List ℕ) (cuts flat : List ℕ) → getD cuts 0 0 ≡ 0 → Laying lists 0 0 cuts flat
+laying-none lists cuts flat q =
+    record {
+      bounded = record { last = q; within = λ i h. let z : i ≡ 0 = omega arith in rw z (omega (arith, q)); rising = λ i h. absurd (omega arith) };
+      inside = omega arith;
+      are = λ h l. absurd (omega arith);
+    }
+
+-- One list more.
+pub laying-more : {lists : ℕ → List ℕ} {i at end : ℕ} {cuts flat after : List ℕ} → Laying lists i at cuts flat → i + 1 < length cuts
+    → PutTo at (lists i) flat after end → Laying lists (i + 1) end (set cuts (i + 1) end) after
+laying-more {lists} {i} {at} {end} {cuts} {flat} {after} w room p =
+    record {
+      bounded = bounded-more (w .bounded) end room (omega (arith, p .behind));
+      inside = omega (arith, p .behind, p .put .room, put-length (p .put));
+      are =
+          below-more (λ h. segment (set cuts (i + 1) end) after h ≡ lists h) i
+          (λ h l. segment-kept (w .bounded) end flat after (put-before (p .put)) h l ∙ w .are h l)
+          (segment-new (w .bounded) end room after ∙ ap (λ n. drop at (take n after)) (p .behind) ∙ put-slice (p .put));
+    }
+
+-- Values stored one after the other.
+pub stored-more : (f : ℕ → ℕ) (a : List ℕ) (i x : ℕ) → i < length a → ((h : ℕ) → h < i → getD a h 0 ≡ f h) → x ≡ f i
+    → (h : ℕ) → h < i + 1 → getD (set a i x) h 0 ≡ f h
+stored-more f a i x room so-far q =
+    below-more (λ h. getD (set a i x) h 0 ≡ f h) i (λ h l. getD-set-other a i h x 0 (omega arith) ∙ so-far h l) (getD-set-same a i x 0 room ∙ q)
