@@ -7,15 +7,18 @@ use native.Mathlib.Omega.{arith}
 use lib.ListN.{length, getD, take, drop, set}
 use lib.Seq.{drop-drop, getD-set-same, getD-set-other}
 use borrow.Author.Count.{below-more}
-use Rattle.lists.specs.Put.{Put, PutTo}
-use Rattle.lists.specs.Segments.{segment, Bounded}
+use Rattle.lists.specs.Lists.{sumOf}
+use Rattle.lists.specs.Put.{PutTo}
+use Rattle.lists.specs.Segments.{segment}
 use Rattle.lists.specs.Sort.{rise}
 use Rattle.lists.proofs.Fronts.{put-slice, put-before}
+use Rattle.lists.proofs.NextPlace.{rest-next}
 use Rattle.lists.proofs.Put.{put-head, put-rest, put-length}
 use Rattle.lists.proofs.SegmentSizes.{slice-taken}
 use Rattle.lists.proofs.Segments.{segment-kept, segment-new, bounded-more}
 use Rattle.lists.proofs.Sorting.{sum-rise}
 use Rattle.lists.proofs.SumsAlike.{length-sum}
+use Rattle.planner.specs.Pieces.{Laid}
 
 -- Sorting keeps the number of elements.
 pub rise-length : (xs : List ℕ) → length (rise xs) ≡ length xs
@@ -40,15 +43,9 @@ put-then-risen {at} {end} {xs} {ys} {a} {b} p q =
       behind = omega arith;
     }
 
--- The first i lists are laid: they take up the array's elements before `at`.
-pub record Laying (lists : ℕ → List ℕ) (i at : ℕ) (cuts flat : List ℕ) : Type 0 where
-  pub bounded : Bounded cuts i at
-  pub inside : at ≤ length flat
-  pub are : (h : ℕ) → h < i → segment cuts flat h ≡ lists h
-
 -- None yet, where the first bound is 0.
-pub laying-none : (lists : ℕ → List ℕ) (cuts flat : List ℕ) → getD cuts 0 0 ≡ 0 → Laying lists 0 0 cuts flat
-laying-none lists cuts flat q =
+pub laid-none : (lists : ℕ → List ℕ) (cuts flat : List ℕ) → getD cuts 0 0 ≡ 0 → Laid lists 0 0 cuts flat
+laid-none lists cuts flat q =
     record {
       bounded = record { last = q; within = λ i h. let z : i ≡ 0 = omega arith in rw z (omega (arith, q)); rising = λ i h. absurd (omega arith) };
       inside = omega arith;
@@ -56,16 +53,16 @@ laying-none lists cuts flat q =
     }
 
 -- One list more.
-pub laying-more : {lists : ℕ → List ℕ} {i at end : ℕ} {cuts flat after : List ℕ} → Laying lists i at cuts flat → i + 1 < length cuts
-    → PutTo at (lists i) flat after end → Laying lists (i + 1) end (set cuts (i + 1) end) after
-laying-more {lists} {i} {at} {end} {cuts} {flat} {after} w room p =
+pub laid-more : {lists : ℕ → List ℕ} {i at end : ℕ} {cuts xs flat after : List ℕ} → Laid lists i at cuts flat → i + 1 < length cuts
+    → PutTo at xs flat after end → xs ≡ lists i → Laid lists (i + 1) end (set cuts (i + 1) end) after
+laid-more {lists} {i} {at} {end} {cuts} {xs} {flat} {after} w room p q =
     record {
       bounded = bounded-more (w .bounded) end room (omega (arith, p .behind));
       inside = omega (arith, p .behind, p .put .room, put-length (p .put));
       are =
           below-more (λ h. segment (set cuts (i + 1) end) after h ≡ lists h) i
           (λ h l. segment-kept (w .bounded) end flat after (put-before (p .put)) h l ∙ w .are h l)
-          (segment-new (w .bounded) end room after ∙ ap (λ n. drop at (take n after)) (p .behind) ∙ put-slice (p .put));
+          (segment-new (w .bounded) end room after ∙ ap (λ n. drop at (take n after)) (p .behind) ∙ put-slice (p .put) ∙ q);
     }
 
 -- Values stored one after the other.
@@ -73,3 +70,8 @@ pub stored-more : (f : ℕ → ℕ) (a : List ℕ) (i x : ℕ) → i < length a 
     → (h : ℕ) → h < i + 1 → getD (set a i x) h 0 ≡ f h
 stored-more f a i x room so-far q =
     below-more (λ h. getD (set a i x) h 0 ≡ f h) i (λ h l. getD-set-other a i h x 0 (omega arith) ∙ so-far h l) (getD-set-same a i x 0 room ∙ q)
+
+-- A sum over what is left of a list.
+pub sum-next : (f : ℕ → ℕ) (xs : List ℕ) (i : ℕ) → i < length xs → sumOf f (drop i xs) ≡ f (getD xs i 0) + sumOf f (drop (i + 1) xs)
+unfolding sumOf
+sum-next f xs i h = rw (rest-next xs i h)

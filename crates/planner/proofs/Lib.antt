@@ -25,3 +25,5 @@ pub mod Insertion
 pub mod SortedImages
 -- lists laid one after the other into one array
 pub mod LaidLists
+-- chosen pieces laid out, in order, and written
+pub mod ChosenLaid

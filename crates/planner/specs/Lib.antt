@@ -17,3 +17,5 @@ pub mod Needs
 pub mod Chosen
 -- lists of edges held one after the other
 pub mod Pieces
+-- the parts of a deficient set, written
+pub mod TooLowParts

@@ -6,5 +6,6 @@ pub mod near;
 pub mod nearest;
 pub mod needs;
 pub mod pieces;
+pub mod too_low_parts;
 pub mod union;
 pub mod whole;
