@@ -72,6 +72,7 @@ module _ (starts cuts flat chosen : List ℕ) {before laid bounds edges keys : L
       (map-below-same (λ i. risen (treeAt starts cuts flat (getD chosen i 0))) (treeAt laid bounds edges) (length chosen) tree-is
       ∙ map-at-places (λ c. risen (treeAt starts cuts flat c)) 0 chosen
       ∙ sym (map-map risen (treeAt starts cuts flat) chosen))
+
   below-count : (c : ℕ) → c ∈ order → c < length chosen
   below-count c m = of-below (length chosen) (of-sort (byKey keys) (below (length chosen)) m)
 

@@ -27,3 +27,5 @@ pub mod SortedImages
 pub mod LaidLists
 -- chosen pieces laid out, in order, and written
 pub mod ChosenLaid
+-- the pieces of the marked parts
+pub mod MarkedPieces
