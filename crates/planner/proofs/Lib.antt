@@ -29,3 +29,5 @@ pub mod LaidLists
 pub mod ChosenLaid
 -- the pieces of the marked parts
 pub mod MarkedPieces
+-- a placed deficient set may be written, and what is written is the answer
+pub mod TooLowPlaced

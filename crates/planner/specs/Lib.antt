@@ -19,3 +19,5 @@ pub mod Chosen
 pub mod Pieces
 -- the parts of a deficient set, written
 pub mod TooLowParts
+-- the tree of one root
+pub mod Tree

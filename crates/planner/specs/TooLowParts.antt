@@ -9,13 +9,14 @@ use Rattle.lists.specs.Lists.{sumOf}
 use Rattle.lists.specs.Put.{PutTo}
 use Rattle.lists.specs.Segments.{segment}
 use Rattle.lists.specs.Sort.{sortBy}
+use Rattle.graph.specs.Graph.{Graph}
 use Rattle.matching.specs.Assignment.{markedParts, allowedRoots}
 use Rattle.matching.specs.Input.{allowedAt}
 use Rattle.rules.specs.Cover.{Tree}
 use Rattle.rules.specs.CoverBytes.{encode}
 use Rattle.rules.specs.Held.{treesAt, risen}
 use Rattle.rules.specs.Split.{smallestEdge}
-use Rattle.rules.specs.RootedTrial.{chosenParts}
+use Rattle.rules.specs.RootedTrial.{rootedParts, mayGo, chosenParts}
 use Rattle.cover.specs.Chosen.{AllHeld}
 use Rattle.planner.specs.declared.too_low_parts.Deficient.{Deficient}
 
@@ -66,3 +67,10 @@ pub record SetWritten (starts cuts flat places : List ℕ) (parts : ℕ) (rows m
   pub written : PutTo 0 (encode (chosenParts (map risen (treesAt starts cuts flat (take parts places))) (take parts marks))) before after bytes
   pub parts-are : r .parts ≡ markedParts parts (take parts marks)
   pub roots-are : r .roots ≡ allowedRoots parts k (allowedAt rows k) (take parts marks)
+
+-- The same of a rooted trial: "too low, parts T, yards D" with the parts of the set that the marks say.
+pub record DeficientWritten (g : Graph) (roots : List ℕ) (limit : ℕ) (marks before after : List ℕ) (r : Deficient) : Type 0 where
+  pub bytes : ℕ
+  pub written : PutTo 0 (encode (chosenParts (rootedParts g roots limit) marks)) before after bytes
+  pub parts-are : r .parts ≡ markedParts (length (rootedParts g roots limit)) marks
+  pub roots-are : r .roots ≡ allowedRoots (length (rootedParts g roots limit)) (length roots) (mayGo g roots limit) marks

@@ -7,5 +7,6 @@ pub mod nearest;
 pub mod needs;
 pub mod pieces;
 pub mod too_low_parts;
+pub mod tree;
 pub mod union;
 pub mod whole;

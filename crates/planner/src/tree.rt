@@ -1,0 +1,62 @@
+// The tree of one root (document 01, step 6): "a tree is the union of its part if any, a shortest path to it, and what is left at the yard".
+// The union's edges are marked, kept in order, and put by rising number.
+use crate::nearest::nearest_vertex;
+use crate::pieces::element_at;
+use crate::pieces::piece_edges;
+use crate::union::keep_union;
+use crate::union::mark_edges;
+use distance::path_back;
+use forest::index::wide;
+use forest::order::rise_edges;
+ghost use mathlib.Core.Path.{_≡_};
+ghost use Prim.Native.Nat.{_≤_};
+ghost use lib.ListN.{length, getD};
+ghost use Rattle.lists.specs.Lists.{member};
+ghost use Rattle.lists.specs.Segments.{segment};
+ghost use Rattle.graph.specs.Bytes.{graphOf};
+ghost use Rattle.distance.specs.Trail.{trailOf};
+ghost use Rattle.planner.specs.Near.{Marked};
+ghost use Rattle.planner.specs.Tree.{FirstWith, PieceGiven, BackGiven, TreeAsked, TreeKept};
+
+// The first place below a bound where the byte stands; the bound where there is none.
+fn place_with(bytes: &[u8], bound: usize, j: usize) -> usize
+    requires { ⌜ bound ≤ length (now bytes) ⌝ }
+    ensures { λ r. ⌜ FirstWith (now (bytes .entry)) bound j r ⌝ }
+{
+    let mut i = 0;
+    while i < bound {
+        if bytes[i] as usize == j {
+            return i;
+        }
+        i += 1;
+    }
+    bound
+}
+
+// Marks the edges of piece c.
+fn mark_piece(cuts: &[u16], flat: &[u16], c: u16, marks: &mut [u8])
+    requires { ⌜ PieceGiven (now cuts) (now flat) c (length (now marks)) ⌝ }
+    ensures { λ _. ⌜ Marked (λ e. member e (segment (now (cuts .entry)) (now (flat .entry)) c)) (now (marks .entry)) (now (marks .exit)) ⌝ }
+{
+    mark_edges(piece_edges(cuts, flat, c), marks);
+}
+
+// Marks the edges of the path from vertex v back to the root.
+fn mark_back(last: &[u32], root: usize, v: usize, marks: &mut [u8])
+    requires { ⌜ BackGiven (now last) root v (length (now marks)) ⌝ }
+    ensures { λ _. ⌜ Marked (λ e. member e (trailOf (now (last .entry)) root v)) (now (marks .entry)) (now (marks .exit)) ⌝ }
+{
+    let mut path = [0u16; 256];
+    let r = path_back(last, root, v, &mut path);
+    mark_edges(&path[..r], marks);
+}
+
+// The marked edges in order, kept where their ends are not yet joined, written to the front of the array by rising number. Says how many.
+fn keep_risen(b: &[u8], order: &[u16], marks: &[u8], tree: &mut [u16]) -> usize
+    requires { ⌜ TreeAsked (now b) (now order) (now tree) ⌝ }
+    ensures { λ r. ⌜ TreeKept (graphOf (now (b .entry))) (now (marks .entry)) (now (tree .entry)) (now (tree .exit)) r ⌝ }
+{
+    let r = keep_union(b, order, marks, tree);
+    rise_edges(&mut tree[..r]);
+    r
+}
