@@ -13,7 +13,7 @@ use Rattle.lists.specs.Segments.{segment}
 use Rattle.lists.specs.Sort.{rise}
 use Rattle.lists.proofs.Fronts.{put-slice, put-before}
 use Rattle.lists.proofs.NextPlace.{rest-next}
-use Rattle.lists.proofs.Put.{put-head, put-rest, put-length}
+use Rattle.lists.proofs.Put.{put-rest, put-length, put-fits, put-count, put-taken, put-dropped}
 use Rattle.lists.proofs.SegmentSizes.{slice-taken}
 use Rattle.lists.proofs.Segments.{segment-kept, segment-new, bounded-more}
 use Rattle.lists.proofs.Sorting.{sum-rise}
@@ -75,3 +75,16 @@ stored-more f a i x room so-far q =
 pub sum-next : (f : ℕ → ℕ) (xs : List ℕ) (i : ℕ) → i < length xs → sumOf f (drop i xs) ≡ f (getD xs i 0) + sumOf f (drop (i + 1) xs)
 unfolding sumOf
 sum-next f xs i h = rw (rest-next xs i h)
+
+-- The same at the front of the array.
+pub front-then-risen : {r : ℕ} {xs ys a b : List ℕ} → PutTo 0 xs a b r → ys ≡ rise (take r b) → PutTo 0 (rise xs) a (ys ++ drop r b) r
+front-then-risen {r} {xs} {ys} {a} {b} p q =
+    let size = rise-length xs in
+    let fits = put-fits p in
+    let count = put-count p in
+    let place : r ≡ 0 + length (rise xs) = omega arith in
+    let rest : drop r b ≡ drop (0 + length (rise xs)) a = put-dropped p ∙ ap (λ n. drop n a) place in
+    record {
+      put = record { room = omega arith; is = rw (q, put-taken p, rest) };
+      behind = place;
+    }

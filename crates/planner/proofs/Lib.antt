@@ -31,3 +31,5 @@ pub mod ChosenLaid
 pub mod MarkedPieces
 -- a placed deficient set may be written, and what is written is the answer
 pub mod TooLowPlaced
+-- marking the edges of a list that is known by another name
+pub mod TreeMarks

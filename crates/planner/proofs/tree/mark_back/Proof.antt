@@ -1,38 +1,32 @@
+-- `planner::tree::mark_back` meets its contract. Assumes nothing.
+use mathlib.Core.Path.{sym, ap, _∙_}
+use lib.ListN.{length}
 use borrow.Author.Needs.{needs}
+use Rattle.lists.proofs.Put.{put-taken, put-count}
+use Rattle.planner.proofs.TreeMarks.{each-below, marked-named}
 use Rattle.planner.proofs.tree.mark_back.Statement.{statement}
 use Rattle.planner.proofs.tree.mark_back.Tie as tie
-use Rattle.planner.proofs.tree.mark_back.Reads as reads
-use Rattle.planner.proofs.tree.mark_back.Lts as lts
-use Rattle.distance.proofs.path_back.Reads as path-back-reads
-use Rattle.planner.proofs.union.mark_edges.Reads as mark-edges-reads
 
--- src/tree.rt:50:38
 slice-aggregate-path-back : tie.Need-slice-aggregate-path-back
 slice-aggregate-path-back c = search needs
 
--- src/tree.rt:50:9
 path-back-requires : tie.Need-path-back-requires
 path-back-requires c κs = search needs
 
--- src/tree.rt:51:16
 array-share-prefix-path : tie.Need-array-share-prefix-path
 array-share-prefix-path c = search needs
 
--- src/tree.rt:51:16
 slice-aggregate-mark-edges : tie.Need-slice-aggregate-mark-edges
-slice-aggregate-mark-edges c = ?
+slice-aggregate-mark-edges c = let p = c .before .before in put-count (p .path-back .ensures) ∙ sym (ap length (put-taken (p .path-back .ensures)))
 
--- src/tree.rt:51:5
 mark-edges-requires : tie.Need-mark-edges-requires
-mark-edges-requires c κs = ?
+mark-edges-requires c κs = let p = c .before .before .before in each-below (put-taken (p .path-back .ensures)) (p .before .before .before .before .pre .marks)
 
--- src/tree.rt:45:1
 same-length : tie.Need-same-length
 same-length c = search needs
 
--- src/tree.rt:45:1
 returns : tie.Need-returns
-returns c = ?
+returns c = let m = c .before .before in marked-named (put-taken (m .before .before .before .before .path-back .ensures)) (m .mark-edges .ensures)
 
 pub mark-back-spec : {M : Type 1} → statement M
 mark-back-spec =

@@ -1,45 +1,56 @@
+-- `planner::tree::place_with` meets its contract. The loop's invariant: the byte stands at no place before i. The measure is how many
+-- places are left. Assumes nothing.
+use Prim.Native.Nat.{ℕ, _-_, _≤_, _<_}
+use mathlib.Core.Path.{_≡_}
+use native.Mathlib.Omega.{arith}
+use lib.ListN.{getD}
+use borrow.Author.Count.{below-more}
+use borrow.Author.Needs.{needs}
 use Rattle.planner.proofs.tree.place_with.Statement.{statement}
 use Rattle.planner.proofs.tree.place_with.Tie as tie
-use Rattle.planner.proofs.tree.place_with.Reads as reads
-use Rattle.planner.proofs.tree.place_with.Lts as lts
 
 abbrev Inv-loop : tie.InvT-loop
-Inv-loop bytes bound j i₀ i = ?
+Inv-loop bytes bound j i₀ i =
+    record {
+      within : i ≤ bound;
+      earlier : (h : ℕ) → h < i → getD bytes h 0 ≡ j → ⊥;
+    }
 
 abbrev μ-loop : tie.MeasureT-loop
-μ-loop bytes bound j i₀ i = ?
+μ-loop bytes bound j i₀ i = bound - i
 
--- src/tree.rt:27:5
 loop-holds : tie.Need-loop-holds Inv-loop μ-loop
-loop-holds c = ?
+loop-holds c = record { within = omega arith; earlier = λ h l. absurd (omega arith) }
 
--- src/tree.rt:28:12
 shared-slice-read-if1 : tie.Need-shared-slice-read-if1 Inv-loop μ-loop
-shared-slice-read-if1 c = ?
+shared-slice-read-if1 c = search needs
 
--- src/tree.rt:28:12
 cast-if1 : tie.Need-cast-if1 Inv-loop μ-loop
-cast-if1 c = ?
+cast-if1 c = omega (arith, c .shared-slice-known .given (c .before .before .loop .i))
 
--- src/tree.rt:29:13
 returns : tie.Need-returns Inv-loop μ-loop
-returns c = ?
+returns c = let l = c .before .before .before in record { within = l .loop .inv .within; earlier = l .loop .inv .earlier; here = λ h. c .if1 .taken }
 
--- src/tree.rt:31:9
 add-i : tie.Need-add-i Inv-loop μ-loop
-add-i c = ?
+add-i c = search needs
 
--- src/tree.rt:27:5
 loop-less : tie.Need-loop-less Inv-loop μ-loop
-loop-less c = ?
+loop-less c = search needs
 
--- src/tree.rt:27:5
 loop-again : tie.Need-loop-again Inv-loop μ-loop
-loop-again c = ?
+loop-again c =
+    let l = c .before .before .before in
+    let a = l .before .args in
+    record {
+      within = omega (arith, c .before .before .loop-test .taken);
+      earlier = below-more (λ h. getD (a .bytes .now) h 0 ≡ a .j → ⊥) (l .loop .i) (l .loop .inv .earlier) (λ q. c .if1 .left q);
+    }
 
--- src/tree.rt:22:1
 returns-2 : tie.Need-returns-2 Inv-loop μ-loop
-returns-2 c = ?
+returns-2 c =
+    let l = c .before in
+    let a = l .before .args in
+    record { within = omega arith; earlier = λ i h. l .loop .inv .earlier i (omega (arith, c .loop-test .left)); here = λ h. absurd (omega arith) }
 
 pub place-with-spec : {M : Type 1} → statement M
 place-with-spec =

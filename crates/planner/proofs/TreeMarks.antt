@@ -1,0 +1,16 @@
+-- Marking the edges of a list that is known by another name.
+-- Assumes nothing.
+use Prim.Native.Nat.{ℕ, _<_}
+use mathlib.Core.Path.{_≡_}
+use mathlib.Core.List.{List}
+use Rattle.lists.specs.Lists.{member}
+use Rattle.lists.specs.Member.{_∈_}
+use Rattle.lists.proofs.Places.{at-place}
+use Rattle.planner.specs.Near.{Marked}
+use Rattle.planner.specs.Union.{EachBelow}
+
+pub each-below : {n : ℕ} {xs ys : List ℕ} → xs ≡ ys → ((e : ℕ) → e ∈ ys → e < n) → EachBelow n xs
+each-below {n} {xs} {ys} q f = rw q (record { each = λ i h. f _ (at-place 0 ys i h) })
+
+pub marked-named : {xs ys a b : List ℕ} → xs ≡ ys → Marked (λ e. member e xs) a b → Marked (λ e. member e ys) a b
+marked-named q m = rw q at m
