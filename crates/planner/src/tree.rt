@@ -16,7 +16,7 @@ ghost use Rattle.lists.specs.Segments.{segment};
 ghost use Rattle.graph.specs.Bytes.{graphOf};
 ghost use Rattle.distance.specs.Trail.{trailOf};
 ghost use Rattle.planner.specs.Near.{Marked};
-ghost use Rattle.planner.specs.Tree.{FirstWith, PieceGiven, BackGiven, TreeAsked, TreeKept};
+ghost use Rattle.planner.specs.Tree.{FirstWith, PieceGiven, BackGiven, TreeAsked, TreeKept, ReachGiven, ReachMarked, AssignedGiven, AssignedMarked};
 
 // The first place below a bound where the byte stands; the bound where there is none.
 fn place_with(bytes: &[u8], bound: usize, j: usize) -> usize
@@ -59,4 +59,63 @@ fn keep_risen(b: &[u8], order: &[u16], marks: &[u8], tree: &mut [u16]) -> usize
     let r = keep_union(b, order, marks, tree);
     rise_edges(&mut tree[..r]);
     r
+}
+
+// Marks the edges of a part, and of the path from its vertex nearest to root j back to the root.
+fn mark_reach(
+    b: &[u8],
+    table: &[u32],
+    last: &[u32],
+    k: usize,
+    j: usize,
+    root: usize,
+    start: usize,
+    edges: &[u16],
+    marks: &mut [u8],
+)
+    requires { ⌜ ReachGiven (now b) (now table) (now last) k j root start (now edges) (length (now marks)) ⌝ }
+    ensures { λ _. ⌜ ReachMarked (graphOf (now (b .entry))) (now (table .entry)) (now (last .entry)) k j root start (now (edges .entry))
+        (now (marks .entry)) (now (marks .exit)) ⌝ }
+{
+    let v = nearest_vertex(b, table, k, j, start, edges);
+    mark_edges(edges, marks);
+    mark_back(last, root, v, marks);
+}
+
+// Marks the edges of the part that root j has, if it has one, and of the path to it.
+fn mark_assigned(
+    b: &[u8],
+    table: &[u32],
+    last: &[u32],
+    root: usize,
+    starts: &[u16],
+    cuts: &[u16],
+    flat: &[u16],
+    places: &[u16],
+    out: &[u8],
+    k: usize,
+    j: usize,
+    marks: &mut [u8],
+)
+    requires { ⌜ AssignedGiven (now b) (now table) (now last) root (now starts) (now cuts) (now flat) (now places) (now out) k j (length (now marks)) ⌝ }
+    ensures { λ _. ⌜ AssignedMarked (graphOf (now (b .entry))) (now (table .entry)) (now (last .entry)) root (now (starts .entry)) (now (cuts .entry)) (now (flat .entry))
+        (now (places .entry)) (now (out .entry)) k j (now (marks .entry)) (now (marks .exit)) ⌝ }
+{
+    let i = place_with(out, places.len(), j);
+    if places.len() <= i {
+        return;
+    }
+    let c = places[i];
+    let start = wide(element_at(starts, wide(c)));
+    mark_reach(
+        b,
+        table,
+        last,
+        k,
+        j,
+        root,
+        start,
+        piece_edges(cuts, flat, c),
+        marks,
+    );
 }
