@@ -33,3 +33,5 @@ pub mod MarkedPieces
 pub mod TooLowPlaced
 -- marking the edges of a list that is known by another name
 pub mod TreeMarks
+-- the edges kept for a root are those of its union's tree
+pub mod RootUnion

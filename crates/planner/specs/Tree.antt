@@ -2,7 +2,7 @@
 -- Assumes nothing.
 use Prim.Native.Nat.{ℕ, _≤_, _<_}
 use mathlib.Core.Path.{_≡_}
-use mathlib.Core.List.{List, _++_}
+use mathlib.Core.List.{List, [], _++_}
 use lib.ListN.{length, getD}
 use Rattle.lists.specs.Lists.{filter, member}
 use Rattle.lists.specs.Member.{_∈_}
@@ -16,6 +16,7 @@ use Rattle.matching.specs.Assignment.{marked}
 use Rattle.rules.specs.Order.{ordered}
 use Rattle.rules.specs.Labels.{apart}
 use Rattle.rules.specs.Forest.{keep}
+use Rattle.rules.specs.RootedTrial.{unionTree}
 use Rattle.distance.specs.Trail.{trailOf, CanGoBack}
 use Rattle.cover.specs.Chosen.{IsHeld, AllHeld}
 use Rattle.planner.specs.Near.{Marked, treeOf}
@@ -75,3 +76,24 @@ pub data AssignedMarked (g : Graph) (table last : List ℕ) (root : ℕ) (starts
   somebody : (i : ℕ) → i < length places → FirstWith out (length places) j i
       → ReachMarked g table last k j root (getD starts (getD places i 0) 0) (segment cuts flat (getD places i 0)) before after
       → AssignedMarked g table last root starts cuts flat places out k j before after
+
+-- What a root's tree asks: the graph and its order, a piece left at the root, and parts that may be marked.
+pub record RootGiven (b order table last : List ℕ) (root : ℕ) (starts cuts flat : List ℕ) (left : ℕ) (places out : List ℕ) (k j : ℕ) (tree : List ℕ) : Type 0 where
+  pub asked : TreeAsked b order tree
+  pub piece : PieceGiven cuts flat left 2048
+  pub assigned : AssignedGiven b table last root starts cuts flat places out k j 2048
+
+-- The edges of root j's part and of a path back from one of its nearest vertices; none where j stands at no place.
+pub data AssignedAre (g : Graph) (table last : List ℕ) (root : ℕ) (starts cuts flat places out : List ℕ) (k j : ℕ) (edges : List ℕ) : Type 0 where
+  none : ((i : ℕ) → i < length places → getD out i 0 ≡ j → ⊥) → edges ≡ [] → AssignedAre g table last root starts cuts flat places out k j edges
+  part : (i v : ℕ) → i < length places → FirstWith out (length places) j i
+      → Nearest g table k j (treeOf (getD starts (getD places i 0) 0) (segment cuts flat (getD places i 0))) v
+      → edges ≡ segment cuts flat (getD places i 0) ++ trailOf last root v → AssignedAre g table last root starts cuts flat places out k j edges
+
+-- The tree of the union was written.
+pub record RootWritten (g : Graph) (table last : List ℕ) (root : ℕ) (starts cuts flat : List ℕ) (left : ℕ) (places out : List ℕ) (k j : ℕ)
+    (before after : List ℕ) (r : ℕ) : Type 0 where
+  pub edges : List ℕ
+  pub assigned : AssignedAre g table last root starts cuts flat places out k j edges
+  pub written : PutTo 0 (unionTree g root (edges ++ segment cuts flat left) .edges) before after r
+  pub fewer : r < g .vertices

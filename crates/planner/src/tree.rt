@@ -16,7 +16,7 @@ ghost use Rattle.lists.specs.Segments.{segment};
 ghost use Rattle.graph.specs.Bytes.{graphOf};
 ghost use Rattle.distance.specs.Trail.{trailOf};
 ghost use Rattle.planner.specs.Near.{Marked};
-ghost use Rattle.planner.specs.Tree.{FirstWith, PieceGiven, BackGiven, TreeAsked, TreeKept, ReachGiven, ReachMarked, AssignedGiven, AssignedMarked};
+ghost use Rattle.planner.specs.Tree.{FirstWith, PieceGiven, BackGiven, TreeAsked, TreeKept, ReachGiven, ReachMarked, AssignedGiven, AssignedMarked, RootGiven, RootWritten};
 
 // The first place below a bound where the byte stands; the bound where there is none.
 fn place_with(bytes: &[u8], bound: usize, j: usize) -> usize
@@ -118,4 +118,45 @@ fn mark_assigned(
         piece_edges(cuts, flat, c),
         marks,
     );
+}
+
+// The edges of root j's tree, written by rising number to the front of the array: of its part if it has one, a shortest path to it, and the
+// piece left at the root. Says how many.
+pub fn rooted_tree(
+    b: &[u8],
+    order: &[u16],
+    table: &[u32],
+    last: &[u32],
+    root: usize,
+    starts: &[u16],
+    cuts: &[u16],
+    flat: &[u16],
+    left: u16,
+    places: &[u16],
+    out: &[u8],
+    k: usize,
+    j: usize,
+    tree: &mut [u16],
+) -> usize
+    requires { ⌜ RootGiven (now b) (now order) (now table) (now last) root (now starts) (now cuts) (now flat) left (now places) (now out) k j (now tree) ⌝ }
+    ensures { λ r. ⌜ RootWritten (graphOf (now (b .entry))) (now (table .entry)) (now (last .entry)) root (now (starts .entry)) (now (cuts .entry)) (now (flat .entry)) left
+        (now (places .entry)) (now (out .entry)) k j (now (tree .entry)) (now (tree .exit)) r ⌝ }
+{
+    let mut marks = [0u8; 2048];
+    mark_piece(cuts, flat, left, &mut marks);
+    mark_assigned(
+        b,
+        table,
+        last,
+        root,
+        starts,
+        cuts,
+        flat,
+        places,
+        out,
+        k,
+        j,
+        &mut marks,
+    );
+    keep_risen(b, order, &marks, tree)
 }
