@@ -35,3 +35,5 @@ pub mod TooLowPlaced
 pub mod TreeMarks
 -- the edges kept for a root are those of its union's tree
 pub mod RootUnion
+-- the path marked for a part is a shortest one
+pub mod RootPath
