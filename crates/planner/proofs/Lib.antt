@@ -39,3 +39,17 @@ pub mod NearMeansMayGo
 pub mod SameTests
 -- pieces, rows and assignment together
 pub mod PartsAssembled
+-- lists laid one after the other into one array
+pub mod LaidLists
+-- chosen pieces laid out, in order, and written
+pub mod ChosenLaid
+-- the pieces of the marked parts
+pub mod MarkedPieces
+-- a placed deficient set may be written, and what is written is the answer
+pub mod TooLowPlaced
+-- marking the edges of a list that is known by another name
+pub mod TreeMarks
+-- the edges kept for a root are those of its union's tree
+pub mod RootUnion
+-- the path marked for a part is a shortest one
+pub mod RootPath

@@ -41,3 +41,10 @@ module _ (g : Graph) (root : ℕ) (union marks : List ℕ) where
   pub union-written : ((e : ℕ) → e < edgeCount g → getD marks e 0 ≡ cond (member e union) 1 0)
       → {before after : List ℕ} {r : ℕ} → UnionKept g (ordered g) marks before after r → rise (take r after) ≡ unionTree g root union .edges
   union-written q k = ap rise (put-taken (k .kept)) ∙ union-edges q
+
+-- A union's tree depends only on which edges are in the union.
+pub union-same : (g : Graph) (root : ℕ) (xs ys : List ℕ) → ((e : ℕ) → member e xs ≡ member e ys) → unionTree g root xs ≡ unionTree g root ys
+unfolding unionTree
+union-same g root xs ys q =
+    ap (λ l. record { start = root; edges = rise (keep g apart l) })
+    (filter-same (λ e. member e xs) (λ e. member e ys) (ordered g) (λ e m. q e))

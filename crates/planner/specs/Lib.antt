@@ -21,3 +21,9 @@ pub mod Deficient
 pub mod Needs
 -- trees in order of their keys
 pub mod Chosen
+-- lists of edges held one after the other
+pub mod Pieces
+-- the parts of a deficient set, written
+pub mod TooLowParts
+-- the tree of one root
+pub mod Tree

@@ -8,5 +8,8 @@ pub mod needs;
 pub mod parts;
 pub mod places;
 pub mod table;
+pub mod pieces;
+pub mod too_low_parts;
+pub mod tree;
 pub mod union;
 pub mod whole;

@@ -1,0 +1,18 @@
+-- Lists of edges held one after the other in one array.
+-- Assumes nothing.
+use Prim.Native.Nat.{ℕ, _≤_, _<_}
+use mathlib.Core.Path.{_≡_}
+use mathlib.Core.List.{List}
+use lib.ListN.{length}
+use Rattle.lists.specs.Segments.{segment, Bounded}
+
+-- What numbering k trees asks: their numbers fit an index array, and there is room.
+pub record NumbersAsked (k room : ℕ) : Type 0 where
+  pub few : k ≤ 65536
+  pub fits : k ≤ room
+
+-- The first i lists are laid: they take up the array's elements before `used`.
+pub record Laid (lists : ℕ → List ℕ) (i used : ℕ) (bounds flat : List ℕ) : Type 0 where
+  pub bounded : Bounded bounds i used
+  pub inside : used ≤ length flat
+  pub are : (h : ℕ) → h < i → segment bounds flat h ≡ lists h
