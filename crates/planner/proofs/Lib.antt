@@ -23,3 +23,5 @@ pub mod ComponentsLabelled
 pub mod Insertion
 -- sorting by images, and by an array of keys
 pub mod SortedImages
+-- the lowest vertex of a tree, edge by edge; edges that rise, starts and keys, piece by piece
+pub mod ComponentPieces

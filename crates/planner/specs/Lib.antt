@@ -15,3 +15,5 @@ pub mod Deficient
 pub mod Needs
 -- trees in order of their keys
 pub mod Chosen
+-- the pieces of the components as trees
+pub mod Components
