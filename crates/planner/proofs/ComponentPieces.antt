@@ -105,7 +105,7 @@ module _ (cuts edges : List ℕ) (start i : ℕ) where
       ∙ List·getD-eq-default (take (getD cuts (i + 1) 0) edges) 0 (omega (arith, length-take (getD cuts (i + 1) 0) edges))
 
 -- Rising edges are as many.
-length-rise : (l : List ℕ) → length (rise l) ≡ length l
+pub length-rise : (l : List ℕ) → length (rise l) ≡ length l
 length-rise l = length-sum (rise l) ∙ sum-rise (λ _. 1) l ∙ sym (length-sum l)
 
 -- A list put into an array: parts of the array before it, in it and behind it.

@@ -25,3 +25,5 @@ pub mod Insertion
 pub mod SortedImages
 -- the lowest vertex of a tree, edge by edge; edges that rise, starts and keys, piece by piece
 pub mod ComponentPieces
+-- the numbers of an answer's trees among the pieces, and what stands at them
+pub mod TreesPlaced

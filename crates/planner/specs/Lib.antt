@@ -17,3 +17,5 @@ pub mod Needs
 pub mod Chosen
 -- the pieces of the components as trees
 pub mod Components
+-- the numbers of an answer's trees among the pieces
+pub mod TreePlaces

@@ -6,5 +6,6 @@ pub mod deficient;
 pub mod near;
 pub mod nearest;
 pub mod needs;
+pub mod tree_places;
 pub mod union;
 pub mod whole;
