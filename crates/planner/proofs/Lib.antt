@@ -27,3 +27,9 @@ pub mod SortedImages
 pub mod ComponentPieces
 -- the numbers of an answer's trees among the pieces, and what stands at them
 pub mod TreesPlaced
+-- the components' trees are split as the rules say
+pub mod ComponentsSplit
+-- the steps of the trial without roots, put together
+pub mod UnrootedAnswer
+-- the chosen trees are the answer's
+pub mod AnswerTrees

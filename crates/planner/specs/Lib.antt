@@ -19,3 +19,5 @@ pub mod Chosen
 pub mod Components
 -- the numbers of an answer's trees among the pieces
 pub mod TreePlaces
+-- the trial at a limit for crews without roots
+pub mod Unrooted

@@ -8,4 +8,5 @@ pub mod nearest;
 pub mod needs;
 pub mod tree_places;
 pub mod union;
+pub mod unrooted;
 pub mod whole;
