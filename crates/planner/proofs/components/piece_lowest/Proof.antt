@@ -51,7 +51,8 @@ returns : tie.Need-returns
 returns c =
     let w = c .before .before .before in
     let v = w .before .before in
-    let s = v .before .before .before .before .before in
+    let d = v .before .before .before in
+    let s = d .before .before in
     part-lowest (s .args .cuts .now) (s .args .flat .now) (s .args .i) (s .pre .held) (v .wide .ensures .is) (w .wide2 .ensures .is)
     (graphOf (s .args .b .now)) (c .before .before .wide3 .ensures .is) (c .lowest-vertex .ensures)
 

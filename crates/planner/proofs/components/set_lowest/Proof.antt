@@ -32,7 +32,8 @@ slice-read-piece-lowest c = search needs
 piece-lowest-requires : tie.Need-piece-lowest-requires Inv-loop μ-loop
 piece-lowest-requires c κs =
     let t = c .before in
-    let s = t .before .before .before .before .before .before in
+    let l = t .before .before .before in
+    let s = l .before .before .before in
     let p = s .pre .pieces in
     record { cut = omega (arith, p .cut); held = p .held (t .before .loop .i) (t .loop-test .taken) }
 
@@ -52,7 +53,8 @@ loop-again : tie.Need-loop-again Inv-loop μ-loop
 loop-again c =
     let l = c .before .before .before in
     let u = l .loop .inv .1 in
-    let s = l .before .before .before .before .before in
+    let d = l .before .before .before in
+    let s = d .before .before in
     let same = u .rest (l .loop .i) (omega arith) in (
       omega arith,
       set-more u (omega (arith, u .size))

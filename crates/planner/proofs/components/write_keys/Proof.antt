@@ -30,7 +30,8 @@ shared-slice-read-piece-key c = search needs
 piece-key-requires : tie.Need-piece-key-requires Inv-loop μ-loop
 piece-key-requires c κs =
     let t = c .before in
-    let s = t .before .before .before .before .before .before in
+    let l = t .before .before .before in
+    let s = l .before .before .before in
     let p = s .pre .given .pieces in
     record { cut = omega (arith, p .cut); held = p .held (t .before .loop .i) (t .loop-test .taken) }
 
