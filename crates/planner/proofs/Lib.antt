@@ -53,3 +53,13 @@ pub mod TreeMarks
 pub mod RootUnion
 -- the path marked for a part is a shortest one
 pub mod RootPath
+-- the lowest vertex of a tree, edge by edge; edges that rise, starts and keys, piece by piece
+pub mod ComponentPieces
+-- the numbers of an answer's trees among the pieces, and what stands at them
+pub mod TreesPlaced
+-- the components' trees are split as the rules say
+pub mod ComponentsSplit
+-- the steps of the trial without roots, put together
+pub mod UnrootedAnswer
+-- the chosen trees are the answer's
+pub mod AnswerTrees

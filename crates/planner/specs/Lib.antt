@@ -27,3 +27,9 @@ pub mod Pieces
 pub mod TooLowParts
 -- the tree of one root
 pub mod Tree
+-- the pieces of the components as trees
+pub mod Components
+-- the numbers of an answer's trees among the pieces
+pub mod TreePlaces
+-- the trial at a limit for crews without roots
+pub mod Unrooted
