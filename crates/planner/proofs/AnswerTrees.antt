@@ -20,7 +20,7 @@ use Rattle.lists.proofs.Below.{of-from}
 use Rattle.lists.proofs.Runs.{length-from, map-same}
 use Rattle.lists.proofs.SegmentSizes.{segment-length}
 use Rattle.lists.proofs.Sorting.{in-sort, of-sort}
-use Rattle.lists.proofs.Stores.{at-place-in}
+use Rattle.lists.proofs.Places.{at-place}
 use Rattle.graph.specs.Graph.{Graph, edgeCount}
 use Rattle.graph.specs.Valid.{Valid}
 use Rattle.rules.specs.Cover.{Tree, IsTree}
@@ -43,7 +43,7 @@ use Rattle.planner.specs.declared.unrooted.Split.{Split}
 use Rattle.planner.proofs.ComponentPieces.{length-rise}
 use Rattle.planner.proofs.SortedImages.{sort-same, sorted-by-keys}
 use Rattle.planner.proofs.TreesPlaced.{Sized, end-most, trees-placed, map-flat}
-use Rattle.planner.proofs.UnrootedAnswer.{length-sort}
+use Rattle.planner.proofs.ChosenLaid.{sort-length}
 
 -- Keys compare as start, then smallest edge, where two bytes hold the edges.
 key-order : (s t x y : ℕ) → x < 65536 → y < 65536 → leb (s * 65536 + x) (t * 65536 + y) ≡ (ltb s t || (eqb s t && leb x y))
@@ -151,13 +151,13 @@ module _ {g : Graph} {limit : ℕ} {starts cuts edges lefts : List ℕ} {s : Spl
   pub places-count : length places ≡ length (unrootedTrees g limit)
   unfolding unrootedTrees
   places-count =
-      sym (length-sort startsBefore unordered ∙ ap length unordered-are ∙ length-map (map piece places) (fromLowest g) ∙ length-map places piece)
+      sym (sort-length startsBefore unordered ∙ ap length unordered-are ∙ length-map (map piece places) (fromLowest g) ∙ length-map places piece)
 
   -- Room for 32 numbers is enough.
   pub places-asked : {chosen : List ℕ} → needed g limit ≤ 32 → 32 ≤ length chosen → PlacesAsked own cuts chosen
   places-asked few room =
       record {
-        cut = λ j h. omega (arith, left-inside (getD own j 0) (at-place-in 0 own j h), c .given .pieces .cut);
+        cut = λ j h. omega (arith, left-inside (getD own j 0) (at-place 0 own j h), c .given .pieces .cut);
         room = omega (arith, places-count, unrooted-few g limit);
       }
 

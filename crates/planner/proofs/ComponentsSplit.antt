@@ -8,7 +8,7 @@ use lib.ListN.{length, getD, take}
 use Rattle.lists.specs.Member.{_∈_}
 use Rattle.lists.specs.Sort.{rise}
 use Rattle.lists.proofs.Put.{put-count, put-taken, put-fits, put-length, only-first-length}
-use Rattle.lists.proofs.Stores.{at-place-in}
+use Rattle.lists.proofs.Places.{at-place}
 use Rattle.graph.specs.Graph.{Graph, edgeCount}
 use Rattle.graph.specs.Bytes.{graphOf}
 use Rattle.rules.specs.Labels.{apart}
@@ -54,7 +54,7 @@ module _ {b edges : List ℕ} {limit : ℕ} {starts cuts flat lefts roots₀ roo
         around = rw q (p .around .sound);
         roots-inside =
             λ j h.
-            rw roots-are (omega (arith, q, lowest-inside g (labelsAt g apart limit) (at-place-in 0 lows j (omega (arith, count, roots-count)))));
+            rw roots-are (omega (arith, q, lowest-inside g (labelsAt g apart limit) (at-place 0 lows j (omega (arith, count, roots-count)))));
         roots-few = omega (arith, count, w .few, q, small);
         starts-room = omega (arith, count, w .few, q, small, a .starts-room);
         cuts-room = omega (arith, count, w .few, q, small, a .cuts-room);

@@ -36,7 +36,7 @@ pub mod NotRefused
 -- the rows of marks say which root a part may go to
 pub mod NearMeansMayGo
 -- assignments by tests that agree
-pub mod SameTests
+pub mod AssignmentsAlike
 -- pieces, rows and assignment together
 pub mod PartsAssembled
 -- lists laid one after the other into one array

@@ -24,7 +24,7 @@ use Rattle.planner.specs.Placed.{trialArrays, PartsPlaced}
 use Rattle.planner.specs.Parts.{PieceArrays, PiecesPlaced, PartsAsked, AssignAsked, AssignDone}
 use Rattle.planner.proofs.RowPlaces.{place-within}
 use Rattle.planner.proofs.NearMeansMayGo.{row-says, marks-small}
-use Rattle.planner.proofs.SameTests.{assignment-same, deficient-same, assignable-same}
+use Rattle.planner.proofs.AssignmentsAlike.{assignment-same, deficient-same, assignable-same}
 
 module _ {b roots : List ℕ} {limit : ℕ} {bounds arcs table : List ℕ} {a : PieceArrays} {rows out : List ℕ}
     (asked : PartsAsked (graphOf b) b roots limit bounds arcs table a rows out) {z : PieceArrays} {p : ℕ} (placed : PiecesPlaced (graphOf b) roots limit z p) where

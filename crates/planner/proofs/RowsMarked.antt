@@ -12,19 +12,15 @@ use lib.Seq.{getD-drop, getD-take, drop-drop, take-at, drop-at, length-take-le, 
 use Rattle.lists.proofs.AfterStore.{at-or-not}
 use Rattle.lists.proofs.OnlyFirst.{is-only-first}
 use Rattle.planner.specs.Near.{Marked, RowsMarked}
-use Rattle.planner.proofs.RowMarks.{part-at}
+use Rattle.planner.proofs.RowMarks.{part-at, row-room}
 
 -- The place behind a row.
 pub row-behind : (i k : ℕ) → i * k + k ≡ (i + 1) * k
 row-behind i k = rw add-one (omega (arith, suc-mul i k))
 
--- A row's end is within the array.
-pub row-within : (i n k size : ℕ) → i < n → n * k ≤ size → i * k + k ≤ size
-row-within i n k size h room = omega (arith, suc-mul i k, mul-le-mul-right k h)
-
 -- The row before another ends where that begins, or earlier.
 pub row-before : (h i k : ℕ) → h < i → h * k + k ≤ i * k
-row-before h i k l = row-within h i k (i * k) l (omega arith)
+row-before h i k l = row-room h i k (i * k) l (omega arith)
 
 module _ {A : Type 0} where
   -- A part of an array was replaced by a list as long: its elements, those before and those behind.

@@ -18,11 +18,8 @@ use Rattle.planner.specs.Chosen.{byKey}
 use Rattle.planner.specs.Components.{PiecesGiven, SegmentsRisen, LowestSet, KeysWritten}
 use Rattle.planner.specs.TreePlaces.{treePlaces}
 use Rattle.planner.specs.Unrooted.{TreesOrdered}
+use Rattle.planner.proofs.ChosenLaid.{sort-length}
 use Rattle.planner.proofs.ComponentPieces.{length-rise}
-
--- Sorted lists are as long.
-pub length-sort : {A : Type 0} (le : A → A → Bool) (xs : List A) → length (sortBy le xs) ≡ length xs
-length-sort le xs = length-sum (sortBy le xs) ∙ sum-sort le (λ _. 1) xs ∙ sym (length-sum xs)
 
 -- The same pieces, in arrays that are as long.
 pub given-on : {starts other cuts flat flat′ : List ℕ} {k : ℕ} → PiecesGiven starts cuts flat k → length flat′ ≡ length flat → k ≤ length other → PiecesGiven other cuts flat′ k
@@ -44,7 +41,7 @@ pub trees-ordered : {g : Graph} {pieces : ℕ} {lefts starts₀ starts₁ cuts f
 trees-ordered {lefts = lefts} {cuts = cuts} {keys = keys} {mid = mid} {last = last} {t = t} risen low keyed put sorted =
     let places : List ℕ = treePlaces cuts 0 lefts in
     let is : last ≡ sortBy (byKey keys) places = sorted ∙ ap (sortBy (byKey keys)) (put-taken put) in
-    let size : length last ≡ t = ap length is ∙ length-sort (byKey keys) places ∙ sym (put-count put) in
+    let size : length last ≡ t = ap length is ∙ sort-length (byKey keys) places ∙ sym (put-count put) in
     record {
       rising = risen;
       from-lowest = low;

@@ -10,7 +10,8 @@ use lib.ListN.{length, getD, take, drop, length-drop}
 use lib.Seq.{length-take-le}
 use Rattle.graph.specs.Bytes.{graphOf}
 use Rattle.planner.specs.Near.{nearTree, Marked, TreeGiven}
-use Rattle.planner.proofs.RowsMarked.{RowsMarking, rows-none, rows-put, rows-all, row-within}
+use Rattle.planner.proofs.RowMarks.{row-room}
+use Rattle.planner.proofs.RowsMarked.{RowsMarking, rows-none, rows-put, rows-all}
 use Rattle.planner.proofs.near.mark_parts.Statement.{statement}
 use Rattle.planner.proofs.near.mark_parts.Tie as tie
 
@@ -51,7 +52,7 @@ module _ (t : tie.In-loop Inv-loop μ-loop) where
   fits : i * k l + k l ≤ length (l .loop .rows)
   fits =
       let room : length (places l) * k l ≤ length (l .loop .rows) = omega (arith, s₀ l .pre .rows-room, l .loop .inv .1 .size) in
-      row-within i (length (places l)) (k l) _ (t .loop-test .taken) room
+      row-room i (length (places l)) (k l) _ (t .loop-test .taken) room
 
   size : i * k l + k l - i * k l ≡ k l
   size = omega arith

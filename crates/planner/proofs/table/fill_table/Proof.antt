@@ -8,7 +8,7 @@ use borrow.Author.Needs.{needs}
 use lib.ListN.{length, getD, take, drop, length-drop}
 use lib.Seq.{length-take-le}
 use Rattle.planner.specs.Table.{RootAsked, RootFilled}
-use Rattle.planner.proofs.RowsMarked.{row-within}
+use Rattle.planner.proofs.RowMarks.{row-room}
 use Rattle.planner.proofs.ColumnsWritten.{TableUnderway, table-none, table-put, table-all}
 use Rattle.planner.proofs.table.fill_table.Statement.{statement}
 use Rattle.planner.proofs.table.fill_table.Tie as tie
@@ -35,7 +35,7 @@ module _ (t : tie.In-loop Inv-loop μ-loop) where
 
   fits : j * n + n ≤ length (l .loop .lasts)
   fits =
-      row-within j (length (s .args .roots .now)) n _ (t .loop-test .taken) (omega (arith, s .pre .lasts-room, l .loop .inv .lasts-size))
+      row-room j (length (s .args .roots .now)) n _ (t .loop-test .taken) (omega (arith, s .pre .lasts-room, l .loop .inv .lasts-size))
 
   size : j * n + n - j * n ≡ n
   size = omega arith

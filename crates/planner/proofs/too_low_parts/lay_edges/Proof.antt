@@ -30,10 +30,14 @@ Inv-loop cuts flat chosen bounds₀ edges₀ at₀ i₀ bounds edges at i =
 abbrev μ-loop : tie.MeasureT-loop
 μ-loop cuts flat chosen bounds₀ edges₀ at₀ i₀ bounds edges at i = length chosen - i
 
+-- What came, from the head of the loop.
+abbrev came : tie.At-loop Inv-loop μ-loop → tie.Start Inv-loop μ-loop
+came l = l .before .before .before .before .before .before
+
 -- In a turn: the pieces that came, and piece i.
 module _ (t : tie.In-loop Inv-loop μ-loop) where
   abbrev s : tie.Start Inv-loop μ-loop
-  s = t .before .before .before .before .before .before .before
+  s = came (t .before)
 
   abbrev here : List ℕ
   here = segment (s .args .cuts .now) (s .args .flat .now) (getD (s .args .chosen .now) (t .before .loop .i) 0)
@@ -122,7 +126,7 @@ loop-again c =
 same-length : tie.Need-same-length Inv-loop μ-loop
 same-length c =
     let l = c .before in
-    let s = l .before .before .before .before .before .before in
+    let s = came l in
     l .loop .inv .bounds-size ∙ length-set (s .args .bounds .now) 0 0
 
 same-length-2 : tie.Need-same-length-2 Inv-loop μ-loop
@@ -131,7 +135,7 @@ same-length-2 c = c .before .loop .inv .edges-size
 returns : tie.Need-returns Inv-loop μ-loop
 returns c =
     let l = c .before in
-    let a = l .before .before .before .before .before .before .args in
+    let a = came l .args in
     let all : l .loop .i ≡ length (a .chosen .now) = omega (arith, l .loop .inv .within, c .loop-test .left) in
     let laid = rw all at (l .loop .inv .laid) in
     rw (laid .bounded .last) laid

@@ -27,13 +27,20 @@ laidStart e = e .before .before .before .before .before .before .before .before 
 abbrev start : tie.After-lay-edges → tie.Start
 start l = laidStart (l .before)
 
+-- Where the arrays are lent to take the keys, and to write: back to where the edges are laid, and where the numbers are in order.
+abbrev laidBefore : tie.After-keys → tie.After-lay-edges
+laidBefore k = k .before .before .before .before .before
+
+abbrev sortedBefore : tie.After-edges4 → tie.After-sort-chosen
+sortedBefore e = let lent = e .before .before .before in lent .before .before
+
 -- Where the pieces are numbered.
 module _ (u : tie.After-number-up) where
   abbrev keyed : tie.After-take-keys
   keyed = u .before .before .before
 
   abbrev laid : tie.After-lay-edges
-  laid = keyed .before .before .before .before .before .before
+  laid = laidBefore (keyed .before)
 
   abbrev chosen : List ℕ
   chosen = start laid .args .chosen .now
@@ -115,7 +122,7 @@ slice-aggregate-take-keys-3 c = search needs
 
 take-keys-requires : tie.Need-take-keys-requires
 take-keys-requires c κs =
-    let l = c .before .before .before .before .before in
+    let l = laidBefore c in
     let w = l .lay-edges .ensures in
     record { inside = λ i h. omega (arith, w .bounded .within (i + 1) (omega arith), w .inside); fits = omega (arith, start l .pre .few) }
 
@@ -147,14 +154,14 @@ slice-aggregate-write-cover-3 : tie.Need-slice-aggregate-write-cover-3
 slice-aggregate-write-cover-3 c = search needs
 
 array-share-prefix-numbers : tie.Need-array-share-prefix-numbers
-array-share-prefix-numbers c = let o = c .before .before .before .before .before in simp length-append (omega (arith, count o))
+array-share-prefix-numbers c = let o = sortedBefore c in simp length-append (omega (arith, count o))
 
 slice-aggregate-write-cover-4 : tie.Need-slice-aggregate-write-cover-4
-slice-aggregate-write-cover-4 c = let o = c .before .before .before .before .before .before in sym (ap length (take-at (sorted o) _ (t o) (count o)) ∙ count o)
+slice-aggregate-write-cover-4 c = let o = sortedBefore (c .before) in sym (ap length (take-at (sorted o) _ (t o) (count o)) ∙ count o)
 
 write-cover-requires : tie.Need-write-cover-requires
 write-cover-requires c κs =
-    let o = c .before .before .before .before .before .before in
+    let o = sortedBefore (c .before) in
     rw (front o _) (writable o)
 
 same-length : tie.Need-same-length
@@ -163,7 +170,7 @@ same-length c = search needs
 returns : tie.Need-returns
 returns c =
     let w = c .before .before in
-    let o = w .before .before .before .before .before .before .before in
+    let o = sortedBefore (w .before .before) in
     rw (in-order o) at (rw (front o _) at (w .write-cover .ensures))
 
 pub write-parts-spec : {M : Type 1} → statement M
