@@ -9,6 +9,7 @@ use lib.ListN.{length, take, length-take}
 use Rattle.lists.specs.Count.{count, anyBelow, below}
 use Rattle.lists.specs.Lists.{flat, sumOf}
 use Rattle.lists.specs.Segments.{segment}
+use Rattle.lists.proofs.Pigeonhole.{count-same}
 use Rattle.lists.proofs.Below.{of-below}
 use Rattle.lists.proofs.Chosen.{chosen-count}
 use Rattle.lists.proofs.SameTests.{filter-same, any-below-same}
@@ -26,10 +27,6 @@ use Rattle.planner.specs.declared.too_low_parts.Deficient.{Deficient}
 use Rattle.planner.specs.Placed.{TrialArrays, PartsPlaced}
 use Rattle.planner.specs.TooLowParts.{edgesOf, SetGiven, SetWritten, DeficientWritten}
 use Rattle.planner.proofs.LaidLists.{rise-length}
-
--- Tests that say the same of each number below n count the same.
-pub count-same : (n : ℕ) (f h : ℕ → Bool) → ((i : ℕ) → i < n → f i ≡ h i) → count n f ≡ count n h
-count-same n f h q = sym (chosen-count f n) ∙ ap length (filter-same f h (below n) (λ i m. q i (of-below n m))) ∙ chosen-count h n
 
 -- Pieces have as many edges as the trees that they are once their edges rise.
 pub risen-edges : (starts cuts flat chosen : List ℕ) → length (entryEdges (map risen (treesAt starts cuts flat chosen))) ≡ edgesOf cuts flat chosen
