@@ -1,0 +1,28 @@
+-- Lists of edges held one after the other in one array.
+-- Assumes nothing.
+use Prim.Native.Nat.{ℕ, _≤_, _<_}
+use mathlib.Core.Path.{_≡_}
+use mathlib.Core.List.{List, [], _∷_}
+use lib.ListN.{length}
+use Rattle.lists.specs.Segments.{segment, Bounded}
+use Rattle.graph.specs.Graph.{Graph, oneEnd, otherEnd}
+use Rattle.rules.specs.Cover.{Tree}
+
+-- What numbering k trees asks: their numbers fit an index array, and there is room.
+pub record NumbersAsked (k room : ℕ) : Type 0 where
+  pub few : k ≤ 65536
+  pub fits : k ≤ room
+
+-- The first i lists are laid: they take up the array's elements before `used`.
+pub record Laid (lists : ℕ → List ℕ) (i used : ℕ) (bounds flat : List ℕ) : Type 0 where
+  pub bounded : Bounded bounds i used
+  pub inside : used ≤ length flat
+  pub are : (h : ℕ) → h < i → segment bounds flat h ≡ lists h
+
+-- A tree by its start and its edges.
+abbrev pub treeOf : ℕ → List ℕ → Tree
+treeOf start edges = record { start = start; edges = edges }
+
+-- The ends of an edge.
+abbrev pub endsOf : Graph → ℕ → List ℕ
+endsOf g e = oneEnd g e ∷ otherEnd g e ∷ []

@@ -1,0 +1,70 @@
+// Lists of edges held one after the other in one array, cut by bounds: reading the list of a number, and putting one more behind the others.
+use forest::index::wide;
+use forest::order::rise_edges;
+ghost use mathlib.Core.Path.{_≡_};
+ghost use Prim.Native.Nat.{_+_, _≤_};
+ghost use lib.ListN.{length, getD};
+ghost use Rattle.lists.specs.Count.{below};
+ghost use Rattle.lists.specs.Put.{PutTo};
+ghost use Rattle.lists.specs.Segments.{segment};
+ghost use Rattle.lists.specs.Sort.{rise};
+ghost use Rattle.cover.specs.Chosen.{IsHeld};
+ghost use Rattle.pieces.specs.Pieces.{NumbersAsked};
+
+// The element at a place; 0 past the last.
+pub fn element_at(xs: &[u16], i: usize) -> u16
+    ensures { λ r. ⌜ r ≡ getD (now (xs .entry)) i 0 ⌝ }
+{
+    if xs.len() <= i {
+        return 0;
+    }
+    xs[i]
+}
+
+// The edges of piece c.
+pub fn piece_edges<'a>(cuts: &[u16], flat: &'a [u16], c: u16) -> &'a [u16]
+    requires { ⌜ IsHeld (now cuts) (now flat) c ⌝ }
+    ensures { λ r. ⌜ now r ≡ segment (now (cuts .entry)) (now (flat .entry)) c ⌝ }
+{
+    let at = wide(c);
+    let from = wide(element_at(cuts, at));
+    let to = wide(element_at(cuts, at + 1));
+    &flat[from..to]
+}
+
+// Puts the edges into the array from a place on, in their order. Says where they end.
+fn put_edges(edges: &[u16], out: &mut [u16], at: usize) -> usize
+    requires { ⌜ at + length (now edges) ≤ length (now out) ⌝ }
+    ensures { λ r. ⌜ PutTo at (now (edges .entry)) (now (out .entry)) (now (out .exit)) r ⌝ }
+{
+    let mut next = at;
+    let mut i = 0;
+    while i < edges.len() {
+        out[next] = edges[i];
+        next += 1;
+        i += 1;
+    }
+    next
+}
+
+// The same, from the smallest number to the largest.
+pub fn put_risen(edges: &[u16], out: &mut [u16], at: usize) -> usize
+    requires { ⌜ at + length (now edges) ≤ length (now out) ⌝ }
+    ensures { λ r. ⌜ PutTo at (rise (now (edges .entry))) (now (out .entry)) (now (out .exit)) r ⌝ }
+{
+    let end = put_edges(edges, out, at);
+    rise_edges(&mut out[at..end]);
+    end
+}
+
+// Writes the numbers 0 to k - 1 to the front of the array.
+pub fn number_up(k: usize, out: &mut [u16])
+    requires { ⌜ NumbersAsked k (length (now out)) ⌝ }
+    ensures { λ _. ⌜ PutTo 0 (below k) (now (out .entry)) (now (out .exit)) k ⌝ }
+{
+    let mut i = 0;
+    while i < k {
+        out[i] = i as u16;
+        i += 1;
+    }
+}

@@ -1,0 +1,39 @@
+-- Laws that belong to no one function, in reading order.
+-- where an element of a row stands
+pub mod RowPlaces
+-- rows of marks: one more root, one more vertex
+pub mod RowMarks
+-- a row of marks for each of several trees
+pub mod RowsMarked
+-- the nearest of vertices looked at one after the other
+pub mod NearestSoFar
+-- edges marked one after the other
+pub mod EdgeMarks
+-- the edges kept of a union are its tree's
+pub mod UnionEdges
+-- the places of the parts, between those of the leftovers
+pub mod PartsBetween
+-- the table of distances, column by column, and the rows of last edges
+pub mod ColumnsWritten
+-- the pieces of a rooted trial by their numbers
+pub mod PiecesByNumber
+-- an assignment asked as it must be
+pub mod NotRefused
+-- the rows of marks say which root a part may go to
+pub mod NearMeansMayGo
+-- assignments by tests that agree
+pub mod AssignmentsAlike
+-- pieces, rows and assignment together
+pub mod PartsAssembled
+-- chosen pieces laid out, in order, and written
+pub mod ChosenLaid
+-- the pieces of the marked parts
+pub mod MarkedPieces
+-- a placed deficient set may be written, and what is written is the answer
+pub mod TooLowPlaced
+-- marking the edges of a list that is known by another name
+pub mod TreeMarks
+-- the edges kept for a root are those of its union's tree
+pub mod RootUnion
+-- the path marked for a part is a shortest one
+pub mod RootPath

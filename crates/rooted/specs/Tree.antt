@@ -1,0 +1,100 @@
+-- The tree of one root: what is marked of its union, and what is kept (document 01, step 6).
+-- Assumes nothing.
+use Prim.Native.Nat.{ℕ, _≤_, _<_}
+use mathlib.Core.Path.{_≡_}
+use mathlib.Core.List.{List, [], _++_}
+use lib.ListN.{length, getD}
+use Rattle.lists.specs.Lists.{filter, member}
+use Rattle.lists.specs.Member.{_∈_}
+use Rattle.lists.specs.Put.{PutTo}
+use Rattle.lists.specs.Segments.{segment}
+use Rattle.lists.specs.Sort.{rise}
+use Rattle.graph.specs.Graph.{Graph}
+use Rattle.graph.specs.Bytes.{graphOf}
+use Rattle.graph.specs.Valid.{IsGraph}
+use Rattle.matching.specs.Assignment.{marked}
+use Rattle.rules.specs.Order.{ordered}
+use Rattle.rules.specs.Labels.{apart}
+use Rattle.rules.specs.Forest.{keep}
+use Rattle.rules.specs.RootedTrial.{unionTree}
+use Rattle.distance.specs.Trail.{trailOf, CanGoBack}
+use Rattle.cover.specs.Chosen.{IsHeld, AllHeld}
+use Rattle.pieces.specs.Pieces.{treeOf}
+use Rattle.rooted.specs.Near.{Marked}
+use Rattle.rooted.specs.Nearest.{NearestGiven, Nearest}
+
+-- r is the first place below the bound where j stands, or the bound where it stands at none.
+pub record FirstWith (bytes : List ℕ) (bound j r : ℕ) : Type 0 where
+  pub within : r ≤ bound
+  pub earlier : (i : ℕ) → i < r → getD bytes i 0 ≡ j → ⊥
+  pub here : r < bound → getD bytes r 0 ≡ j
+
+-- What marking a piece asks: it is held, and each of its edges has a mark.
+pub record PieceGiven (cuts flat : List ℕ) (c room : ℕ) : Type 0 where
+  pub held : IsHeld cuts flat c
+  pub marks : (e : ℕ) → e ∈ segment cuts flat c → e < room
+
+-- What marking a path asks: there is a trail of at most 256 edges, and each of them has a mark.
+pub record BackGiven (last : List ℕ) (root v room : ℕ) : Type 0 where
+  pub trail : CanGoBack last root v 256
+  pub marks : (e : ℕ) → e ∈ trailOf last root v → e < room
+
+-- What keeping a tree's edges asks: the bytes are a graph's, its edges in order, and room for an edge of each vertex.
+pub record TreeAsked (b order tree : List ℕ) : Type 0 where
+  pub graph : IsGraph b
+  pub in-order : order ≡ ordered (graphOf b)
+  pub few : length order ≤ 2048
+  pub room : graphOf b .vertices ≤ length tree
+
+-- The marked edges were kept, and stand by rising number at the front of the array, r of them.
+pub record TreeKept (g : Graph) (marks before after : List ℕ) (r : ℕ) : Type 0 where
+  pub kept : PutTo 0 (rise (keep g apart (filter (marked marks) (ordered g)))) before after r
+  pub fewer : r < g .vertices
+
+-- What marking a part and the path to it asks: a part and a root, a mark for each of the part's edges, and a path back from whichever of the
+-- part's vertices is nearest.
+pub record ReachGiven (b table last : List ℕ) (k j root start : ℕ) (edges : List ℕ) (room : ℕ) : Type 0 where
+  pub part : NearestGiven b table k j start
+  pub marks : (e : ℕ) → e ∈ edges → e < room
+  pub back : (v : ℕ) → Nearest (graphOf b) table k j (treeOf start edges) v → BackGiven last root v room
+
+-- The edges of the part were marked, and of the path back from one of its nearest vertices.
+pub record ReachMarked (g : Graph) (table last : List ℕ) (k j root start : ℕ) (edges before after : List ℕ) : Type 0 where
+  pub vertex : ℕ
+  pub nearest : Nearest g table k j (treeOf start edges) vertex
+  pub marks : Marked (λ e. member e (edges ++ trailOf last root vertex)) before after
+
+-- What marking root j's part asks: a byte for each place, and, for the first place whose byte is j, a piece that is held and may be marked
+-- with the path to it.
+pub record AssignedGiven (b table last : List ℕ) (root : ℕ) (starts cuts flat places out : List ℕ) (k j room : ℕ) : Type 0 where
+  pub bytes : length places ≤ length out
+  pub held : AllHeld cuts flat places
+  pub reach : (c : ℕ) → c ∈ places → ReachGiven b table last k j root (getD starts c 0) (segment cuts flat c) room
+
+-- Nothing was marked where j stands at no place; otherwise the piece at its first place and a path to it were marked.
+pub data AssignedMarked (g : Graph) (table last : List ℕ) (root : ℕ) (starts cuts flat places out : List ℕ) (k j : ℕ) (before after : List ℕ) : Type 0 where
+  nobody : ((i : ℕ) → i < length places → getD out i 0 ≡ j → ⊥) → after ≡ before → AssignedMarked g table last root starts cuts flat places out k j before after
+  somebody : (i : ℕ) → i < length places → FirstWith out (length places) j i
+      → ReachMarked g table last k j root (getD starts (getD places i 0) 0) (segment cuts flat (getD places i 0)) before after
+      → AssignedMarked g table last root starts cuts flat places out k j before after
+
+-- What a root's tree asks: the graph and its order, a piece left at the root, and parts that may be marked.
+pub record RootGiven (b order table last : List ℕ) (root : ℕ) (starts cuts flat : List ℕ) (left : ℕ) (places out : List ℕ) (k j : ℕ) (tree : List ℕ) : Type 0 where
+  pub asked : TreeAsked b order tree
+  pub piece : PieceGiven cuts flat left 2048
+  pub assigned : AssignedGiven b table last root starts cuts flat places out k j 2048
+
+-- The edges of root j's part and of a path back from one of its nearest vertices; none where j stands at no place.
+pub data AssignedAre (g : Graph) (table last : List ℕ) (root : ℕ) (starts cuts flat places out : List ℕ) (k j : ℕ) (edges : List ℕ) : Type 0 where
+  none : ((i : ℕ) → i < length places → getD out i 0 ≡ j → ⊥) → edges ≡ [] → AssignedAre g table last root starts cuts flat places out k j edges
+  part : (i v : ℕ) → i < length places → FirstWith out (length places) j i
+      → Nearest g table k j (treeOf (getD starts (getD places i 0) 0) (segment cuts flat (getD places i 0))) v
+      → edges ≡ segment cuts flat (getD places i 0) ++ trailOf last root v → AssignedAre g table last root starts cuts flat places out k j edges
+
+-- The tree of the union was written.
+pub record RootWritten (g : Graph) (table last : List ℕ) (root : ℕ) (starts cuts flat : List ℕ) (left : ℕ) (places out : List ℕ) (k j : ℕ)
+    (before after : List ℕ) (r : ℕ) : Type 0 where
+  pub edges : List ℕ
+  pub assigned : AssignedAre g table last root starts cuts flat places out k j edges
+  pub written : PutTo 0 (unionTree g root (edges ++ segment cuts flat left) .edges) before after r
+  pub fewer : r < g .vertices

@@ -1,0 +1,64 @@
+-- The steps of the trial without roots, put together: the pieces that are trees, each from its lowest vertex and in order, are the answer's
+-- trees.
+-- Assumes nothing.
+use Prim.Native.Nat.{ℕ, _+_, _*_, _≤_, _<_}
+use mathlib.Core.Path.{_≡_, refl, sym, ap, ap₂, _∙_}
+use mathlib.Core.Bool.{Bool}
+use mathlib.Core.List.{List, [], _∷_, _++_, map, map-map}
+use native.Mathlib.Omega.{arith}
+use lib.ListN.{length, getD, take, drop, length-append}
+use lib.Seq.{take-at}
+use Rattle.lists.specs.Put.{PutTo}
+use Rattle.lists.specs.Sort.{rise, sortBy}
+use Rattle.lists.proofs.Put.{put-count, put-taken}
+use Rattle.lists.proofs.Sorting.{sum-sort}
+use Rattle.lists.proofs.SumsAlike.{length-sum}
+use Rattle.graph.specs.Graph.{Graph}
+use Rattle.pieces.specs.Chosen.{byKey}
+use Rattle.unrooted.specs.Components.{PiecesGiven, SegmentsRisen, LowestSet, KeysWritten}
+use Rattle.unrooted.specs.TreePlaces.{treePlaces}
+use Rattle.unrooted.specs.Unrooted.{TreesOrdered}
+use Rattle.pieces.proofs.SortedImages.{sort-length}
+use Rattle.unrooted.proofs.ComponentPieces.{length-rise}
+
+-- The same pieces, in arrays that are as long.
+pub given-on : {starts other cuts flat flat′ : List ℕ} {k : ℕ} → PiecesGiven starts cuts flat k → length flat′ ≡ length flat → k ≤ length other → PiecesGiven other cuts flat′ k
+given-on g q h =
+    record {
+      pieces =
+          record {
+            cut = g .pieces .cut;
+            held = λ i l. record { forward = g .pieces .held i l .forward; inside = omega (arith, g .pieces .held i l .inside) };
+          };
+      starts-room = h;
+    }
+
+-- The steps that put the trees in order.
+pub trees-ordered : {g : Graph} {pieces : ℕ} {lefts starts₀ starts₁ cuts flat₀ flat₁ keys came mid last : List ℕ} {t : ℕ}
+    → SegmentsRisen cuts pieces flat₀ flat₁ → LowestSet g cuts flat₁ pieces starts₀ starts₁ → KeysWritten starts₁ cuts flat₁ pieces keys
+    → PutTo 0 (treePlaces cuts 0 lefts) came mid t → last ≡ sortBy (byKey keys) (take t mid)
+    → TreesOrdered g pieces lefts starts₀ starts₁ cuts flat₀ flat₁ (last ++ drop t mid) t
+trees-ordered {lefts = lefts} {cuts = cuts} {keys = keys} {mid = mid} {last = last} {t = t} risen low keyed put sorted =
+    let places : List ℕ = treePlaces cuts 0 lefts in
+    let is : last ≡ sortBy (byKey keys) places = sorted ∙ ap (sortBy (byKey keys)) (put-taken put) in
+    let size : length last ≡ t = ap length is ∙ sort-length (byKey keys) places ∙ sym (put-count put) in
+    record {
+      rising = risen;
+      from-lowest = low;
+      keys = keys;
+      keyed = keyed;
+      are = take-at last (drop t mid) t size ∙ is;
+      count = put-count put;
+      room = omega (arith, length-append last (drop t mid));
+    }
+
+-- Edges copied to the front of an array, and then put into rising order there.
+module _ {edges came mid last : List ℕ} {m : ℕ} (put : PutTo 0 edges came mid m) (risen : last ≡ rise (take m mid)) where
+  pub copied-size : length last ≡ m
+  copied-size = ap length (risen ∙ ap rise (put-taken put)) ∙ length-rise edges ∙ sym (put-count put)
+
+  pub copied-are : take m (last ++ drop m mid) ≡ rise edges
+  copied-are = take-at last (drop m mid) m copied-size ∙ risen ∙ ap rise (put-taken put)
+
+  pub copied-room : m ≤ length (last ++ drop m mid)
+  copied-room = omega (arith, copied-size, length-append last (drop m mid))

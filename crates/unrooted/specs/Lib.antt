@@ -1,0 +1,9 @@
+-- What the contracts of `unrooted` say, in reading order.
+-- what the components need, and their lowest vertices
+pub mod Needs
+-- the pieces of the components as trees
+pub mod Components
+-- the numbers of an answer's trees among the pieces
+pub mod TreePlaces
+-- the trial at a limit for crews without roots
+pub mod Unrooted

@@ -1,0 +1,86 @@
+-- The trial at a limit for crews without roots (document 01, a "roving" trial): what its steps ask and promise.
+-- Assumes nothing.
+use Prim.Native.Nat.{ℕ, _+_, _*_, _≤_, _<_}
+use mathlib.Core.Path.{_≡_}
+use mathlib.Core.List.{List, map}
+use lib.ListN.{length, take}
+use Rattle.lists.specs.Count.{below}
+use Rattle.lists.specs.Member.{_∈_}
+use Rattle.lists.specs.Put.{Put}
+use Rattle.lists.specs.Sort.{rise, sortBy}
+use Rattle.graph.specs.Graph.{Graph, edgeCount}
+use Rattle.graph.specs.Bytes.{graphOf}
+use Rattle.graph.specs.Valid.{IsGraph}
+use Rattle.rules.specs.Cover.{heaviest}
+use Rattle.rules.specs.CoverBytes.{encode}
+use Rattle.rules.specs.Held.{treesAt, risen}
+use Rattle.rules.specs.Labels.{apart}
+use Rattle.rules.specs.Forest.{forest, labelsAt, lowest}
+use Rattle.rules.specs.Split as rules
+use Rattle.rules.specs.UnrootedTrial.{components, needed, unrootedTrees}
+use Rattle.forest.specs.Around.{Around}
+use Rattle.split.specs.Pieces.{piecesOf, leftPlaces}
+use Rattle.unrooted.specs.Needs.{ForestGiven}
+use Rattle.pieces.specs.Chosen.{byKey}
+use Rattle.unrooted.specs.Components.{PiecesGiven, SegmentsRisen, LowestSet, KeysWritten}
+use Rattle.unrooted.specs.TreePlaces.{treePlaces, PlacesAsked}
+use Rattle.unrooted.specs.declared.unrooted.Split.{Split}
+use Rattle.unrooted.specs.declared.unrooted.Written.{Written}
+
+-- The bytes are a graph's, the edges are so few as a forest has, and there is room for their arcs.
+pub record ArcsAsked (b edges bounds arcs : List ℕ) : Type 0 where
+  pub graph : IsGraph b
+  pub inside : (e : ℕ) → e ∈ edges → e < edgeCount (graphOf b)
+  pub few : length edges ≤ 256
+  pub bounds-room : graphOf b .vertices < length bounds
+  pub arcs-room : 2 * length edges ≤ length arcs
+
+-- The arrays hold the edges around each vertex, by rising number.
+pub record ArcsPut (g : Graph) (edges bounds arcs : List ℕ) : Type 0 where
+  pub around : Around g (rise edges) bounds arcs
+
+-- The forest at the limit, and room for the pieces of any.
+pub record SplitAsked (b edges : List ℕ) (limit : ℕ) (starts cuts flat lefts : List ℕ) : Type 0 where
+  pub forest-given : ForestGiven b edges limit
+  pub small : limit ≤ 2048000000
+  pub starts-room : 512 ≤ length starts
+  pub cuts-room : 512 < length cuts
+  pub flat-room : 256 ≤ length flat
+  pub lefts-room : 256 ≤ length lefts
+
+-- The arrays hold the pieces of the components' trees, and the number of each component's leftover.
+pub record ComponentsSplit (g : Graph) (limit : ℕ) (starts cuts flat lefts : List ℕ) (r : Split) : Type 0 where
+  pub pieces-are : map risen (treesAt starts cuts flat (below (r .pieces))) ≡ piecesOf g (2 * limit) (rise (forest g apart limit)) (lowest g (labelsAt g apart limit))
+  pub lefts-are : take (r .roots) lefts ≡ leftPlaces 0 (map (rules.split g (2 * limit)) (components g limit))
+  pub roots-room : r .roots ≤ length lefts
+  pub given : PiecesGiven starts cuts flat (r .pieces)
+  pub few : r .pieces ≤ 512
+
+-- Pieces, and room for the numbers of those that are trees.
+pub record OrderAsked (pieces : ℕ) (lefts starts cuts flat chosen : List ℕ) : Type 0 where
+  pub given : PiecesGiven starts cuts flat pieces
+  pub few : pieces ≤ 512
+  pub places : PlacesAsked lefts cuts chosen
+
+-- The edges of each piece rise, each starts at its lowest vertex, and the first t chosen are the pieces that are trees, by their keys.
+pub record TreesOrdered (g : Graph) (pieces : ℕ) (lefts starts₀ starts₁ cuts flat₀ flat₁ chosen : List ℕ) (t : ℕ) : Type 0 where
+  pub rising : SegmentsRisen cuts pieces flat₀ flat₁
+  pub from-lowest : LowestSet g cuts flat₁ pieces starts₀ starts₁
+  pub keys : List ℕ
+  pub keyed : KeysWritten starts₁ cuts flat₁ pieces keys
+  pub are : take t chosen ≡ sortBy (byKey keys) (treePlaces cuts 0 lefts)
+  pub count : t ≡ length (treePlaces cuts 0 lefts)
+  pub room : t ≤ length chosen
+
+-- The forest at a limit whose components need at most 32 trees, and room for the bytes of any such cover.
+pub record TrialAsked (b edges : List ℕ) (limit : ℕ) (buf : List ℕ) : Type 0 where
+  pub forest-given : ForestGiven b edges limit
+  pub needs-few : needed (graphOf b) limit ≤ 32
+  pub small : limit ≤ 2048000000
+  pub room : 32708 ≤ length buf
+
+-- The bytes of the answer's trees were written, with everything behind them as it came; r says the weight of the heaviest and how many.
+pub record TreesWritten (g : Graph) (limit : ℕ) (before after : List ℕ) (r : Written) : Type 0 where
+  pub put : Put 0 (encode (unrootedTrees g limit)) before after
+  pub heaviest-is : r .heaviest ≡ heaviest g (unrootedTrees g limit)
+  pub trees-are : r .trees ≡ length (unrootedTrees g limit)

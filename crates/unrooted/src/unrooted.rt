@@ -1,0 +1,145 @@
+// The trial at a limit for crews without roots (document 01, a "roving" trial, steps 2 to 4 and 7), where the components need no more trees
+// than there may be: the components' trees are split, and the pieces are the trees of the answer.
+use pieces::chosen::sort_chosen;
+use crate::components::rise_segments;
+use crate::components::set_lowest;
+use crate::components::write_keys;
+use crate::needs::component_roots;
+use crate::tree_places::tree_places;
+use cover::heaviest::heaviest_chosen;
+use cover::write::write_cover;
+use forest::around::put_around;
+use forest::order::rise_edges;
+use split::split_forest;
+ghost use Prim.Native.Nat.{_≤_};
+ghost use lib.ListN.{length};
+ghost use Rattle.lists.specs.Put.{PutTo};
+ghost use Rattle.graph.specs.Bytes.{graphOf};
+ghost use Rattle.unrooted.specs.Unrooted.{ArcsAsked, ArcsPut, SplitAsked, ComponentsSplit, OrderAsked, TreesOrdered, TrialAsked, TreesWritten};
+
+// How many pieces the components were split into, and how many components there are.
+pub struct Split {
+    pub pieces: usize,
+    pub roots: usize,
+}
+
+// What was written: the weight of the heaviest tree, and how many trees.
+pub struct Written {
+    pub heaviest: u64,
+    pub trees: usize,
+}
+
+// The edges, written to the front of the array. Says how many.
+fn copy_edges(edges: &[u16], out: &mut [u16]) -> usize
+    requires { ⌜ length (now edges) ≤ length (now out) ⌝ }
+    ensures { λ r. ⌜ PutTo 0 (now (edges .entry)) (now (out .entry)) (now (out .exit)) r ⌝ }
+{
+    let mut i = 0;
+    while i < edges.len() {
+        out[i] = edges[i];
+        i += 1;
+    }
+    i
+}
+
+// The arcs around each vertex over the forest's edges, by rising number.
+fn put_arcs(b: &[u8], edges: &[u16], bounds: &mut [u16], arcs: &mut [u64])
+    requires { ⌜ ArcsAsked (now b) (now edges) (now bounds) (now arcs) ⌝ }
+    ensures { λ _. ⌜ ArcsPut (graphOf (now (b .entry))) (now (edges .entry)) (now (bounds .exit)) (now (arcs .exit)) ⌝ }
+{
+    let mut rising = [0u16; 256];
+    let m = copy_edges(edges, &mut rising);
+    rise_edges(&mut rising[..m]);
+    put_around(b, &rising[..m], bounds, arcs);
+}
+
+// The components' trees, each rooted at its lowest vertex, split into pieces.
+fn split_components(
+    b: &[u8],
+    edges: &[u16],
+    limit: u64,
+    starts: &mut [u16],
+    cuts: &mut [u16],
+    flat: &mut [u16],
+    lefts: &mut [u16],
+) -> Split
+    requires { ⌜ SplitAsked (now b) (now edges) limit (now starts) (now cuts) (now flat) (now lefts) ⌝ }
+    ensures { λ r. ⌜ ComponentsSplit (graphOf (now (b .entry))) limit (now (starts .exit)) (now (cuts .exit)) (now (flat .exit)) (now (lefts .exit)) r ⌝ }
+{
+    let mut roots = [0u16; 256];
+    let mut bounds = [0u16; 257];
+    let mut arcs = [0u64; 512];
+    let k = component_roots(b, edges, &mut roots);
+    put_arcs(b, edges, &mut bounds, &mut arcs);
+    let n = graph::vertex_count(b);
+    let pieces = split_forest(
+        n,
+        &bounds,
+        &arcs,
+        &roots[..k],
+        2 * limit,
+        starts,
+        cuts,
+        flat,
+        lefts,
+    );
+    Split { pieces, roots: k }
+}
+
+// The pieces that are trees of the answer, in its order: each with its edges rising and from its lowest vertex. Says how many.
+fn order_trees(
+    b: &[u8],
+    pieces: usize,
+    lefts: &[u16],
+    starts: &mut [u16],
+    cuts: &[u16],
+    flat: &mut [u16],
+    chosen: &mut [u16],
+) -> usize
+    requires { ⌜ OrderAsked pieces (now lefts) (now starts) (now cuts) (now flat) (now chosen) ⌝ }
+    ensures { λ r. ⌜ TreesOrdered (graphOf (now (b .entry))) pieces (now (lefts .entry)) (now (starts .entry)) (now (starts .exit)) (now (cuts .entry))
+        (now (flat .entry)) (now (flat .exit)) (now (chosen .exit)) r ⌝ }
+{
+    let mut keys = [0u32; 512];
+    let t = tree_places(lefts, cuts, chosen);
+    rise_segments(cuts, pieces, flat);
+    set_lowest(b, starts, cuts, flat, pieces);
+    write_keys(starts, cuts, flat, pieces, &mut keys);
+    sort_chosen(&keys, &mut chosen[..t]);
+    t
+}
+
+// The trees of the answer at a limit, as the buffer's first bytes: the components at the limit, from the edges of the forest there, split
+// into at most 32 trees. Everything behind the bytes stays.
+pub fn unrooted_trees(b: &[u8], edges: &[u16], limit: u64, buf: &mut [u8]) -> Written
+    requires { ⌜ TrialAsked (now b) (now edges) limit (now buf) ⌝ }
+    ensures { λ r. ⌜ TreesWritten (graphOf (now (b .entry))) limit (now (buf .entry)) (now (buf .exit)) r ⌝ }
+{
+    let mut starts = [0u16; 512];
+    let mut cuts = [0u16; 513];
+    let mut flat = [0u16; 256];
+    let mut lefts = [0u16; 256];
+    let mut chosen = [0u16; 32];
+    let s = split_components(
+        b,
+        edges,
+        limit,
+        &mut starts,
+        &mut cuts,
+        &mut flat,
+        &mut lefts,
+    );
+    let left = &lefts[..s.roots];
+    let t = order_trees(
+        b,
+        s.pieces,
+        left,
+        &mut starts,
+        &cuts,
+        &mut flat,
+        &mut chosen,
+    );
+    let heaviest = heaviest_chosen(b, &cuts, &flat, &chosen[..t]);
+    write_cover(buf, &starts, &cuts, &flat, &chosen[..t]);
+    Written { heaviest, trees: t }
+}
