@@ -19,3 +19,5 @@ pub mod Deficient
 pub mod TooLowParts
 -- the tree of one root
 pub mod Tree
+-- what is prepared once a question
+pub mod Prepared

@@ -1,0 +1,31 @@
+-- What is prepared once a question: the order of the edges, the whole forest with the edges around each vertex, and the distances from all roots
+-- with their last edges. One preparation serves every limit (document 01, steps 1, 2 and 5).
+-- Assumes nothing.
+use Prim.Native.Nat.{ℕ, _≤_, _<_}
+use mathlib.Core.Path.{_≡_}
+use mathlib.Core.List.{List}
+use lib.ListN.{length, getD}
+use Rattle.lists.specs.Sort.{rise}
+use Rattle.graph.specs.Bytes.{graphOf}
+use Rattle.graph.specs.Valid.{IsGraph}
+use Rattle.rules.specs.Order.{ordered}
+use Rattle.rules.specs.Labels.{together}
+use Rattle.rules.specs.Forest.{keep}
+use Rattle.forest.specs.Around.{Around}
+use Rattle.rooted.specs.Placed.{DistancesTabled, LastsTabled}
+
+-- What deciding a limit takes: the graph's bytes and the roots (none where the crews have none), the whole forest by weight, the edges around each
+-- vertex over it, and the distances from the roots.
+pub record Decidable (b roots kept bounds arcs table : List ℕ) : Type 0 where
+  pub graph : IsGraph b
+  pub roots-inside : (j : ℕ) → j < length roots → getD roots j 0 < graphOf b .vertices
+  pub roots-few : length roots ≤ 32
+  pub forest : kept ≡ keep (graphOf b) (together roots) (ordered (graphOf b))
+  pub around : Around (graphOf b) (rise (keep (graphOf b) (together roots) (ordered (graphOf b)))) bounds arcs
+  pub distances : DistancesTabled (graphOf b) roots table
+
+-- What writing an answer takes besides: the edges in order, and the last edges of the shortest paths.
+pub record Prepared (b roots order kept bounds arcs table lasts : List ℕ) : Type 0 where
+  pub decidable : Decidable b roots kept bounds arcs table
+  pub in-order : order ≡ ordered (graphOf b)
+  pub last-edges : LastsTabled (graphOf b) roots table lasts
