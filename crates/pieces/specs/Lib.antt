@@ -5,5 +5,7 @@ pub mod Whole
 pub mod Chosen
 -- lists of edges held one after the other
 pub mod Pieces
+-- the edges around each vertex of a forest
+pub mod Arcs
 -- what a reply says, and what it leaves in the buffer
 pub mod Replies

@@ -40,7 +40,7 @@ use Rattle.unrooted.specs.Components.{keyOf}
 use Rattle.unrooted.specs.TreePlaces.{treeEnd, treePlaces, treesOf, PlacesAsked}
 use Rattle.unrooted.specs.Unrooted.{ComponentsSplit, TreesOrdered}
 use Rattle.unrooted.specs.declared.unrooted.Split.{Split}
-use Rattle.unrooted.proofs.ComponentPieces.{length-rise}
+use Rattle.pieces.proofs.LaidLists.{rise-length}
 use Rattle.pieces.proofs.SortedImages.{sort-same, sorted-by-keys}
 use Rattle.unrooted.proofs.TreesPlaced.{Sized, end-most, trees-placed, map-flat}
 use Rattle.pieces.proofs.SortedImages.{sort-length}
@@ -127,7 +127,7 @@ module _ {g : Graph} {limit : ℕ} {starts cuts edges lefts : List ℕ} {s : Spl
   unfolding risen treeAt
   sized i h =
       let held = c .given .pieces .held i h in
-      record { forward = held .forward; size = length-rise (segment cuts edges i) ∙ segment-length cuts edges i (held .inside) }
+      record { forward = held .forward; size = rise-length (segment cuts edges i) ∙ segment-length cuts edges i (held .inside) }
 
   placed : map piece places ≡ flat (map (treesOf g (2 * limit)) ts)
   placed =

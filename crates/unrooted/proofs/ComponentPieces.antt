@@ -26,6 +26,7 @@ use Rattle.rules.specs.Distance.{treeVertices}
 use Rattle.pieces.specs.Pieces.{endsOf, treeOf}
 use Rattle.cover.specs.Chosen.{IsHeld}
 use Rattle.unrooted.specs.Components.{keyOf, LowestFound, PiecesHeld, SegmentRisen}
+use Rattle.pieces.proofs.LaidLists.{rise-length}
 
 -- The lowest of more numbers.
 lowest-on : (s : ℕ) (xs : List ℕ) (a b : ℕ) → foldr min s (xs ++ (a ∷ b ∷ [])) ≡ min (min (foldr min s xs) a) b
@@ -104,10 +105,6 @@ module _ (cuts edges : List ℕ) (start i : ℕ) where
       head-of-part (getD cuts i 0) (getD cuts (i + 1) 0) edges
       ∙ List·getD-eq-default (take (getD cuts (i + 1) 0) edges) 0 (omega (arith, length-take (getD cuts (i + 1) 0) edges))
 
--- Rising edges are as many.
-pub length-rise : (l : List ℕ) → length (rise l) ≡ length l
-length-rise l = length-sum (rise l) ∙ sum-rise (λ _. 1) l ∙ sym (length-sum l)
-
 -- A list put into an array: parts of the array before it, in it and behind it.
 module _ {at : ℕ} {xs before after : List ℕ} (p : Put at xs before after) where
   head-same : take at after ≡ take at before
@@ -148,7 +145,7 @@ module _ (cuts edges : List ℕ) (i : ℕ) {a b : ℕ} (held : IsHeld cuts edges
   part-risen {last} t =
       let rising : last ≡ rise (segment cuts edges i) = t ∙ ap rise part-is in
       let size : length (rise (segment cuts edges i)) ≡ b - a =
-      length-rise (segment cuts edges i) ∙ segment-length cuts edges i (held .inside) ∙ omega (arith, p, q) in
+      rise-length (segment cuts edges i) ∙ segment-length cuts edges i (held .inside) ∙ omega (arith, p, q) in
       let behind : a + (b - a) ≡ getD cuts i 0 + length (rise (segment cuts edges i)) = omega (arith, p, size) in
       record {
         put =
@@ -188,7 +185,7 @@ module _ {cuts : List ℕ} {k : ℕ} {before : List ℕ} (p : PiecesHeld cuts be
     risen-behind : getD cuts (i + 1) 0 ≡ getD cuts i 0 + length (rise (segment cuts mid i))
     risen-behind =
         let held = p .held i h in
-        omega (arith, held .forward, held .inside, u .size, length-rise (segment cuts mid i), segment-length cuts mid i (omega (arith, held .inside, u .size)))
+        omega (arith, held .forward, held .inside, u .size, rise-length (segment cuts mid i), segment-length cuts mid i (omega (arith, held .inside, u .size)))
 
     risen-apart : (j : ℕ) → j < k → (j ≡ i → ⊥) → segment cuts after j ≡ segment cuts mid j
     unfolding segment

@@ -19,7 +19,8 @@ use Rattle.forest_laws.proofs.Forest.{forest-light}
 use Rattle.split_laws.proofs.Lowest.{lowest-inside}
 use Rattle.split.specs.ForestSplit.{lent, Splittable, Splits, ForestSplit}
 use Rattle.unrooted.specs.Needs.{ForestGiven, RootsWritten}
-use Rattle.unrooted.specs.Unrooted.{ArcsPut, SplitAsked, ComponentsSplit}
+use Rattle.pieces.specs.Arcs.{ArcsPut}
+use Rattle.unrooted.specs.Unrooted.{SplitAsked, ComponentsSplit}
 
 -- The edges of the forest are the graph's, and fewer than its vertices.
 module _ {b edges : List ℕ} {limit : ℕ} (f : ForestGiven b edges limit) where

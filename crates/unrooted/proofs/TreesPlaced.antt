@@ -24,7 +24,7 @@ use Rattle.rules.specs.UnrootedTrial.{leftovers}
 use Rattle.split.specs.Pieces.{leftOf, withLeft, leftPlaces}
 use Rattle.split.proofs.PiecesOf.{piecesFor}
 use Rattle.unrooted.specs.TreePlaces.{run, treeEnd, treePlaces, treesOf}
-use Rattle.unrooted.proofs.ComponentPieces.{length-rise}
+use Rattle.pieces.proofs.LaidLists.{rise-length}
 
 -- Where a component's trees end: behind its leftover, where this is the only piece,
 module _ (cuts : List ℕ) (first left : ℕ) where
@@ -129,7 +129,7 @@ module _ (f : ℕ → Tree) (first : ℕ) where
     unfolding partAt from
     left-size s =
         let is : f at ≡ partAt root left = cc (split-up .later) in
-        sym (ap (λ (t : Tree). length (t .edges)) is ∙ length-rise left) ∙ s .size
+        sym (ap (λ (t : Tree). length (t .edges)) is ∙ rise-length left) ∙ s .size
 
   -- So the trees of one component stand at their numbers.
   one-component : (cuts : List ℕ) (root : ℕ) (parts : List Tree) (left : List ℕ) (k : ℕ) → map f (from first k) ≡ parts ++ (partAt root left ∷ [])

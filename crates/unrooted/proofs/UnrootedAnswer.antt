@@ -19,7 +19,6 @@ use Rattle.unrooted.specs.Components.{PiecesGiven, SegmentsRisen, Lowest
 use Rattle.unrooted.specs.TreePlaces.{treePlaces}
 use Rattle.unrooted.specs.Unrooted.{TreesOrdered}
 use Rattle.pieces.proofs.SortedImages.{sort-length}
-use Rattle.unrooted.proofs.ComponentPieces.{length-rise}
 
 -- The same pieces, in arrays that are as long.
 pub given-on : {starts other cuts flat flat′ : List ℕ} {k : ℕ} → PiecesGiven starts cuts flat k → length flat′ ≡ length flat → k ≤ length other → PiecesGiven other cuts flat′ k
@@ -51,14 +50,3 @@ trees-ordered {lefts = lefts} {cuts = cuts} {keys = keys} {mid = mid} {last = la
       count = put-count put;
       room = omega (arith, length-append last (drop t mid));
     }
-
--- Edges copied to the front of an array, and then put into rising order there.
-module _ {edges came mid last : List ℕ} {m : ℕ} (put : PutTo 0 edges came mid m) (risen : last ≡ rise (take m mid)) where
-  pub copied-size : length last ≡ m
-  copied-size = ap length (risen ∙ ap rise (put-taken put)) ∙ length-rise edges ∙ sym (put-count put)
-
-  pub copied-are : take m (last ++ drop m mid) ≡ rise edges
-  copied-are = take-at last (drop m mid) m copied-size ∙ risen ∙ ap rise (put-taken put)
-
-  pub copied-room : m ≤ length (last ++ drop m mid)
-  copied-room = omega (arith, copied-size, length-append last (drop m mid))

@@ -5,10 +5,9 @@ use mathlib.Core.Path.{_≡_}
 use mathlib.Core.List.{List, map}
 use lib.ListN.{length, take}
 use Rattle.lists.specs.Count.{below}
-use Rattle.lists.specs.Member.{_∈_}
 use Rattle.lists.specs.Put.{Put}
 use Rattle.lists.specs.Sort.{rise, sortBy}
-use Rattle.graph.specs.Graph.{Graph, edgeCount}
+use Rattle.graph.specs.Graph.{Graph}
 use Rattle.graph.specs.Bytes.{graphOf}
 use Rattle.graph.specs.Valid.{IsGraph}
 use Rattle.rules.specs.Cover.{heaviest}
@@ -18,7 +17,6 @@ use Rattle.rules.specs.Labels.{apart}
 use Rattle.rules.specs.Forest.{forest, labelsAt, lowest}
 use Rattle.rules.specs.Split as rules
 use Rattle.rules.specs.UnrootedTrial.{components, needed, unrootedTrees}
-use Rattle.forest.specs.Around.{Around}
 use Rattle.split.specs.Pieces.{piecesOf, leftPlaces}
 use Rattle.unrooted.specs.Needs.{ForestGiven}
 use Rattle.pieces.specs.Chosen.{byKey}
@@ -26,18 +24,6 @@ use Rattle.unrooted.specs.Components.{PiecesGiven, SegmentsRisen, Lowest
 use Rattle.unrooted.specs.TreePlaces.{treePlaces, PlacesAsked}
 use Rattle.unrooted.specs.declared.unrooted.Split.{Split}
 use Rattle.unrooted.specs.declared.unrooted.Written.{Written}
-
--- The bytes are a graph's, the edges are so few as a forest has, and there is room for their arcs.
-pub record ArcsAsked (b edges bounds arcs : List ℕ) : Type 0 where
-  pub graph : IsGraph b
-  pub inside : (e : ℕ) → e ∈ edges → e < edgeCount (graphOf b)
-  pub few : length edges ≤ 256
-  pub bounds-room : graphOf b .vertices < length bounds
-  pub arcs-room : 2 * length edges ≤ length arcs
-
--- The arrays hold the edges around each vertex, by rising number.
-pub record ArcsPut (g : Graph) (edges bounds arcs : List ℕ) : Type 0 where
-  pub around : Around g (rise edges) bounds arcs
 
 -- The forest at the limit, and room for the pieces of any.
 pub record SplitAsked (b edges : List ℕ) (limit : ℕ) (starts cuts flat lefts : List ℕ) : Type 0 where

@@ -8,14 +8,10 @@ use crate::needs::component_roots;
 use crate::tree_places::tree_places;
 use cover::heaviest::heaviest_chosen;
 use cover::write::write_cover;
-use forest::around::put_around;
-use forest::order::rise_edges;
+use pieces::arcs::put_arcs;
 use split::split_forest;
-ghost use Prim.Native.Nat.{_≤_};
-ghost use lib.ListN.{length};
-ghost use Rattle.lists.specs.Put.{PutTo};
 ghost use Rattle.graph.specs.Bytes.{graphOf};
-ghost use Rattle.unrooted.specs.Unrooted.{ArcsAsked, ArcsPut, SplitAsked, ComponentsSplit, OrderAsked, TreesOrdered, TrialAsked, TreesWritten};
+ghost use Rattle.unrooted.specs.Unrooted.{SplitAsked, ComponentsSplit, OrderAsked, TreesOrdered, TrialAsked, TreesWritten};
 
 // How many pieces the components were split into, and how many components there are.
 pub struct Split {
@@ -27,30 +23,6 @@ pub struct Split {
 pub struct Written {
     pub heaviest: u64,
     pub trees: usize,
-}
-
-// The edges, written to the front of the array. Says how many.
-fn copy_edges(edges: &[u16], out: &mut [u16]) -> usize
-    requires { ⌜ length (now edges) ≤ length (now out) ⌝ }
-    ensures { λ r. ⌜ PutTo 0 (now (edges .entry)) (now (out .entry)) (now (out .exit)) r ⌝ }
-{
-    let mut i = 0;
-    while i < edges.len() {
-        out[i] = edges[i];
-        i += 1;
-    }
-    i
-}
-
-// The arcs around each vertex over the forest's edges, by rising number.
-fn put_arcs(b: &[u8], edges: &[u16], bounds: &mut [u16], arcs: &mut [u64])
-    requires { ⌜ ArcsAsked (now b) (now edges) (now bounds) (now arcs) ⌝ }
-    ensures { λ _. ⌜ ArcsPut (graphOf (now (b .entry))) (now (edges .entry)) (now (bounds .exit)) (now (arcs .exit)) ⌝ }
-{
-    let mut rising = [0u16; 256];
-    let m = copy_edges(edges, &mut rising);
-    rise_edges(&mut rising[..m]);
-    put_around(b, &rising[..m], bounds, arcs);
 }
 
 // The components' trees, each rooted at its lowest vertex, split into pieces.

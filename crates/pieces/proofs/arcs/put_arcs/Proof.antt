@@ -1,0 +1,71 @@
+-- `pieces::arcs::put_arcs` meets its contract: the arcs are put over a copy of the edges that rises. Assumes nothing.
+use Prim.Native.Nat.{ℕ, _+_, _*_, _≤_}
+use mathlib.Core.Path.{_≡_, sym, ap, _∙_}
+use mathlib.Core.List.{List}
+use native.Mathlib.Omega.{arith}
+use lib.ListN.{length, take}
+use Rattle.lists.specs.Sort.{rise}
+use Rattle.lists.proofs.Put.{put-count, put-taken, put-fits}
+use Rattle.lists.proofs.Sorting.{of-rise}
+use Rattle.pieces.proofs.LaidLists.{rise-length}
+use borrow.Author.Needs.{needs}
+use Rattle.pieces.proofs.arcs.put_arcs.Statement.{statement}
+use Rattle.pieces.proofs.arcs.put_arcs.Tie as tie
+
+-- Where the edges rise.
+module _ (r : tie.After-put-risen) where
+  abbrev s : tie.Start
+  s = let d = r .before .before .before in d .before .before .before
+
+  abbrev rises : take (r .put-risen .result) (r .put-risen .last .1 .0) ≡ rise (s .args .edges .now)
+  rises = put-taken (r .put-risen .ensures)
+
+slice-aggregate-put-risen : tie.Need-slice-aggregate-put-risen
+slice-aggregate-put-risen c = search needs
+
+put-risen-requires : tie.Need-put-risen-requires
+put-risen-requires c κs = search needs
+
+array-share-prefix-rising : tie.Need-array-share-prefix-rising
+array-share-prefix-rising c = search needs
+
+slice-aggregate-put-around : tie.Need-slice-aggregate-put-around
+slice-aggregate-put-around c = let r = c .before .before in put-count (r .put-risen .ensures) ∙ sym (ap length (rises r))
+
+put-around-requires : tie.Need-put-around-requires
+put-around-requires c κs =
+    let r = c .before .before .before .before in
+    let a = s r .pre in
+    let size = ap length (rises r) ∙ rise-length (s r .args .edges .now) in
+    record {
+      graph = a .graph;
+      inside = λ e m. a .inside e (of-rise (s r .args .edges .now) (rw (rises r) at m));
+      few = omega (arith, size, a .few);
+      bounds-room = a .bounds-room;
+      arcs-room = omega (arith, size, a .arcs-room);
+    }
+
+same-length : tie.Need-same-length
+same-length c = search needs
+
+same-length-2 : tie.Need-same-length-2
+same-length-2 c = search needs
+
+returns : tie.Need-returns
+returns c =
+    let p = c .before .before .before .before in
+    let r = let d = p .before .before .before in d .before .before in
+    record { around = rw (rises r) at (p .put-around .ensures .around) }
+
+pub put-arcs-spec : {M : Type 1} → statement M
+put-arcs-spec =
+    tie.close
+    (tie.spec
+    slice-aggregate-put-risen
+    put-risen-requires
+    array-share-prefix-rising
+    slice-aggregate-put-around
+    put-around-requires
+    same-length
+    same-length-2
+    returns)

@@ -1,0 +1,15 @@
+// The edges around each vertex over a forest's edges, by rising number: what growing and splitting walk over.
+use crate::pieces::put_risen;
+use forest::around::put_around;
+ghost use Rattle.graph.specs.Bytes.{graphOf};
+ghost use Rattle.pieces.specs.Arcs.{ArcsAsked, ArcsPut};
+
+// The arcs around each vertex over the edges, by rising number.
+pub fn put_arcs(b: &[u8], edges: &[u16], bounds: &mut [u16], arcs: &mut [u64])
+    requires { ⌜ ArcsAsked (now b) (now edges) (now bounds) (now arcs) ⌝ }
+    ensures { λ _. ⌜ ArcsPut (graphOf (now (b .entry))) (now (edges .entry)) (now (bounds .exit)) (now (arcs .exit)) ⌝ }
+{
+    let mut rising = [0u16; 256];
+    let m = put_risen(edges, &mut rising, 0);
+    put_around(b, &rising[..m], bounds, arcs);
+}
