@@ -1,14 +1,14 @@
 // The parts of a set that admits no assignment, written (document 01, step 5: "too low, parts T, yards D", the parts "ordered by smallest
 // line"). The pieces stand as the splitting left them; those chosen are laid out again with their edges rising.
-use pieces::chosen::sort_chosen;
 use crate::deficient::count_allowed;
 use crate::deficient::marked_places;
+use cover::write::write_cover;
+use forest::index::wide;
+use pieces::chosen::sort_chosen;
 use pieces::pieces::element_at;
 use pieces::pieces::number_up;
 use pieces::pieces::piece_edges;
 use pieces::pieces::put_risen;
-use cover::write::write_cover;
-use forest::index::wide;
 ghost use mathlib.Core.Path.{_≡_};
 ghost use mathlib.Core.List.{map, headD};
 ghost use Prim.Native.Nat.{_≤_};

@@ -1,13 +1,13 @@
 // The tree of one root (document 01, step 6): "a tree is the union of its part if any, a shortest path to it, and what is left at the yard".
 // The union's edges are marked, kept in order, and put by rising number.
 use crate::nearest::nearest_vertex;
-use pieces::pieces::element_at;
-use pieces::pieces::piece_edges;
 use crate::union::keep_union;
 use crate::union::mark_edges;
 use distance::path_back;
 use forest::index::wide;
 use forest::order::rise_edges;
+use pieces::pieces::element_at;
+use pieces::pieces::piece_edges;
 ghost use mathlib.Core.Path.{_≡_};
 ghost use Prim.Native.Nat.{_≤_};
 ghost use lib.ListN.{length, getD};

@@ -1,8 +1,8 @@
 // How many trees the components need (document 01, step 7), and the lowest vertex of each: all that a limit asks of crews without roots.
 // Nothing is grown or split for this: the labels that the forest's edges make show the components.
-use pieces::whole::label_edges;
 use forest::index::wide;
 use forest::lowest::lowest_of_each;
+use pieces::whole::label_edges;
 ghost use mathlib.Core.Path.{_≡_};
 ghost use Rattle.graph.specs.Bytes.{graphOf};
 ghost use Rattle.rules.specs.UnrootedTrial.{needed};

@@ -1,6 +1,5 @@
 // The trial at a limit for crews without roots (document 01, a "roving" trial, steps 2 to 4 and 7), where the components need no more trees
 // than there may be: the components' trees are split, and the pieces are the trees of the answer.
-use pieces::chosen::sort_chosen;
 use crate::components::rise_segments;
 use crate::components::set_lowest;
 use crate::components::write_keys;
@@ -9,6 +8,7 @@ use crate::tree_places::tree_places;
 use cover::heaviest::heaviest_chosen;
 use cover::write::write_cover;
 use pieces::arcs::put_arcs;
+use pieces::chosen::sort_chosen;
 use split::split_forest;
 ghost use Rattle.graph.specs.Bytes.{graphOf};
 ghost use Rattle.unrooted.specs.Unrooted.{SplitAsked, ComponentsSplit, OrderAsked, TreesOrdered, TrialAsked, TreesWritten};

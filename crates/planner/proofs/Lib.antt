@@ -1,0 +1,3 @@
+-- Laws that belong to no one function, in reading order.
+-- what was prepared is what the trials stand on
+pub mod Ready

@@ -1,0 +1,3 @@
+-- What the contracts of `planner` say, in reading order.
+-- what is prepared once a question, step by step
+pub mod Preparing
