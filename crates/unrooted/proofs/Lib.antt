@@ -15,3 +15,5 @@ pub mod ComponentsSplit
 pub mod UnrootedAnswer
 -- the chosen trees are the answer's
 pub mod AnswerTrees
+-- the answer and the decisions, from the whole forest
+pub mod UnrootedDecided

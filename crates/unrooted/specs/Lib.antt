@@ -7,3 +7,5 @@ pub mod Components
 pub mod TreePlaces
 -- the trial at a limit for crews without roots
 pub mod Unrooted
+-- the answer and the decision, from the whole forest
+pub mod Answer

@@ -1,0 +1,97 @@
+-- The answer and the decisions of a trial without roots, from the whole forest: its front is the forest at the limit, "the sum C" decides, and it
+-- joins what all edges join.
+-- Assumes nothing.
+use Prim.Native.Nat.{ℕ, _≤_, _<_}
+use mathlib.Core.Path.{_≡_, refl, sym, ap, ap₂, _∙_}
+use mathlib.Core.List.{List, [], _∷_, _++_}
+use native.Mathlib.Nat.{zero-add}
+use lib.ListN.{length, take, drop}
+use lib.Dec.{leb, ltb}
+use borrow.Author.Tests.{le-leb, lt-leb}
+use Rattle.lists.proofs.Put.{put-count}
+use Rattle.graph.specs.Graph.{Graph}
+use Rattle.graph.specs.Bytes.{graphOf}
+use Rattle.rules.specs.Cover.{unrooted, heaviest}
+use Rattle.rules.specs.CoverBytes.{encode}
+use Rattle.rules.specs.Order.{ordered}
+use Rattle.rules.specs.Labels.{apart, mergeAll}
+use Rattle.rules.specs.Forest.{keep, forest, lowest}
+use Rattle.rules.specs.Reply as rules
+use Rattle.rules.specs.RootedTrial.{Choices}
+use Rattle.rules.specs.UnrootedTrial.{needed, unrootedTrees, unrootedTrial}
+use Rattle.rules.specs.Search.{accepts, trial, noCover}
+use Rattle.rules.specs.Questions.{written, bufferAfter}
+use Rattle.forest_laws.proofs.Roots.{together-none}
+use Rattle.forest_laws.proofs.Keeping.{kept-merges}
+use Rattle.pieces.specs.Replies.{said, Answers}
+use Rattle.pieces.specs.Whole.{WholeKept, LightForest}
+use Rattle.pieces.specs.declared.reply.Reply.the-variants.{Cover, Needs}
+use Rattle.unrooted.specs.Needs.{ForestGiven, RootsWritten}
+use Rattle.unrooted.specs.Unrooted.{TreesWritten}
+use Rattle.unrooted.specs.Answer.{ForestKept}
+use Rattle.unrooted.specs.declared.unrooted.Written.{Written}
+
+module _ {b kept : List ℕ} (f : ForestKept b kept) where
+  -- Without roots all vertices begin apart.
+  kept-apart : kept ≡ keep (graphOf b) apart (ordered (graphOf b))
+  kept-apart = rw together-none at (f .forest-is)
+
+  pub whole-kept : WholeKept (graphOf b) kept
+  whole-kept = record { label = apart; are = kept-apart }
+
+  -- The front within the limit is the forest there.
+  module _ {limit r : ℕ} (l : LightForest (graphOf b) kept limit r) where
+    pub front-is : take r kept ≡ forest (graphOf b) apart limit
+    front-is = l .front apart kept-apart
+
+    pub front-given : ForestGiven b (take r kept) limit
+    front-given = record { graph = f .graph; are = front-is }
+
+  -- The components that the whole forest makes are those of all edges, so their number tells whether there is a cover.
+  pub none-at-all : {before after : List ℕ} {r : ℕ} (k : ℕ) → RootsWritten (graphOf b) kept before after r → ltb k r ≡ noCover (graphOf b) (unrooted k)
+  unfolding noCover
+  none-at-all k w =
+      let g = graphOf b in
+      let same : mergeAll g apart kept ≡ mergeAll g apart (ordered g) = ap (mergeAll g apart) kept-apart ∙ kept-merges g apart (ordered g) in
+      ap (ltb k) (put-count (w .are) ∙ ap (λ label. length (lowest g label)) same)
+
+-- "The sum C" decides.
+module _ (g : Graph) (k limit : ℕ) {C : ℕ} (sum : C ≡ needed g limit) where
+  pub decided : leb C k ≡ accepts g (unrooted k) limit
+  unfolding accepts
+  decided = ap (λ n. leb n k) sum
+
+  -- There is nothing to choose.
+  nothing : Choices
+  nothing = record { assignment = []; paths = []; marks = [] }
+
+  -- "If the sum C exceeds k: too low, needs C", and nothing is written.
+  trial-too-low : k < C → trial g (unrooted k) limit nothing ≡ rules.too-low-needs C
+  unfolding trial unrootedTrial
+  trial-too-low h = rw (sym sum, lt-leb C k h)
+
+  pub too-low : k < C → (buffer : List ℕ) → Answers g (unrooted k) limit buffer buffer (Needs C)
+  unfolding bufferAfter written
+  too-low h buffer =
+      record { choices = nothing; good = tt; replied = rw (trial-too-low h) (record { same = refl; buffer = refl }) }
+
+  -- Otherwise the trees are the answer.
+  trial-covered : C ≤ k → trial g (unrooted k) limit nothing ≡ rules.covered limit (heaviest g (unrootedTrees g limit)) (unrootedTrees g limit)
+  unfolding trial unrootedTrial
+  trial-covered h = rw (sym sum, le-leb C k h)
+
+  pub covered : C ≤ k → {before after : List ℕ} {w : Written} → TreesWritten g limit before after w
+      → Answers g (unrooted k) limit before after (Cover limit (w .heaviest) (w .trees))
+  unfolding bufferAfter written
+  covered h {before} {after} {w} t =
+      let trees = unrootedTrees g limit in
+      record {
+        choices = nothing;
+        good = tt;
+        replied =
+            rw (trial-covered h)
+            (record {
+              same = ap₂ (λ x y. said 0 (limit ∷ x ∷ y ∷ [])) (t .heaviest-is) (t .trees-are);
+              buffer = t .put .is ∙ ap (λ n. encode trees ++ drop n before) (zero-add (length (encode trees)));
+            });
+      }
