@@ -37,3 +37,5 @@ pub mod TreeMarks
 pub mod RootUnion
 -- the path marked for a part is a shortest one
 pub mod RootPath
+-- the part that a root is assigned, and the path to it
+pub mod AssignedPart
