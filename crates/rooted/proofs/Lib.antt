@@ -39,3 +39,5 @@ pub mod RootUnion
 pub mod RootPath
 -- the part that a root is assigned, and the path to it
 pub mod AssignedPart
+-- each root's tree may be made
+pub mod RootsGiven
