@@ -70,11 +70,11 @@ unfolding treeVertices
 vertices-inside {g} valid t h v m = around-inside g (t .start) valid h (t .edges) v m
 
 module _ {g : Graph} {roots : List ℕ} {limit : ℕ} {a : TrialArrays} {parts : ℕ} (p : PartsPlaced g roots limit a parts true) where
-  abbrev given : IsAssignment parts (length roots) (mayGo g roots limit) (take parts (a .out))
+  abbrev pub given : IsAssignment parts (length roots) (mayGo g roots limit) (take parts (a .out))
   given = p .assignment refl
 
   -- The assignment, by the array of bytes.
-  byte : (i : ℕ) → i < parts → getD (take parts (a .out)) i 0 ≡ getD (a .out) i 0
+  pub byte : (i : ℕ) → i < parts → getD (take parts (a .out)) i 0 ≡ getD (a .out) i 0
   byte i h = getD-take parts (a .out) i 0 h
 
   pub bytes-room : parts ≤ length (a .out)

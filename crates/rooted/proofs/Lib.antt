@@ -41,3 +41,7 @@ pub mod RootPath
 pub mod AssignedPart
 -- each root's tree may be made
 pub mod RootsGiven
+-- each part's path, with which the tree of its root was made
+pub mod PartPaths
+-- the trees made for the roots are those of the trial's cover
+pub mod RootedChoices
