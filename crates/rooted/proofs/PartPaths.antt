@@ -1,6 +1,6 @@
 -- Each part has a path, with which the tree of its root was made: it leads back from one of the part's nearest vertices.
 -- Assumes nothing.
-use Prim.Native.Nat.{ℕ, _≤_, _<_}
+use Prim.Native.Nat.{ℕ, _<_}
 use mathlib.Core.Path.{_≡_, refl, ap, _∙_}
 use mathlib.Core.Bool.{true}
 use mathlib.Core.List.{List, [], _++_}
@@ -44,8 +44,7 @@ module _ {g : Graph} {roots : List ℕ} {limit : ℕ} {a : TrialArrays} {parts :
       go (part k v l f n q) =
           let in-parts : k < parts = omega (arith, places-many p) in
           let same : k ≡ i = bytes-apart p k i in-parts h (f .here l) in
-          let place : getD (take parts (a .places)) k 0 ≡ getD (a .places) i 0 = getD-take parts (a .places) k 0 in-parts ∙ ap (λ x. getD (a .places) x 0) same in
-          (
+          let place : getD (take parts (a .places)) k 0 ≡ getD (a .places) i 0 = getD-take parts (a .places) k 0 in-parts ∙ ap (λ x. getD (a .places) x 0) same in (
             turned (trailOf (rowOf (g .vertices) lasts j) (getD roots j 0) v),
             record {
               vertex = v;

@@ -1,31 +1,27 @@
 -- The trees made for the roots are those of the trial's cover: the assignment and the paths that they were made with are good choices
 -- (document 01, step 6).
 -- Assumes nothing.
-use Prim.Native.Nat.{ℕ, _≤_, _<_}
+use Prim.Native.Nat.{ℕ, _<_}
 use mathlib.Core.Path.{_≡_, refl, sym, ap, subst, _∙_}
-use mathlib.Core.Bool.{Bool, true, false, true≢false}
-use mathlib.Core.List.{List, [], _∷_, _++_, map, List·Memᴰ·head, List·Memᴰ·tail, List·Memᴰ·not-nil, Memᴰ·append-left, Memᴰ·append-right, List·Memᴰ·append-cases}
+use mathlib.Core.Bool.{true, true≢false}
+use mathlib.Core.List.{List, [], _∷_, _++_, List·Memᴰ·head, List·Memᴰ·tail, List·Memᴰ·not-nil, Memᴰ·append-left, Memᴰ·append-right, List·Memᴰ·append-cases}
 use mathlib.Core.Logic.{_⊎_, inl, inr}
 use native.Mathlib.Omega.{arith}
 use lib.ListN.{length, getD, take}
-use lib.Seq.{getD-take}
 use lib.Dec.{eqb}
 use borrow.Author.Tests.{eqb-true, eq-eqb}
-use Rattle.lists.specs.Count.{below}
 use Rattle.lists.specs.Lists.{member}
 use Rattle.lists.specs.Member.{_∈_}
 use Rattle.lists.specs.Segments.{segment}
 use Rattle.lists.specs.Sort.{rise}
-use Rattle.lists.proofs.Below.{of-below}
 use Rattle.lists.proofs.Chosen.{in-chosen, of-chosen}
-use Rattle.lists.proofs.Runs.{map-same}
 use Rattle.lists.proofs.Sorting.{in-rise, of-rise}
 use Rattle.graph.specs.Graph.{Graph}
 use Rattle.graph.specs.Valid.{Valid}
 use Rattle.matching.specs.Assignment.{IsAssignment}
 use Rattle.rules.specs.Cover.{Tree}
-use Rattle.rules.specs.Held.{treeAt, treesAt, risen}
-use Rattle.rules.specs.RootedTrial.{rootedPieces, rootedParts, partOf, mayGo, isAssignable, Choices, GoodChoices, unionTree, assignedEdges, leftAt, rootedCover}
+use Rattle.rules.specs.Held.{risen}
+use Rattle.rules.specs.RootedTrial.{rootedPieces, rootedParts, partOf, mayGo, Choices, GoodChoices, unionTree, assignedEdges, leftAt}
 use Rattle.rules.proofs.Linked.{turned, of-turned}
 use Rattle.distance.specs.Trail.{trailOf}
 use Rattle.distance.specs.Shortest.{unreached}
@@ -34,7 +30,7 @@ use Rattle.rooted.specs.Tree.{AssignedAre, none, part}
 use Rattle.rooted.specs.CoverTrees.{RootTree}
 use Rattle.rooted.proofs.NearMeansMayGo.{any-alike}
 use Rattle.rooted.proofs.UnionEdges.{union-same}
-use Rattle.rooted.proofs.AssignedPart.{pieceAt, given, byte, byte-is-root, bytes-apart, places-many, placed-part, part-path}
+use Rattle.rooted.proofs.AssignedPart.{given, byte, byte-is-root, bytes-apart, places-many, placed-part, part-path}
 use Rattle.rooted.proofs.PartPaths.{PathFor}
 
 -- A list turned round has all its elements.

@@ -1,8 +1,7 @@
 -- Where the parts are placed and assigned, each root's tree may be made.
 -- Assumes nothing.
-use Prim.Native.Nat.{ℕ, _≤_, _<_}
-use mathlib.Core.Path.{_≡_, sym, ap, _∙_}
-use mathlib.Core.Bool.{true}
+use Prim.Native.Nat.{ℕ, _<_}
+use mathlib.Core.Path.{_≡_, ap, _∙_}
 use mathlib.Core.List.{List}
 use native.Mathlib.Omega.{arith}
 use lib.ListN.{length, getD, take}
@@ -15,9 +14,9 @@ use Rattle.graph.specs.Bytes.{graphOf}
 use Rattle.rules.specs.Order.{comesBefore, ordered}
 use Rattle.pieces.proofs.SortedImages.{sort-length}
 use Rattle.rooted.specs.Placed.{rowOf}
-use Rattle.rooted.specs.Tree.{ReachGiven, RootGiven}
+use Rattle.rooted.specs.Tree.{ReachGiven}
 use Rattle.rooted.specs.CoverTrees.{RootsGiven, CoverAsked}
-use Rattle.rooted.proofs.AssignedPart.{pieceAt, bytes-room, places-many, place-in, start-in, part-edge, left-edge, part-back}
+use Rattle.rooted.proofs.AssignedPart.{bytes-room, places-many, start-in, part-edge, left-edge, part-back}
 
 -- As many edges stand in order as there are.
 ordered-count : (g : Graph) → length (ordered g) ≡ edgeCount g
