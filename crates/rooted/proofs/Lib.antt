@@ -45,7 +45,7 @@ pub mod RootsGiven
 pub mod PartPaths
 -- the trees made for the roots are those of the trial's cover
 pub mod RootedChoices
--- the trees of all roots, laid one after the other, are the trial's cover
-pub mod CoverLaid
 -- a root's tree, put behind the trees before it
 pub mod TreesPut
+-- the trees of all roots, laid one after the other, are the trial's cover
+pub mod CoverLaid
