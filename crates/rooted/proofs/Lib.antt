@@ -37,3 +37,15 @@ pub mod TreeMarks
 pub mod RootUnion
 -- the path marked for a part is a shortest one
 pub mod RootPath
+-- the part that a root is assigned, and the path to it
+pub mod AssignedPart
+-- each root's tree may be made
+pub mod RootsGiven
+-- each part's path, with which the tree of its root was made
+pub mod PartPaths
+-- the trees made for the roots are those of the trial's cover
+pub mod RootedChoices
+-- a root's tree, put behind the trees before it
+pub mod TreesPut
+-- the trees of all roots, laid one after the other, are the trial's cover
+pub mod CoverLaid

@@ -21,3 +21,5 @@ pub mod TooLowParts
 pub mod Tree
 -- what is prepared once a question
 pub mod Prepared
+-- the trees of an accepted trial
+pub mod CoverTrees
