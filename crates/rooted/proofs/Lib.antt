@@ -37,3 +37,7 @@ pub mod TreeMarks
 pub mod RootUnion
 -- the path marked for a part is a shortest one
 pub mod RootPath
+-- what the whole forest says of a limit
+pub mod LimitDecided
+-- seven arrays of zeros have room for the parts of every trial
+pub mod PartsReady

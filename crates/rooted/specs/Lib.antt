@@ -21,3 +21,5 @@ pub mod TooLowParts
 pub mod Tree
 -- what is prepared once a question
 pub mod Prepared
+-- what saying "no cover" and deciding a limit ask
+pub mod Decide
