@@ -41,3 +41,5 @@ pub mod RootPath
 pub mod LimitDecided
 -- seven arrays of zeros have room for the parts of every trial
 pub mod PartsReady
+-- the three answers of a rooted trial
+pub mod RootedAnswers
