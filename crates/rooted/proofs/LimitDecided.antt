@@ -3,7 +3,7 @@
 -- Assumes nothing.
 use Prim.Native.Nat.{ℕ, _≤_, _<_}
 use mathlib.Core.Path.{_≡_, refl, sym, ap, _∙_}
-use mathlib.Core.Bool.{Bool, true, false, not, true≢false, _&&_}
+use mathlib.Core.Bool.{true, false, not, true≢false, _&&_}
 use mathlib.Core.List.{List}
 use mathlib.Core.Option.{Option, some, none}
 use native.Mathlib.Omega.{arith}
@@ -72,8 +72,12 @@ module _ (g : Graph) (roots : List ℕ) {kept : List ℕ} (whole : kept ≡ keep
     at-limit = light .front (together roots) whole
 
     -- The forest's edges within the limit leave the vertex joined to no root that the trial says.
-    pub light-unjoined : unjoined g roots (mergeAll g (together roots) (take r kept)) ≡ unjoinedAt g roots limit
+    light-unjoined : unjoined g roots (mergeAll g (together roots) (take r kept)) ≡ unjoinedAt g roots limit
     light-unjoined = ap (λ edges. unjoined g roots (mergeAll g (together roots) edges)) at-limit ∙ forest-unjoined g roots limit
+
+    -- So where a vertex is looked for by them, what is found is the trial's.
+    pub stop-is : {before after : List ℕ} {f : Found} → StopFound g roots (take r kept) before after f → unjoinedAt g roots limit ≡ vertexIn f
+    stop-is s = sym (s .is ∙ light-unjoined)
 
     -- Where there is a cover and no edge of the whole forest is above the limit, every vertex is joined to a root.
     pub light-joined : noCover g (rooted roots) ≡ false → length kept ≤ r → unjoinedAt g roots limit ≡ none

@@ -1,6 +1,6 @@
 -- Seven arrays of zeros have room for the parts of every trial: at most 256 vertices and 32 roots.
 -- Assumes nothing.
-use Prim.Native.Nat.{ℕ, _*_, _≤_}
+use Prim.Native.Nat.{ℕ}
 use mathlib.Core.Path.{_≡_}
 use mathlib.Core.List.{List}
 use mathlib.Core.Option.{none}

@@ -2,8 +2,8 @@
 -- Assumes nothing.
 use Prim.Native.Nat.{ℕ, _+_, _<_}
 use mathlib.Core.Path.{_≡_, refl, sym, ap, _∙_}
-use mathlib.Core.Bool.{Bool, true, false, true≢false}
-use mathlib.Core.List.{List, [], _∷_, _++_}
+use mathlib.Core.Bool.{true, false, true≢false}
+use mathlib.Core.List.{List, [], _++_}
 use mathlib.Core.Option.{some, none}
 use lib.ListN.{length, drop}
 use Rattle.lists.specs.Member.{_∈_}
@@ -13,15 +13,14 @@ use Rattle.lists.proofs.Runs.{length-map-below}
 use Rattle.graph.specs.Graph.{Graph}
 use Rattle.graph.specs.Valid.{Valid}
 use Rattle.matching.specs.Assignment.{IsDeficient, markedParts, allowedRoots}
-use Rattle.rules.specs.Cover.{Tree, rooted, heaviest}
+use Rattle.rules.specs.Cover.{rooted, heaviest}
 use Rattle.rules.specs.CoverBytes.{encode}
 use Rattle.rules.specs.Questions.{written, bufferAfter}
 use Rattle.rules.specs.Reply.{covered, too-low-stop, too-low-parts}
 use Rattle.rules.specs.RootedTrial.{Choices, GoodChoices, unjoinedAt, rootedParts, mayGo, isAssignable, rootedCover, chosenParts, stopOr, rootedTrial}
 use Rattle.rules.specs.Search.{trial}
 use Rattle.planner_laws.proofs.SomeChoices.{some-choices}
-use Rattle.pieces.specs.Replies.{said, Replied, Answers}
-use Rattle.pieces.specs.declared.reply.Reply.{Reply}
+use Rattle.pieces.specs.Replies.{Answers}
 use Rattle.pieces.specs.declared.reply.Reply.the-variants.{Cover, Stop, Parts}
 use Rattle.rooted.specs.declared.too_low_parts.Deficient.{Deficient}
 use Rattle.rooted.specs.TooLowParts.{DeficientWritten}

@@ -1,7 +1,5 @@
 -- `rooted::decide::no_cover_rooted` meets its contract: the whole forest leaves the same vertex joined to no root as all edges do.
 -- Assumes nothing.
-use mathlib.Core.Path.{_≡_}
-use mathlib.Core.List.{List}
 use borrow.Author.Needs.{needs}
 use Rattle.graph.specs.Graph.{Graph}
 use Rattle.graph.specs.Bytes.{graphOf}
