@@ -37,6 +37,18 @@ pub mod TreeMarks
 pub mod RootUnion
 -- the path marked for a part is a shortest one
 pub mod RootPath
+-- the part that a root is assigned, and the path to it
+pub mod AssignedPart
+-- each root's tree may be made
+pub mod RootsGiven
+-- each part's path, with which the tree of its root was made
+pub mod PartPaths
+-- the trees made for the roots are those of the trial's cover
+pub mod RootedChoices
+-- the trees of all roots, laid one after the other, are the trial's cover
+pub mod CoverLaid
+-- a root's tree, put behind the trees before it
+pub mod TreesPut
 -- what the whole forest says of a limit
 pub mod LimitDecided
 -- seven arrays of zeros have room for the parts of every trial

@@ -35,7 +35,7 @@ use Rattle.rooted.specs.Parts.{PieceArrays, PiecesPlaced}
 use Rattle.rooted.proofs.RowPlaces.{place-within}
 
 -- Some element of one list passes a test exactly where one of the other does, where they have the same elements and the tests agree on them.
-any-alike : {A : Type 0} (f h : A → Bool) (xs ys : List A) → ((x : A) → x ∈ xs → x ∈ ys) → ((y : A) → y ∈ ys → y ∈ xs)
+pub any-alike : {A : Type 0} (f h : A → Bool) (xs ys : List A) → ((x : A) → x ∈ xs → x ∈ ys) → ((y : A) → y ∈ ys → y ∈ xs)
     → ((x : A) → x ∈ xs → f x ≡ h x) → any f xs ≡ any h ys
 any-alike f h xs ys to back same = go (either (any f xs)) (either (any h ys))
   where
@@ -53,17 +53,17 @@ says-within limit x d h (there p q) = ap (isWithin limit) (sym q)
 
 module _ (g : Graph) (start : ℕ) where
   -- The start and the ends of some edges.
-  abbrev around : List ℕ → List ℕ
+  abbrev pub around : List ℕ → List ℕ
   around edges = start ∷ flat (map (endsOf g) edges)
 
   -- Where the edges are among others, so are these vertices.
-  more-edges : (es fs : List ℕ) → ((e : ℕ) → e ∈ es → e ∈ fs) → (v : ℕ) → v ∈ around es → v ∈ around fs
+  pub more-edges : (es fs : List ℕ) → ((e : ℕ) → e ∈ es → e ∈ fs) → (v : ℕ) → v ∈ around es → v ∈ around fs
   more-edges es fs to v (List·Memᴰ·head q) = List·Memᴰ·head q
   more-edges es fs to v (List·Memᴰ·tail k) =
       let (e, i, q) = of-flat-map (endsOf g) es k in List·Memᴰ·tail (in-flat-map (endsOf g) (to e i) q)
 
   -- They are vertices of the graph.
-  around-inside : Valid g → start < g .vertices → (es : List ℕ) (v : ℕ) → v ∈ around es → v < g .vertices
+  pub around-inside : Valid g → start < g .vertices → (es : List ℕ) (v : ℕ) → v ∈ around es → v < g .vertices
   around-inside valid h es v (List·Memᴰ·head q) = rw q h
   around-inside valid h es v (List·Memᴰ·tail k) = let (e, i, q) = of-flat-map (endsOf g) es k in end-inside e q
     where
@@ -73,7 +73,7 @@ module _ (g : Graph) (start : ℕ) where
       end-inside e (List·Memᴰ·tail (List·Memᴰ·tail m)) = absurd (List·Memᴰ·not-nil m)
 
 -- A root is near a tree by the table exactly where its distance to the tree's nearest vertex is at most the limit.
-near-reaches : {g : Graph} → Valid g → {roots table : List ℕ} → DistancesTabled g roots table → (limit : ℕ) → limit < unreached
+pub near-reaches : {g : Graph} → Valid g → {roots table : List ℕ} → DistancesTabled g roots table → (limit : ℕ) → limit < unreached
     → (t : Tree) → t .start < g .vertices → (j : ℕ) → j < length roots
     → nearOne table (length roots) limit (treeVertices g t) j ≡ reachesPart g limit (getD roots j 0) (risen t)
 unfolding nearOne reachesPart treeVertices risen

@@ -21,5 +21,7 @@ pub mod TooLowParts
 pub mod Tree
 -- what is prepared once a question
 pub mod Prepared
+-- the trees of an accepted trial
+pub mod CoverTrees
 -- what saying "no cover" and deciding a limit ask
 pub mod Decide

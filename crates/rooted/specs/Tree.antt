@@ -64,12 +64,13 @@ pub record ReachMarked (g : Graph) (table last : List ℕ) (k j root start : ℕ
   pub nearest : Nearest g table k j (treeOf start edges) vertex
   pub marks : Marked (λ e. member e (edges ++ trailOf last root vertex)) before after
 
--- What marking root j's part asks: a byte for each place, and, for the first place whose byte is j, a piece that is held and may be marked
--- with the path to it.
+-- What marking root j's part asks: a byte for each place, pieces that are held, and, at a place whose byte is j, a piece that may be marked
+-- with the path to it. Of other places nothing is asked: no path need lead to them.
 pub record AssignedGiven (b table last : List ℕ) (root : ℕ) (starts cuts flat places out : List ℕ) (k j room : ℕ) : Type 0 where
   pub bytes : length places ≤ length out
   pub held : AllHeld cuts flat places
-  pub reach : (c : ℕ) → c ∈ places → ReachGiven b table last k j root (getD starts c 0) (segment cuts flat c) room
+  pub reach : (i : ℕ) → i < length places → getD out i 0 ≡ j
+      → ReachGiven b table last k j root (getD starts (getD places i 0) 0) (segment cuts flat (getD places i 0)) room
 
 -- Nothing was marked where j stands at no place; otherwise the piece at its first place and a path to it were marked.
 pub data AssignedMarked (g : Graph) (table last : List ℕ) (root : ℕ) (starts cuts flat places out : List ℕ) (k j : ℕ) (before after : List ℕ) : Type 0 where

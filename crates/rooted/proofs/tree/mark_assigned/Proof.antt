@@ -74,7 +74,7 @@ mark-reach-requires : tie.Need-mark-reach-requires
 mark-reach-requires c κs =
     let w = c .before .before in
     let e = w .before .before .before .before in
-    given-named (start-is w) (c .before .piece-edges .ensures) (start e .pre .reach _ (of-places e))
+    given-named (start-is w) (c .before .piece-edges .ensures) (start e .pre .reach _ (inside e) (e .before .place-with .ensures .here (inside e)))
 
 same-length : tie.Need-same-length
 same-length c = search needs
