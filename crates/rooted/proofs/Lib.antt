@@ -55,3 +55,5 @@ pub mod LimitDecided
 pub mod PartsReady
 -- the three answers of a rooted trial
 pub mod RootedAnswers
+-- placed parts may be answered, and what is written is the answer
+pub mod PlacedAnswered

@@ -25,3 +25,5 @@ pub mod Prepared
 pub mod CoverTrees
 -- what saying "no cover" and deciding a limit ask
 pub mod Decide
+-- what answering a rooted trial asks
+pub mod Answer
