@@ -45,10 +45,10 @@ pub mod RootsGiven
 pub mod PartPaths
 -- the trees made for the roots are those of the trial's cover
 pub mod RootedChoices
--- the trees of all roots, laid one after the other, are the trial's cover
-pub mod CoverLaid
 -- a root's tree, put behind the trees before it
 pub mod TreesPut
+-- the trees of all roots, laid one after the other, are the trial's cover
+pub mod CoverLaid
 -- what the whole forest says of a limit
 pub mod LimitDecided
 -- seven arrays of zeros have room for the parts of every trial
