@@ -49,3 +49,11 @@ pub mod RootedChoices
 pub mod TreesPut
 -- the trees of all roots, laid one after the other, are the trial's cover
 pub mod CoverLaid
+-- what the whole forest says of a limit
+pub mod LimitDecided
+-- seven arrays of zeros have room for the parts of every trial
+pub mod PartsReady
+-- the three answers of a rooted trial
+pub mod RootedAnswers
+-- placed parts may be answered, and what is written is the answer
+pub mod PlacedAnswered

@@ -23,3 +23,7 @@ pub mod Tree
 pub mod Prepared
 -- the trees of an accepted trial
 pub mod CoverTrees
+-- what saying "no cover" and deciding a limit ask
+pub mod Decide
+-- what answering a rooted trial asks
+pub mod Answer

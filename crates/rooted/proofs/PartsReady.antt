@@ -1,0 +1,51 @@
+-- Seven arrays of zeros have room for the parts of every trial: at most 256 vertices and 32 roots.
+-- Assumes nothing.
+use Prim.Native.Nat.{ℕ}
+use mathlib.Core.Path.{_≡_}
+use mathlib.Core.List.{List}
+use mathlib.Core.Option.{none}
+use native.Mathlib.Nat.{mul-le-mul-right}
+use native.Mathlib.Omega.{arith}
+use lib.ListN.{length, replicate, length-replicate}
+use Rattle.lists.proofs.Zeros.{zeros-at}
+use Rattle.graph.specs.Bytes.{graphOf}
+use Rattle.rules.specs.RootedTrial.{unjoinedAt}
+use Rattle.rooted.specs.Decide.{TrialAsked, PartsReady}
+use Rattle.rooted.specs.Parts.{PieceArrays, arraysOf, PartsAsked}
+
+-- Where every vertex is joined to a root within the limit, a trial may place its parts.
+pub parts-ready : {b roots : List ℕ} {limit : ℕ} {kept bounds arcs table : List ℕ} → TrialAsked b roots limit kept bounds arcs table
+    → unjoinedAt (graphOf b) roots limit ≡ none → PartsReady b roots limit bounds arcs table
+parts-ready a joined = record { asked = rw (a .decidable .forest) at a; joined = joined }
+
+-- The arrays before the trial.
+abbrev pub emptyArrays : PieceArrays
+emptyArrays = arraysOf (replicate 288 0) (replicate 289 0) (replicate 256 0) (replicate 32 0) (replicate 256 0)
+
+pub parts-asked : {b roots : List ℕ} {limit : ℕ} {bounds arcs table : List ℕ} → PartsReady b roots limit bounds arcs table
+    → PartsAsked (graphOf b) b roots limit bounds arcs table emptyArrays (replicate 8192 0) (replicate 256 0)
+parts-asked {b} {roots} r =
+    let d = r .asked .decidable in
+    let most = d .graph .valid .vertices-most in
+    let few = d .roots-few in
+    record {
+      pieces =
+          record {
+            graph = d .graph;
+            around = d .around;
+            joined = r .joined;
+            roots-inside = d .roots-inside;
+            roots-some = r .asked .roots-some;
+            roots-few = few;
+            starts-room = omega (arith, most, few, length-replicate {A = ℕ} 288 0);
+            cuts-room = omega (arith, most, few, length-replicate {A = ℕ} 289 0);
+            flat-room = omega (arith, most, length-replicate {A = ℕ} 256 0);
+            lefts-room = omega (arith, few, length-replicate {A = ℕ} 32 0);
+            places-room = omega (arith, most, length-replicate {A = ℕ} 256 0);
+          };
+      tabled = d .distances;
+      limit-most = r .asked .limit-most;
+      rows-room = omega (arith, mul-le-mul-right (length roots) most, few, length-replicate {A = ℕ} 8192 0);
+      rows-zero = λ x _. zeros-at 8192 x;
+      out-room = omega (arith, most, length-replicate {A = ℕ} 256 0);
+    }

@@ -1,0 +1,162 @@
+// The answer of a trial by crews with roots at a limit (document 01, a "yard" trial, steps 2 to 6), over what is prepared once a question.
+use crate::cover_trees::write_rooted;
+use crate::parts::place_parts;
+use crate::too_low_parts::write_deficient;
+use forest::lowest::Found;
+use pieces::reply::Reply;
+use pieces::whole::light_forest;
+use pieces::whole::stop_at;
+ghost use lib.ListN.{length};
+ghost use Rattle.graph.specs.Bytes.{graphOf};
+ghost use Rattle.rules.specs.Cover.{rooted};
+ghost use Rattle.pieces.specs.Replies.{Answers};
+ghost use Rattle.rooted.specs.Answer.{AnswerAsked, JoinedAsked, PlacedGiven, SetReplied};
+ghost use Rattle.rooted.specs.Placed.{trialArrays};
+ghost use Rattle.rooted.specs.TooLowParts.{SetGiven};
+
+// "Too low, parts T, yards D": the parts of the set are written.
+fn reply_deficient(
+    starts: &[u16],
+    cuts: &[u16],
+    flat: &[u16],
+    places: &[u16],
+    parts: usize,
+    rows: &[u8],
+    marks: &[u8],
+    k: usize,
+    buf: &mut [u8],
+) -> Reply
+    requires { ⌜ SetGiven (now cuts) (now flat) (now places) parts (now rows) (now marks) k (length (now buf)) ⌝ }
+    ensures { λ r. ⌜ SetReplied (now (starts .entry)) (now (cuts .entry)) (now (flat .entry)) (now (places .entry)) parts (now (rows .entry)) (now (marks .entry)) k
+        (now (buf .entry)) (now (buf .exit)) r ⌝ }
+{
+    let d = write_deficient(starts, cuts, flat, places, parts, rows, marks, k, buf);
+    Reply::Parts(d.parts, d.roots)
+}
+
+// The answer where the parts are placed: the cover where each has a root of its own, and otherwise a deficient set.
+fn answer_placed(
+    b: &[u8],
+    roots: &[u16],
+    limit: u64,
+    order: &[u16],
+    table: &[u32],
+    lasts: &[u32],
+    starts: &[u16],
+    cuts: &[u16],
+    flat: &[u16],
+    lefts: &[u16],
+    places: &[u16],
+    rows: &[u8],
+    out: &[u8],
+    parts: usize,
+    assigned: bool,
+    buf: &mut [u8],
+) -> Reply
+    requires { ⌜ PlacedGiven (now b) (now roots) limit (now order) (now table) (now lasts)
+        (trialArrays (now starts) (now cuts) (now flat) (now lefts) (now places) (now rows) (now out)) parts assigned (length (now buf)) ⌝ }
+    ensures { λ r. ⌜ Answers (graphOf (now (b .entry))) (rooted (now (roots .entry))) limit (now (buf .entry)) (now (buf .exit)) r ⌝ }
+{
+    let k = roots.len();
+    if assigned {
+        let heaviest = write_rooted(
+            b,
+            order,
+            table,
+            lasts,
+            roots,
+            starts,
+            cuts,
+            flat,
+            lefts,
+            places,
+            parts,
+            out,
+            buf,
+        );
+        return Reply::Cover(limit, heaviest, k);
+    }
+    reply_deficient(starts, cuts, flat, places, parts, rows, out, k, buf)
+}
+
+// The answer where every vertex is joined to a root.
+fn answer_parts(
+    b: &[u8],
+    roots: &[u16],
+    limit: u64,
+    order: &[u16],
+    bounds: &[u16],
+    arcs: &[u64],
+    table: &[u32],
+    lasts: &[u32],
+    buf: &mut [u8],
+) -> Reply
+    requires { ⌜ JoinedAsked (now b) (now roots) limit (now order) (now bounds) (now arcs) (now table) (now lasts) (length (now buf)) ⌝ }
+    ensures { λ r. ⌜ Answers (graphOf (now (b .entry))) (rooted (now (roots .entry))) limit (now (buf .entry)) (now (buf .exit)) r ⌝ }
+{
+    let mut starts = [0u16; 288];
+    let mut cuts = [0u16; 289];
+    let mut flat = [0u16; 256];
+    let mut lefts = [0u16; 32];
+    let mut places = [0u16; 256];
+    let mut rows = [0u8; 8192];
+    let mut out = [0u8; 256];
+    let placed = place_parts(
+        b,
+        roots,
+        limit,
+        bounds,
+        arcs,
+        table,
+        &mut starts,
+        &mut cuts,
+        &mut flat,
+        &mut lefts,
+        &mut places,
+        &mut rows,
+        &mut out,
+    );
+    answer_placed(
+        b,
+        roots,
+        limit,
+        order,
+        table,
+        lasts,
+        &starts,
+        &cuts,
+        &flat,
+        &lefts,
+        &places,
+        &rows,
+        &out,
+        placed.parts,
+        placed.assigned,
+        buf,
+    )
+}
+
+// The answer at a limit.
+pub fn answer_rooted(
+    b: &[u8],
+    roots: &[u16],
+    limit: u64,
+    order: &[u16],
+    kept: &[u16],
+    bounds: &[u16],
+    arcs: &[u64],
+    table: &[u32],
+    lasts: &[u32],
+    buf: &mut [u8],
+) -> Reply
+    requires { ⌜ AnswerAsked (now b) (now roots) limit (now order) (now kept) (now bounds) (now arcs) (now table) (now lasts) (length (now buf)) ⌝ }
+    ensures { λ r. ⌜ Answers (graphOf (now (b .entry))) (rooted (now (roots .entry))) limit (now (buf .entry)) (now (buf .exit)) r ⌝ }
+{
+    let light = light_forest(b, kept, limit);
+    let mut label = [0u16; 256];
+    let found = stop_at(b, roots, &kept[..light], &mut label);
+    match found {
+        Found::At(v) => Reply::Stop(v),
+        Found::Nothing => answer_parts(b, roots, limit, order, bounds, arcs, table, lasts, buf),
+    }
+}

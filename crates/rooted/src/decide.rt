@@ -1,0 +1,81 @@
+// Whether there is a cover at all, and whether a limit is accepted (document 01, a "yard" trial, steps 2 to 5), over what is prepared once a
+// question. A vertex is joined to a root within the limit exactly where no edge of the whole forest is above the limit.
+use crate::parts::place_parts;
+use forest::lowest::Found;
+use pieces::whole::light_forest;
+use pieces::whole::stop_at;
+ghost use mathlib.Core.Path.{_≡_};
+ghost use Rattle.graph.specs.Bytes.{graphOf};
+ghost use Rattle.rules.specs.Cover.{rooted};
+ghost use Rattle.rules.specs.RootedTrial.{isAssignable};
+ghost use Rattle.rules.specs.Search.{accepts, noCover};
+ghost use Rattle.rooted.specs.Decide.{NoCoverAsked, DecisionAsked, PartsReady};
+
+// Whether some vertex is joined to no root by any edge ("no cover"). The whole forest joins what all edges join.
+pub fn no_cover_rooted(b: &[u8], roots: &[u16], kept: &[u16]) -> bool
+    requires { ⌜ NoCoverAsked (now b) (now roots) (now kept) ⌝ }
+    ensures { λ r. ⌜ r ≡ noCover (graphOf (now (b .entry))) (rooted (now (roots .entry))) ⌝ }
+{
+    let mut label = [0u16; 256];
+    let found = stop_at(b, roots, kept, &mut label);
+    match found {
+        Found::At(_) => true,
+        Found::Nothing => false,
+    }
+}
+
+// Whether each part of the trial gets a root of its own, where every vertex is joined to a root.
+fn parts_assigned(
+    b: &[u8],
+    roots: &[u16],
+    limit: u64,
+    bounds: &[u16],
+    arcs: &[u64],
+    table: &[u32],
+) -> bool
+    requires { ⌜ PartsReady (now b) (now roots) limit (now bounds) (now arcs) (now table) ⌝ }
+    ensures { λ r. ⌜ r ≡ isAssignable (graphOf (now (b .entry))) (now (roots .entry)) limit ⌝ }
+{
+    let mut starts = [0u16; 288];
+    let mut cuts = [0u16; 289];
+    let mut flat = [0u16; 256];
+    let mut lefts = [0u16; 32];
+    let mut places = [0u16; 256];
+    let mut rows = [0u8; 8192];
+    let mut out = [0u8; 256];
+    let placed = place_parts(
+        b,
+        roots,
+        limit,
+        bounds,
+        arcs,
+        table,
+        &mut starts,
+        &mut cuts,
+        &mut flat,
+        &mut lefts,
+        &mut places,
+        &mut rows,
+        &mut out,
+    );
+    placed.assigned
+}
+
+// Whether the limit is accepted, where the whole graph joins every vertex to a root.
+pub fn accepts_rooted(
+    b: &[u8],
+    roots: &[u16],
+    limit: u64,
+    kept: &[u16],
+    bounds: &[u16],
+    arcs: &[u64],
+    table: &[u32],
+) -> bool
+    requires { ⌜ DecisionAsked (now b) (now roots) limit (now kept) (now bounds) (now arcs) (now table) ⌝ }
+    ensures { λ r. ⌜ r ≡ accepts (graphOf (now (b .entry))) (rooted (now (roots .entry))) limit ⌝ }
+{
+    if light_forest(b, kept, limit) < kept.len() {
+        return false;
+    }
+    parts_assigned(b, roots, limit, bounds, arcs, table)
+}
