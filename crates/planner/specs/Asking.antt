@@ -1,0 +1,89 @@
+-- A question about a graph that passed its check: a trial at a limit, or the best limit; and what is asked of each step that answers it.
+-- Assumes nothing.
+use Prim.Native.Nat.{ℕ, _≤_, _<_}
+use mathlib.Core.Path.{_≡_}
+use mathlib.Core.List.{List}
+use mathlib.Core.Option.{none}
+use lib.ListN.{length, getD}
+use Rattle.graph.specs.Graph.{Graph}
+use Rattle.graph.specs.Bytes.{graphOf}
+use Rattle.graph.specs.Valid.{IsGraph}
+use Rattle.rules.specs.Cover as cover
+use Rattle.rules.specs.Order.{ordered}
+use Rattle.rules.specs.Labels.{together}
+use Rattle.rules.specs.Forest.{keep}
+use Rattle.rules.specs.Reply as rules
+use Rattle.rules.specs.RootedTrial.{Choices}
+use Rattle.rules.specs.Search.{trial, bestLimit, best}
+use Rattle.rules.specs.Meaning.{GoodFor}
+use Rattle.rules.specs.Questions.{crewFault}
+use Rattle.cover.specs.Crews.{crewsOf}
+use Rattle.cover.specs.declared.crews.Kind.{Kind}
+use Rattle.pieces.specs.declared.reply.Reply.{Reply}
+use Rattle.pieces.specs.Replies.{Replied}
+use Rattle.rooted.specs.Prepared.{Prepared}
+use Rattle.planner.specs.declared.ask.Asked.{Asked}
+use Rattle.planner.specs.declared.ask.Asked.the-variants.{At, Best}
+use Rattle.planner.specs.Crews.{RootsFit}
+
+-- The limit at which the answer is written.
+abbrev pub limitOf : Asked → Graph → cover.Crews → ℕ
+limitOf (At limit) g crews = limit
+limitOf Best g crews = bestLimit g crews
+
+-- What the rules reply.
+abbrev pub replyTo : Asked → Graph → cover.Crews → Choices → rules.Reply
+replyTo (At limit) g crews c = trial g crews limit c
+replyTo Best g crews c = best g crews c
+
+-- A limit that is given is within document 01's range.
+abbrev pub LimitFits : Asked → Type 0
+LimitFits (At limit) = limit ≤ 2048000000
+LimitFits Best = Unit {0}
+
+-- The question is answered as the rules have it, by good choices.
+pub record Answered (asked : Asked) (g : Graph) (crews : cover.Crews) (before after : List ℕ) (r : Reply) : Type 0 where
+  pub choices : Choices
+  pub good : GoodFor g crews (limitOf asked g crews) choices
+  pub replied : Replied (replyTo asked g crews choices) before after r
+
+-- A graph's bytes, its crews, and the whole forest.
+pub record ForestReady (kind : Kind) (b roots kept : List ℕ) : Type 0 where
+  pub graph : IsGraph b
+  pub roots-inside : (j : ℕ) → j < length roots → getD roots j 0 < graphOf b .vertices
+  pub roots-fit : RootsFit kind roots
+  pub forest : kept ≡ keep (graphOf b) (together roots) (ordered (graphOf b))
+
+-- Everything that was prepared, at most 32 crews, and a buffer that is large enough.
+pub record AnswerAsked (kind : Kind) (k : ℕ) (b roots order kept bounds arcs table lasts : List ℕ) (room : ℕ) : Type 0 where
+  pub prepared : Prepared b roots order kept bounds arcs table lasts
+  pub roots-fit : RootsFit kind roots
+  pub crews-few : k ≤ 32
+  pub room-most : 32708 ≤ room
+
+-- The same at a limit.
+pub record LimitAsked (kind : Kind) (k : ℕ) (b roots : List ℕ) (limit : ℕ) (order kept bounds arcs table lasts : List ℕ) (room : ℕ) : Type 0 where
+  pub answer : AnswerAsked kind k b roots order kept bounds arcs table lasts room
+  pub limit-most : limit ≤ 2048000000
+
+-- The same for what is asked.
+pub record AskedReady (kind : Kind) (k : ℕ) (b roots : List ℕ) (asked : Asked) (order kept bounds arcs table lasts : List ℕ) (room : ℕ) : Type 0 where
+  pub answer : AnswerAsked kind k b roots order kept bounds arcs table lasts room
+  pub limit-fits : LimitFits asked
+
+-- Nothing is prepared yet.
+pub record QuestionAsked (kind : Kind) (k : ℕ) (b roots : List ℕ) (asked : Asked) (room : ℕ) : Type 0 where
+  pub graph : IsGraph b
+  pub roots-inside : (j : ℕ) → j < length roots → getD roots j 0 < graphOf b .vertices
+  pub roots-few : length roots ≤ 32
+  pub roots-fit : RootsFit kind roots
+  pub crews-few : k ≤ 32
+  pub limit-fits : LimitFits asked
+  pub room-most : 32708 ≤ room
+
+-- The crews of a question, which are not refused: nothing else is known.
+pub record CrewsAsked (kind : Kind) (k : ℕ) (b : List ℕ) (asked : Asked) (room : ℕ) : Type 0 where
+  pub graph : IsGraph b
+  pub crews-right : crewFault (crewsOf kind k) (graphOf b .vertices) ≡ none
+  pub limit-fits : LimitFits asked
+  pub room-most : 32708 ≤ room

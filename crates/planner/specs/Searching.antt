@@ -1,0 +1,31 @@
+-- The search for the best limit (document 01, "The best limit"), in steps over low and high.
+-- Assumes nothing.
+use Prim.Native.Nat.{ℕ, _≤_}
+use mathlib.Core.Path.{_≡_}
+use mathlib.Core.List.{List}
+use lib.ListN.{length}
+use Rattle.graph.specs.Graph.{Graph}
+use Rattle.graph.specs.Bytes.{graphOf}
+use Rattle.rules.specs.Cover as cover
+use Rattle.rules.specs.Order.{ordered}
+use Rattle.rules.specs.Search.{accepts, Bounds, searched}
+use Rattle.cover.specs.declared.crews.Kind.{Kind}
+use Rattle.planner.specs.Crews.{CrewsPrepared}
+
+-- Where the search stands.
+abbrev pub between : ℕ → ℕ → Bounds
+between low high = record { low = low; high = high }
+
+-- Where the search ends that begins between 0 and the sum, with so many trials at most.
+abbrev pub searchEnd : Graph → cover.Crews → ℕ → ℕ → ℕ
+searchEnd g crews sum budget = searched (accepts g crews) budget (between 0 sum) .high
+
+-- What the search asks: prepared crews, and a sum within document 01's range.
+pub record SearchAsked (kind : Kind) (k : ℕ) (b roots kept bounds arcs table : List ℕ) (sum : ℕ) : Type 0 where
+  pub crews : CrewsPrepared kind k b roots kept bounds arcs table
+  pub sum-most : sum ≤ 2048000000
+
+-- What the best limit asks besides: the edges in order.
+pub record BestAsked (kind : Kind) (k : ℕ) (b roots order kept bounds arcs table : List ℕ) : Type 0 where
+  pub crews : CrewsPrepared kind k b roots kept bounds arcs table
+  pub in-order : order ≡ ordered (graphOf b)

@@ -1,0 +1,160 @@
+// A question about a graph, prepared once and answered: a trial at a limit, or the best limit.
+use crate::answer::answer_at;
+use crate::answer::no_cover;
+use crate::prepare::prepare;
+use crate::search::best_limit;
+use cover::crews::Kind;
+use pieces::pieces::number_up;
+use pieces::reply::Reply;
+ghost use lib.ListN.{length};
+ghost use Rattle.graph.specs.Bytes.{graphOf};
+ghost use Rattle.cover.specs.Crews.{crewsOf};
+ghost use Rattle.planner.specs.declared.ask.Asked.the-variants.{Best};
+ghost use Rattle.planner.specs.Crews.{crewsWith};
+ghost use Rattle.planner.specs.Asking.{Answered, AnswerAsked, AskedReady, QuestionAsked, CrewsAsked};
+
+// What is asked.
+pub enum Asked {
+    // A trial at a limit.
+    At(u64),
+    // The best limit.
+    Best,
+}
+
+// The answer at the best limit, or that no cover exists.
+fn answer_best(
+    kind: Kind,
+    k: usize,
+    b: &[u8],
+    roots: &[u16],
+    order: &[u16],
+    kept: &[u16],
+    bounds: &[u16],
+    arcs: &[u64],
+    table: &[u32],
+    lasts: &[u32],
+    buf: &mut [u8],
+) -> Reply
+    requires { ⌜ AnswerAsked kind k (now b) (now roots) (now order) (now kept) (now bounds) (now arcs) (now table) (now lasts) (length (now buf)) ⌝ }
+    ensures { λ r. ⌜ Answered Best (graphOf (now (b .entry))) (crewsWith kind k (now (roots .entry))) (now (buf .entry)) (now (buf .exit)) r ⌝ }
+{
+    if no_cover(kind, k, b, roots, kept) {
+        return Reply::NoCover;
+    }
+    let limit = best_limit(kind, k, b, roots, order, kept, bounds, arcs, table);
+    answer_at(
+        kind,
+        k,
+        b,
+        roots,
+        limit,
+        order,
+        kept,
+        bounds,
+        arcs,
+        table,
+        lasts,
+        buf,
+    )
+}
+
+// The answer, over everything that was prepared.
+fn answer_asked(
+    kind: Kind,
+    k: usize,
+    b: &[u8],
+    roots: &[u16],
+    asked: Asked,
+    order: &[u16],
+    kept: &[u16],
+    bounds: &[u16],
+    arcs: &[u64],
+    table: &[u32],
+    lasts: &[u32],
+    buf: &mut [u8],
+) -> Reply
+    requires { ⌜ AskedReady kind k (now b) (now roots) asked (now order) (now kept) (now bounds) (now arcs) (now table) (now lasts) (length (now buf)) ⌝ }
+    ensures { λ r. ⌜ Answered asked (graphOf (now (b .entry))) (crewsWith kind k (now (roots .entry))) (now (buf .entry)) (now (buf .exit)) r ⌝ }
+{
+    match asked {
+        Asked::At(limit) => answer_at(
+            kind,
+            k,
+            b,
+            roots,
+            limit,
+            order,
+            kept,
+            bounds,
+            arcs,
+            table,
+            lasts,
+            buf,
+        ),
+        Asked::Best => answer_best(
+            kind,
+            k,
+            b,
+            roots,
+            order,
+            kept,
+            bounds,
+            arcs,
+            table,
+            lasts,
+            buf,
+        ),
+    }
+}
+
+// Prepares the question, and answers it. The roots are a list of vertices, one for each crew; crews without roots give none.
+fn ask(kind: Kind, k: usize, b: &[u8], roots: &[u16], asked: Asked, buf: &mut [u8]) -> Reply
+    requires { ⌜ QuestionAsked kind k (now b) (now roots) asked (length (now buf)) ⌝ }
+    ensures { λ r. ⌜ Answered asked (graphOf (now (b .entry))) (crewsWith kind k (now (roots .entry))) (now (buf .entry)) (now (buf .exit)) r ⌝ }
+{
+    let mut order = [0u16; 2048];
+    let mut kept = [0u16; 256];
+    let mut bounds = [0u16; 257];
+    let mut arcs = [0u64; 512];
+    let mut table = [0u32; 8192];
+    let mut lasts = [0u32; 8192];
+    let ready = prepare(
+        b,
+        roots,
+        &mut order,
+        &mut kept,
+        &mut bounds,
+        &mut arcs,
+        &mut table,
+        &mut lasts,
+    );
+    answer_asked(
+        kind,
+        k,
+        b,
+        roots,
+        asked,
+        &order[..ready.edges],
+        &kept[..ready.forest],
+        &bounds,
+        &arcs,
+        &table,
+        &lasts,
+        buf,
+    )
+}
+
+// The same for crews of a question: "the yards are stops 0 to k - 1". Only here is that known.
+pub fn ask_crews(kind: Kind, k: usize, b: &[u8], asked: Asked, buf: &mut [u8]) -> Reply
+    requires { ⌜ CrewsAsked kind k (now b) asked (length (now buf)) ⌝ }
+    ensures { λ r. ⌜ Answered asked (graphOf (now (b .entry))) (crewsOf kind k) (now (buf .entry)) (now (buf .exit)) r ⌝ }
+{
+    let mut roots = [0u16; 32];
+    match kind {
+        Kind::Rooted => {
+            number_up(k, &mut roots);
+            ask(kind, k, b, &roots[..k], asked, buf)
+        }
+        Kind::Unrooted => ask(kind, k, b, &[], asked, buf),
+    }
+}

@@ -1,0 +1,29 @@
+// Whether a limit is accepted, by crews of either kind: all that a trial inside the search does.
+use cover::crews::Kind;
+use rooted::decide::accepts_rooted;
+use unrooted::answer::accepts_unrooted;
+ghost use mathlib.Core.Path.{_≡_};
+ghost use Rattle.graph.specs.Bytes.{graphOf};
+ghost use Rattle.rules.specs.Search.{accepts};
+ghost use Rattle.planner.specs.Crews.{crewsWith, DecisionAsked};
+
+// Whether the crews' trial at the limit accepts.
+pub fn accepts_at(
+    kind: Kind,
+    k: usize,
+    b: &[u8],
+    roots: &[u16],
+    limit: u64,
+    kept: &[u16],
+    bounds: &[u16],
+    arcs: &[u64],
+    table: &[u32],
+) -> bool
+    requires { ⌜ DecisionAsked kind k (now b) (now roots) limit (now kept) (now bounds) (now arcs) (now table) ⌝ }
+    ensures { λ r. ⌜ r ≡ accepts (graphOf (now (b .entry))) (crewsWith kind k (now (roots .entry))) limit ⌝ }
+{
+    match kind {
+        Kind::Rooted => accepts_rooted(b, roots, limit, kept, bounds, arcs, table),
+        Kind::Unrooted => accepts_unrooted(b, k, limit, kept),
+    }
+}

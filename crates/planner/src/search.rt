@@ -1,0 +1,82 @@
+// The search for the best limit (document 01, "The best limit"): each trial in it only decides.
+use crate::decide::accepts_at;
+use cover::crews::Kind;
+use forest::index::weight_of;
+ghost use mathlib.Core.Path.{_≡_};
+ghost use Prim.Native.Nat.{_≤_};
+ghost use lib.ListN.{length};
+ghost use Rattle.graph.specs.Bytes.{graphOf};
+ghost use Rattle.rules.specs.Walk.{totalWeight};
+ghost use Rattle.rules.specs.Search.{bestLimit};
+ghost use Rattle.planner.specs.Crews.{crewsWith};
+ghost use Rattle.planner.specs.Searching.{searchEnd, SearchAsked, BestAsked};
+
+// The weight of the edges together.
+fn sum_weights(b: &[u8], edges: &[u16]) -> u64
+    requires { ⌜ length (now edges) ≤ 2048 ⌝ }
+    ensures { λ r. ⌜ r ≡ totalWeight (graphOf (now (b .entry))) (now (edges .entry)) ⌝ }
+{
+    let mut sum = 0;
+    let mut i = 0;
+    while i < edges.len() {
+        sum += weight_of(b, edges[i]);
+        i += 1;
+    }
+    sum
+}
+
+// Halves what lies between low, which was not accepted, and high, which was, until they are neighbours or the trials are used up. Says high.
+fn search(
+    kind: Kind,
+    k: usize,
+    b: &[u8],
+    roots: &[u16],
+    kept: &[u16],
+    bounds: &[u16],
+    arcs: &[u64],
+    table: &[u32],
+    sum: u64,
+    budget: usize,
+) -> u64
+    requires { ⌜ SearchAsked kind k (now b) (now roots) (now kept) (now bounds) (now arcs) (now table) sum ⌝ }
+    ensures { λ r. ⌜ r ≡ searchEnd (graphOf (now (b .entry))) (crewsWith kind k (now (roots .entry))) sum budget ⌝ }
+{
+    let mut low = 0;
+    let mut high = sum;
+    let mut left = budget;
+    while 0 < left {
+        if high - low <= 1 {
+            return high;
+        }
+        left -= 1;
+        let middle = (low + high) / 2;
+        if accepts_at(kind, k, b, roots, middle, kept, bounds, arcs, table) {
+            high = middle;
+            continue;
+        }
+        low = middle;
+    }
+    high
+}
+
+// The best limit: 0 where that is accepted, and otherwise where the search ends. 31 trials are enough for any sum of weights.
+pub fn best_limit(
+    kind: Kind,
+    k: usize,
+    b: &[u8],
+    roots: &[u16],
+    order: &[u16],
+    kept: &[u16],
+    bounds: &[u16],
+    arcs: &[u64],
+    table: &[u32],
+) -> u64
+    requires { ⌜ BestAsked kind k (now b) (now roots) (now order) (now kept) (now bounds) (now arcs) (now table) ⌝ }
+    ensures { λ r. ⌜ r ≡ bestLimit (graphOf (now (b .entry))) (crewsWith kind k (now (roots .entry))) ⌝ }
+{
+    if accepts_at(kind, k, b, roots, 0, kept, bounds, arcs, table) {
+        return 0;
+    }
+    let sum = sum_weights(b, order);
+    search(kind, k, b, roots, kept, bounds, arcs, table, sum, 31)
+}
