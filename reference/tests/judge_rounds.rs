@@ -7,10 +7,13 @@ use std::path::Path;
 
 use common::other::other_rounds;
 use common::{input, sheet_n};
+use reference::best::search;
 use reference::bytes::{put_two, two};
+use reference::graph::read;
 use reference::judge_rounds::{judge_rounds, run_program};
 use reference::made_questions::inputs;
-use reference::rounds::rounds;
+use reference::question::Kind;
+use reference::rounds::{question, rounds};
 
 /// The program `rounds` of this package.
 fn own_program() -> &'static Path {
@@ -94,6 +97,77 @@ fn wrong_programs_do_not_pass() {
     }
 }
 
+/// The rows of a text, each as its words.
+type Rows = Vec<Vec<String>>;
+
+/// What a program prints that changes the rows of every cover it should print.
+fn changed_cover(input: &[u8], change: impl Fn(&mut Rows)) -> String {
+    let text = rounds(input);
+    if !text.starts_with("cover") {
+        return text;
+    }
+    let words = |row: &str| row.split(' ').map(String::from).collect();
+    let mut rows: Rows = text.lines().map(words).collect();
+    change(&mut rows);
+    rows.iter().map(|row| row.join(" ") + "\n").collect()
+}
+
+/// The answer to a best-limit question by a trial at a limit made of the sum and the best limit; others as they are.
+fn searched(input: &[u8], limit: fn(u64, u64) -> u64) -> String {
+    let text = rounds(input);
+    let Ok(asked) = question(input) else { return text };
+    if asked.limit.is_some() || !text.starts_with("cover") {
+        return text;
+    }
+    let graph = read(asked.sheet).expect("an answered sheet");
+    let (best, _) = search(asked.kind, &graph, asked.k as usize).expect("a cover");
+    let number = if asked.kind == Kind::Rooted { 1 } else { 2 };
+    rounds(&common::input(number, asked.k as usize, limit(graph.total(), best), asked.sheet))
+}
+
+#[test]
+fn programs_that_plan_wrongly_do_not_pass() {
+    type Program = fn(&[u8]) -> String;
+    let rows: [(&str, Program); 10] = [
+        ("leaves a tree's last edge out", |input| {
+            changed_cover(input, |rows| {
+                if let Some(row) = rows.iter_mut().skip(1).find(|row| row.len() > 3) {
+                    row.pop();
+                }
+            })
+        }),
+        ("puts one edge more", |input| {
+            changed_cover(input, |rows| rows.last_mut().unwrap().push("0".into()))
+        }),
+        ("leaves the last tree out", |input| changed_cover(input, |rows| drop(rows.pop()))),
+        ("prints the trees in another order", |input| {
+            changed_cover(input, |rows| rows[1..].reverse())
+        }),
+        ("prints a tree's edges in another order", |input| {
+            changed_cover(input, |rows| rows[1..].iter_mut().for_each(|row| row[3..].reverse()))
+        }),
+        ("starts a tree elsewhere", |input| {
+            changed_cover(input, |rows| {
+                rows[1][1] = if rows[1][1] == "0" { "1" } else { "0" }.into()
+            })
+        }),
+        ("tries only the sum of weights", |input| searched(input, |sum, _| sum)),
+        ("ends the search one too high", |input| searched(input, |_, best| best + 1)),
+        ("says too low to every trial", |input| match rounds(input) {
+            text if text.starts_with("cover") => "too low needs 9\n".into(),
+            text => text,
+        }),
+        ("says no cover without looking", |input| match rounds(input) {
+            text if text.starts_with("cover") => "no cover\n".into(),
+            text => text,
+        }),
+    ];
+    for (name, program) in rows {
+        let said = judge_rounds(1, |input| Ok(program(input)));
+        assert!(said.wrong.len() > 10, "{name}: {} right, {} wrong", said.right, said.wrong.len());
+    }
+}
+
 #[test]
 fn a_program_that_fails_does_not_pass() {
     let none = |input: &[u8]| run_program(Path::new("/no/such/program"), input);
@@ -118,39 +192,4 @@ fn a_program_is_fed_and_read() {
     assert_eq!(run_program(own_program(), &[]).expect("it runs"), "refused 41\n");
     assert_eq!(run_program(own_program(), &vec![1; 200_000]).expect("it runs"), "refused 41\n");
     assert!(run_program(Path::new("/no/such/program"), &whole).is_err());
-}
-
-/// The first word or two of an answer.
-fn opening(text: &str) -> String {
-    let words: Vec<&str> = text.split_whitespace().collect();
-    match words[0] {
-        "cover" | "no" => words[0].to_string(),
-        "refused" => words[..2].join(" "),
-        _ => words[..3].join(" "),
-    }
-}
-
-#[test]
-fn every_round_meets_every_answer() {
-    for round in 0..3 {
-        let all = inputs(round);
-        assert!(all != inputs(round + 1) && all == inputs(round));
-        let mut due = vec!["cover", "no", "too low stop", "too low parts", "too low needs"];
-        let numbers: Vec<String> =
-            [11, 12, 14, 15, 16, 21, 22, 41].map(|number| format!("refused {number}")).into();
-        due.extend(numbers.iter().map(String::as_str));
-        let met: Vec<(usize, String)> = all
-            .iter()
-            .map(|input| (input.first().copied().unwrap_or(0).into(), opening(&rounds(input))))
-            .collect();
-        for word in due {
-            assert!(met.iter().any(|(_, opening)| opening == word), "round {round}: no {word}");
-        }
-        for question in 1..=4 {
-            let covers = met.iter().filter(|row| row.0 == question && row.1 == "cover").count();
-            assert!(covers > 5, "round {round}, question {question}: {covers} covers");
-        }
-        let full = all.iter().filter(|input| input.len() == 16_396).count();
-        assert!(full > 8, "round {round}: {full} of full size");
-    }
 }
