@@ -34,3 +34,4 @@ pub mod rounds;
 pub mod split;
 pub mod trial;
 pub mod unrooted;
+pub mod written;
