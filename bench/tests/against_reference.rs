@@ -7,7 +7,7 @@ use bench::question::{BUFFER, ROOTED, UNROOTED};
 use bench::trial::trial;
 use reference::judge::{self, Reply};
 use reference::made_filings::filings;
-use reference::made_shapes::{graph, SHAPES, WEIGHTS};
+use reference::made_shapes::{graph, SEARCHED, SHAPES, WEIGHTS};
 use reference::made_trials::records;
 use reference::question::{Answer, Kind};
 use reference::random::Random;
@@ -107,6 +107,17 @@ fn on_shapes(seed: u64, turns: usize, vertices: (usize, usize), trees: usize) {
                     });
                 }
             }
+        }
+    }
+}
+
+/// Graphs on which accepted limits lie below others that are not, so that a search of another order would show.
+#[test]
+fn uneven_graphs() {
+    for (n, k, edges) in SEARCHED {
+        let sheet = reference::graph::sheet(n, edges);
+        for kind in [Kind::Rooted, Kind::Unrooted] {
+            assert_eq!(judged(kind, k, None, &sheet, BUFFER), Ok(0));
         }
     }
 }

@@ -33,7 +33,7 @@ use crate::cover::{decode, encode as cover_bytes, filed_length, gather, Tree};
 use crate::fixed::is_fixed;
 use crate::graph::{read, sheet, Graph};
 use crate::made_filings::changed_fields;
-use crate::made_shapes::{damaged_sheets, graph, shuffled, Shape, SHAPES, WEIGHTS};
+use crate::made_shapes::{damaged_sheets, graph, shuffled, Shape, SEARCHED, SHAPES, WEIGHTS};
 use crate::question::{Answer, Kind, BUFFER, LIMIT};
 use crate::random::Random;
 use crate::rounds::text as answer_text;
@@ -154,6 +154,10 @@ pub fn records() -> Vec<Record> {
     let mut all = small_districts();
     let mut random = Random::new(101);
     all.extend(refused(&mut random));
+    for (n, k, edges) in SEARCHED {
+        let graph = Graph::new(n, edges);
+        BOTH.iter().for_each(|&kind| all.extend(around_best(&mut random, kind, &graph, k)));
+    }
     for turn in 0..20 {
         SHAPES.iter().for_each(|&shape| all.extend(made(&mut random, shape, turn)));
     }

@@ -9,11 +9,12 @@ use common::other::other_rounds;
 use common::{input, sheet_n};
 use reference::best::search;
 use reference::bytes::{put_two, two};
-use reference::graph::read;
+use reference::graph::{read, Graph};
 use reference::judge_rounds::{judge_rounds, run_program};
 use reference::made_questions::inputs;
 use reference::question::Kind;
 use reference::rounds::{question, rounds};
+use reference::trial::{run, Outcome};
 
 /// The program `rounds` of this package.
 fn own_program() -> &'static Path {
@@ -112,23 +113,72 @@ fn changed_cover(input: &[u8], change: impl Fn(&mut Rows)) -> String {
     rows.iter().map(|row| row.join(" ") + "\n").collect()
 }
 
-/// The answer to a best-limit question by a trial at a limit made of the sum and the best limit; others as they are.
-fn searched(input: &[u8], limit: fn(u64, u64) -> u64) -> String {
+/// A search of one's own: the limit where it ends, for a graph that has a cover.
+type Search = fn(Kind, &Graph, usize) -> u64;
+
+/// The answer to a best-limit question by a trial where another search ends; other answers as they are.
+fn searched(input: &[u8], other: Search) -> String {
     let text = rounds(input);
     let Ok(asked) = question(input) else { return text };
     if asked.limit.is_some() || !text.starts_with("cover") {
         return text;
     }
     let graph = read(asked.sheet).expect("an answered sheet");
-    let (best, _) = search(asked.kind, &graph, asked.k as usize).expect("a cover");
+    let k = asked.k as usize;
     let number = if asked.kind == Kind::Rooted { 1 } else { 2 };
-    rounds(&common::input(number, asked.k as usize, limit(graph.total(), best), asked.sheet))
+    rounds(&common::input(number, k, other(asked.kind, &graph, k), asked.sheet))
+}
+
+/// The search, with another middle between two limits.
+fn halved(kind: Kind, graph: &Graph, k: usize, middle: fn(u64, u64) -> u64) -> u64 {
+    let accepted = |limit| matches!(run(kind, graph, k, limit), Outcome::Cover(_));
+    let (mut low, mut high) = (0, graph.total());
+    if accepted(0) {
+        return 0;
+    }
+    while high - low > 1 {
+        let tried = middle(low, high);
+        if accepted(tried) {
+            high = tried;
+        } else {
+            low = tried;
+        }
+    }
+    high
+}
+
+#[test]
+fn other_searches_do_not_pass() {
+    let rows: [(&str, Search); 4] = [
+        ("tries only the sum of weights", |_, graph, _| graph.total()),
+        ("ends one too high", |kind, graph, k| search(kind, graph, k).expect("a cover").0 + 1),
+        ("rounds up", |kind, graph, k| {
+            halved(kind, graph, k, |low, high| (low + high).div_ceil(2))
+        }),
+        ("tries every limit from 0 on", |kind, graph, k| halved(kind, graph, k, |low, _| low + 1)),
+    ];
+    for (name, other) in rows {
+        // A graph of few edges shows as much, and every limit of it can be tried.
+        let program = |input: &[u8]| match input.len() {
+            ..130 if !input.is_empty() && question(input).is_ok_and(|q| sum_of(q.sheet) < 100) => {
+                searched(input, other)
+            }
+            _ => rounds(input),
+        };
+        let said = judge_rounds(1, |input| Ok(program(input)));
+        assert!(!said.wrong.is_empty(), "{name}: {} right", said.right);
+    }
+}
+
+/// The sum of a sheet's weights, 0 for one that is refused.
+fn sum_of(sheet: &[u8]) -> u64 {
+    read(sheet).map_or(0, |graph| graph.total())
 }
 
 #[test]
 fn programs_that_plan_wrongly_do_not_pass() {
     type Program = fn(&[u8]) -> String;
-    let rows: [(&str, Program); 10] = [
+    let rows: [(&str, Program); 8] = [
         ("leaves a tree's last edge out", |input| {
             changed_cover(input, |rows| {
                 if let Some(row) = rows.iter_mut().skip(1).find(|row| row.len() > 3) {
@@ -151,8 +201,6 @@ fn programs_that_plan_wrongly_do_not_pass() {
                 rows[1][1] = if rows[1][1] == "0" { "1" } else { "0" }.into()
             })
         }),
-        ("tries only the sum of weights", |input| searched(input, |sum, _| sum)),
-        ("ends the search one too high", |input| searched(input, |_, best| best + 1)),
         ("says too low to every trial", |input| match rounds(input) {
             text if text.starts_with("cover") => "too low needs 9\n".into(),
             text => text,
