@@ -92,13 +92,13 @@ pub fn medians(question: &Question, planners: &[Planner], rounds: usize) -> Vec<
         let once = measured(planner, 3) / 3;
         1 + (LEAST.as_nanos() / once.as_nanos().max(1)).min(1_000) as u32
     };
-    let times: Vec<u32> = planners.iter().map(times_of).collect();
+    let times = planners.iter().map(times_of).max().unwrap_or(1);
     let mut all = vec![Vec::with_capacity(rounds); planners.len()];
     for round in 0..rounds {
         for turn in 0..planners.len() {
             let which = (round + turn) % planners.len();
-            let taken = measured(&planners[which], times[which]);
-            all[which].push(taken.as_secs_f64() * 1e6 / f64::from(times[which]));
+            let taken = measured(&planners[which], times);
+            all[which].push(taken.as_secs_f64() * 1e6 / f64::from(times));
         }
     }
     all.into_iter().map(median).collect()

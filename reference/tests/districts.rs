@@ -215,6 +215,26 @@ fn right_replies_pass() {
 }
 
 #[test]
+fn other_choices_are_printed_alike() {
+    let mut differing = 0;
+    for record in made() {
+        let (Some(own), Some(other)) = (own_reply(record), other(record)) else { continue };
+        let is_whole = encode(std::slice::from_ref(record))[10] == 1;
+        let counts = if is_whole { own.values.len() } else { 1 };
+        if own.case == 2 && !is_whole {
+            assert_eq!(other.case, 2);
+        } else {
+            assert_eq!((other.case, &other.values[..counts]), (own.case, &own.values[..counts]));
+        }
+        if is_whole && own.case == 0 {
+            assert!(own.front == other.front, "{record:?}");
+        }
+        differing += usize::from(own != other);
+    }
+    assert!(differing > 60, "{differing}");
+}
+
+#[test]
 fn changed_replies_do_not_pass() {
     for record in made().iter().filter(|record| record.sheet.len() < 1_000).step_by(7) {
         let Some(full) = own_reply(record) else { continue };
