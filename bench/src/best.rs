@@ -2,6 +2,7 @@
 
 use crate::assign::Assigned;
 use crate::question::{admit, answer_cover, is_rooted, BUFFER, NO_COVER};
+use crate::rooted::Placed;
 use crate::{rooted, unrooted};
 
 /// Answers with the number of a case or of a refusal; the values and the buffer's front are written as the case has them.
@@ -19,7 +20,7 @@ pub fn best(kind: u32, k: usize, sheet: &[u8], values: &mut [u64; 3], buffer: &m
         };
         // At 0 no edge is left, so that every vertex must be a root.
         let limit = search(graph.n == k, graph.total(), |limit| prepared.accepts(limit));
-        let (parts, left, _, assigned) = prepared.place(limit);
+        let Placed { parts, left, assigned, .. } = prepared.place(limit);
         let Assigned::Roots(roots) = assigned else {
             unreachable!("the limit found is accepted");
         };

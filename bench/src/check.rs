@@ -16,45 +16,80 @@ pub fn check(kind: u32, k: usize, sheet: &[u8], cover: &[u8], values: &mut [u64;
     }
 }
 
+/// A filed cover's fields: two counts, the starts, the tree numbers, the edge numbers.
+struct Filed<'a> {
+    bytes: &'a [u8],
+    t: usize,
+    q: usize,
+}
+
+impl Filed<'_> {
+    /// Takes cover bytes apart, or refuses their length with 31.
+    fn read(bytes: &[u8]) -> Result<Filed<'_>, u32> {
+        let mut filed = Filed { bytes, t: 0, q: 0 };
+        if bytes.len() < 4 {
+            return Err(31);
+        }
+        (filed.t, filed.q) = (filed.field(0) as usize, filed.field(1) as usize);
+        if bytes.len() != 4 + 2 * filed.t + 4 * filed.q {
+            return Err(31);
+        }
+        Ok(filed)
+    }
+
+    fn field(&self, at: usize) -> u16 {
+        u16::from_le_bytes([self.bytes[2 * at], self.bytes[2 * at + 1]])
+    }
+
+    fn start(&self, tree: usize) -> u16 {
+        self.field(2 + tree)
+    }
+
+    /// The tree and the edge of an entry.
+    fn entry(&self, i: usize) -> (u16, u16) {
+        (self.field(2 + self.t + i), self.field(2 + self.t + self.q + i))
+    }
+
+    /// Whether the starts follow the rule of the kind.
+    fn starts_fit(&self, kind: u32, k: usize, n: usize) -> bool {
+        let mut starts = (0..self.t).map(|tree| self.start(tree) as usize);
+        if is_rooted(kind) {
+            return starts.eq(0..k);
+        }
+        (1..=k).contains(&self.t) && starts.all(|start| start < n)
+    }
+
+    /// Whether the entries name trees and edges that exist and rise strictly.
+    fn entries_fit(&self, m: usize) -> bool {
+        let mut before = None;
+        (0..self.q).all(|i| {
+            let entry = self.entry(i);
+            let rises = before < Some(entry);
+            before = Some(entry);
+            rises && (entry.0 as usize) < self.t && (entry.1 as usize) < m
+        })
+    }
+}
+
 /// Checks cover bytes on a graph: the heaviest weight, or 31 to 35.
 fn check_on(kind: u32, k: usize, graph: &Graph, cover: &[u8]) -> Result<u64, u32> {
-    if cover.len() < 4 {
-        return Err(31);
-    }
-    let field = |at: usize| u16::from_le_bytes([cover[2 * at], cover[2 * at + 1]]);
-    let (t, q) = (field(0) as usize, field(1) as usize);
-    if cover.len() != 4 + 2 * t + 4 * q {
-        return Err(31);
-    }
-    let start = |tree: usize| field(2 + tree);
-    let entry = |i: usize| (field(2 + t + i), field(2 + t + q + i));
-    let fits = if is_rooted(kind) {
-        t == k && (0..t).all(|tree| start(tree) as usize == tree)
-    } else {
-        (1..=k).contains(&t) && (0..t).all(|tree| (start(tree) as usize) < graph.n)
-    };
-    if !fits {
+    let filed = Filed::read(cover)?;
+    if !filed.starts_fit(kind, k, graph.n) {
         return Err(32);
     }
-    let mut before = None;
-    for i in 0..q {
-        let (tree, edge) = entry(i);
-        let exists = (tree as usize) < t && (edge as usize) < graph.edges.len();
-        if !exists || before >= Some((tree, edge)) {
-            return Err(33);
-        }
-        before = Some((tree, edge));
+    if !filed.entries_fit(graph.edges.len()) {
+        return Err(33);
     }
     let mut covered = [false; 256];
     let mut joined = Joined::apart(graph.n);
     let (mut heaviest, mut at) = (0, 0);
-    for tree in 0..t {
+    for tree in 0..filed.t {
         let begin = at;
-        while at < q && entry(at).0 as usize == tree {
+        while at < filed.q && filed.entry(at).0 as usize == tree {
             at += 1;
         }
-        let edges = (begin..at).map(|i| entry(i).1);
-        let weight = tree_weight(graph, start(tree), edges, &mut joined, &mut covered);
+        let edges = (begin..at).map(|i| filed.entry(i).1);
+        let weight = tree_weight(graph, filed.start(tree), edges, &mut joined, &mut covered);
         heaviest = weight.ok_or(34u32)?.max(heaviest);
     }
     if !covered[..graph.n].iter().all(|&is| is) {

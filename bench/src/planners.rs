@@ -2,12 +2,24 @@
 
 use crate::{best, check, trial};
 
-/// A planner: kind, k, then the limit of a trial, the graph's bytes, the cover's bytes, the values, the buffer.
+/// The three values of an answer.
+type Values = [u64; 3];
+
+/// A trial: kind, k, limit, the graph's bytes, the values, the buffer.
+pub type Trial = fn(u32, usize, u64, &[u8], &mut Values, &mut [u8]) -> u32;
+
+/// The best limit: kind, k, the graph's bytes, the values, the buffer.
+pub type Best = fn(u32, usize, &[u8], &mut Values, &mut [u8]) -> u32;
+
+/// The check: kind, k, the graph's bytes, the cover's bytes, the values.
+pub type Check = fn(u32, usize, &[u8], &[u8], &mut Values) -> u32;
+
+/// A planner.
 #[derive(Clone, Copy)]
 pub struct Planner {
-    pub trial: fn(u32, usize, u64, &[u8], &mut [u64; 3], &mut [u8]) -> u32,
-    pub best: fn(u32, usize, &[u8], &mut [u64; 3], &mut [u8]) -> u32,
-    pub check: fn(u32, usize, &[u8], &[u8], &mut [u64; 3]) -> u32,
+    pub trial: Trial,
+    pub best: Best,
+    pub check: Check,
 }
 
 /// The plain Rust version.

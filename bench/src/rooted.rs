@@ -1,6 +1,6 @@
 //! Rooted ("yard") questions: what is made once, the decision at a limit, and the trees.
 
-use crate::assign::{assignable, Assigned};
+use crate::assign::{assign, assignable, Assigned};
 use crate::cover::Tree;
 use crate::distance::Distances;
 use crate::forest::{keep, order, Joined};
@@ -16,6 +16,14 @@ pub struct Rooted<'a> {
     pub walk: Walk,
     distances: Option<Distances>,
     near: Vec<u32>,
+}
+
+/// What is found at a limit: the parts, what is left at each root, the roots near each part as bits, and their assignment.
+pub struct Placed {
+    pub parts: Vec<Piece>,
+    pub left: Vec<Vec<u16>>,
+    pub near: Vec<u32>,
+    pub assigned: Assigned,
 }
 
 /// Prepares the limits up to one, or gives the lowest vertex that is joined to no root at it.
@@ -49,16 +57,16 @@ impl Rooted<'_> {
         assignable(&self.near)
     }
 
-    /// The pieces at a limit at which every vertex is joined, the roots near each part, and their assignment.
-    pub fn place(&mut self, limit: u64) -> (Vec<Piece>, Vec<Vec<u16>>, Vec<u32>, Assigned) {
+    /// Splits at a limit at which every vertex is joined, and assigns the parts.
+    pub fn place(&mut self, limit: u64) -> Placed {
         let (parts, left) = split(&self.walk, self.graph.n, limit);
         let mut near = Vec::new();
         if !parts.is_empty() {
             let of_vertices = self.distances().near(limit);
             near_parts(&self.walk, limit, &of_vertices, &mut near);
         }
-        let assigned = crate::assign::assign(&near);
-        (parts, left, near, assigned)
+        let assigned = assign(&near);
+        Placed { parts, left, near, assigned }
     }
 
     /// The trees of an assignment.

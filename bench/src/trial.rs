@@ -2,7 +2,9 @@
 
 use crate::assign::Assigned;
 use crate::cover::{write, Tree};
+use crate::graph::Graph;
 use crate::question::{admit, answer_cover, is_rooted, BUFFER, LIMIT, NEEDS, PARTS, STOP};
+use crate::rooted::Placed;
 use crate::split::Piece;
 use crate::{rooted, unrooted};
 
@@ -39,7 +41,7 @@ pub fn trial(
 
 /// Answers a rooted trial.
 fn rooted_trial(
-    graph: &crate::graph::Graph,
+    graph: &Graph,
     k: usize,
     limit: u64,
     values: &mut [u64; 3],
@@ -52,7 +54,7 @@ fn rooted_trial(
             return STOP;
         }
     };
-    let (parts, left, near, assigned) = prepared.place(limit);
+    let Placed { parts, left, near, assigned } = prepared.place(limit);
     match assigned {
         Assigned::Roots(roots) => {
             let trees = prepared.trees(parts, left, &roots);
