@@ -60,11 +60,17 @@ pub fn decode(bytes: &[u8]) -> Option<(Full, &[u8])> {
 pub fn own_reply(record: &Record) -> Full {
     let mut buffer = vec![FILL; BUFFER];
     let answer = trial(record.kind, &record.sheet, record.k as u64, record.limit, &mut buffer);
+    full_of(&answer, &buffer)
+}
+
+/// An answer with the buffer it left, in full.
+pub fn full_of(answer: &Answer, buffer: &[u8]) -> Full {
     let written = matches!(answer, Answer::Cover { .. } | Answer::Parts { .. });
-    let announced = filed_length(&buffer).expect("a buffer has four bytes");
-    let front = buffer[..if written { announced } else { 0 }].to_vec();
+    let announced =
+        if written { filed_length(buffer).expect("a buffer has four bytes") } else { 0 };
+    let front = buffer[..announced].to_vec();
     let rest = u8::from(buffer[front.len()..].iter().all(|&byte| byte == FILL));
-    let (case, values) = match answer {
+    let (case, values) = match *answer {
         Answer::Cover { limit, heaviest } => (0, vec![limit, heaviest, two(&front, 0) as u64]),
         Answer::Stop(vertex) => (1, vec![vertex as u64]),
         Answer::Parts { parts, roots } => (2, vec![parts as u64, roots as u64]),
@@ -90,7 +96,7 @@ pub fn judge_reply(record: &Record, full: &Full) -> Result<(), String> {
 }
 
 /// The answer of a reply, whose values and bytes written must be as many as its case asks for.
-fn answer_of(full: &Full) -> Result<Answer, String> {
+pub fn answer_of(full: &Full) -> Result<Answer, String> {
     let small = |value: u64| usize::try_from(value).map_err(|_| "too large a number".to_string());
     let (answer, trees) = match (full.case, &full.values[..]) {
         (0, &[limit, heaviest, t]) => (Answer::Cover { limit, heaviest }, Some(t)),

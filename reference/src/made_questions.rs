@@ -4,7 +4,7 @@ use crate::best;
 use crate::bytes::{put_four, put_two};
 use crate::graph::{sheet, Graph};
 use crate::made_filings::{changed_fields, changed_lengths};
-use crate::made_shapes::{damaged_sheets, graph, shuffled, Shape, SHAPES, WEIGHTS};
+use crate::made_shapes::{damaged_sheets, graph, shuffled, Shape, SEARCHED, SHAPES, WEIGHTS};
 use crate::question::{Kind, LIMIT};
 use crate::random::Random;
 
@@ -29,6 +29,11 @@ pub fn inputs(round: u64) -> Vec<Vec<u8>> {
     all.extend(full_size(&mut random, SHAPES[round as usize % SHAPES.len()]));
     all.extend(damaged(&mut random));
     all.extend(of_any_length(&mut random));
+    for (n, k, edges) in SEARCHED {
+        let graph = Graph::new(n, edges);
+        all.extend(around_best(&mut random, Kind::Rooted, &graph, k));
+        all.extend(around_best(&mut random, Kind::Unrooted, &graph, k));
+    }
     all
 }
 

@@ -86,6 +86,15 @@ pub const CROWD: &[(usize, usize, u64)] = &[
     (0, 7, 10),
 ];
 
+/// A path on which a search that rounds up ends at 8 for two trees without roots, and one that rounds down at 10.
+pub const UNEVEN: &[(usize, usize, u64)] = &[(1, 5, 7), (0, 3, 7), (5, 4, 6), (4, 0, 9), (3, 2, 8)];
+
+/// A graph with the number of trees to ask for: vertices, k, edges.
+pub type ForTrees = (usize, usize, &'static [(usize, usize, u64)]);
+
+/// Graphs on which a tempting mistake of the search would show: some limits are accepted below others that are not.
+pub const SEARCHED: [ForTrees; 3] = [(6, 2, HALVES), (9, 3, CROWD), (6, 2, UNEVEN)];
+
 /// A graph of n vertices whose edges come in a random order; in a Far one the roots are 0 to k - 1.
 ///
 /// Every second one but the Far ones has its vertices renumbered at random.

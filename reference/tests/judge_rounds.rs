@@ -7,10 +7,14 @@ use std::path::Path;
 
 use common::other::other_rounds;
 use common::{input, sheet_n};
+use reference::best::search;
 use reference::bytes::{put_two, two};
+use reference::graph::{read, Graph};
 use reference::judge_rounds::{judge_rounds, run_program};
 use reference::made_questions::inputs;
-use reference::rounds::rounds;
+use reference::question::Kind;
+use reference::rounds::{question, rounds};
+use reference::trial::{run, Outcome};
 
 /// The program `rounds` of this package.
 fn own_program() -> &'static Path {
@@ -94,6 +98,124 @@ fn wrong_programs_do_not_pass() {
     }
 }
 
+/// The rows of a text, each as its words.
+type Rows = Vec<Vec<String>>;
+
+/// What a program prints that changes the rows of every cover it should print.
+fn changed_cover(input: &[u8], change: impl Fn(&mut Rows)) -> String {
+    let text = rounds(input);
+    if !text.starts_with("cover") {
+        return text;
+    }
+    let words = |row: &str| row.split(' ').map(String::from).collect();
+    let mut rows: Rows = text.lines().map(words).collect();
+    change(&mut rows);
+    rows.iter().map(|row| row.join(" ") + "\n").collect()
+}
+
+/// A search of one's own: the limit where it ends, for a graph that has a cover.
+type Search = fn(Kind, &Graph, usize) -> u64;
+
+/// The answer to a best-limit question by a trial where another search ends; other answers as they are.
+fn searched(input: &[u8], other: Search) -> String {
+    let text = rounds(input);
+    let Ok(asked) = question(input) else { return text };
+    if asked.limit.is_some() || !text.starts_with("cover") {
+        return text;
+    }
+    let graph = read(asked.sheet).expect("an answered sheet");
+    let k = asked.k as usize;
+    let number = if asked.kind == Kind::Rooted { 1 } else { 2 };
+    rounds(&common::input(number, k, other(asked.kind, &graph, k), asked.sheet))
+}
+
+/// The search, with another middle between two limits.
+fn halved(kind: Kind, graph: &Graph, k: usize, middle: fn(u64, u64) -> u64) -> u64 {
+    let accepted = |limit| matches!(run(kind, graph, k, limit), Outcome::Cover(_));
+    let (mut low, mut high) = (0, graph.total());
+    if accepted(0) {
+        return 0;
+    }
+    while high - low > 1 {
+        let tried = middle(low, high);
+        if accepted(tried) {
+            high = tried;
+        } else {
+            low = tried;
+        }
+    }
+    high
+}
+
+#[test]
+fn other_searches_do_not_pass() {
+    let rows: [(&str, Search); 4] = [
+        ("tries only the sum of weights", |_, graph, _| graph.total()),
+        ("ends one too high", |kind, graph, k| search(kind, graph, k).expect("a cover").0 + 1),
+        ("rounds up", |kind, graph, k| {
+            halved(kind, graph, k, |low, high| (low + high).div_ceil(2))
+        }),
+        ("tries every limit from 0 on", |kind, graph, k| halved(kind, graph, k, |low, _| low + 1)),
+    ];
+    for (name, other) in rows {
+        // A graph of few edges shows as much, and every limit of it can be tried.
+        let program = |input: &[u8]| match input.len() {
+            ..130 if !input.is_empty() && question(input).is_ok_and(|q| sum_of(q.sheet) < 100) => {
+                searched(input, other)
+            }
+            _ => rounds(input),
+        };
+        let said = judge_rounds(1, |input| Ok(program(input)));
+        assert!(!said.wrong.is_empty(), "{name}: {} right", said.right);
+    }
+}
+
+/// The sum of a sheet's weights, 0 for one that is refused.
+fn sum_of(sheet: &[u8]) -> u64 {
+    read(sheet).map_or(0, |graph| graph.total())
+}
+
+#[test]
+fn programs_that_plan_wrongly_do_not_pass() {
+    type Program = fn(&[u8]) -> String;
+    let rows: [(&str, Program); 8] = [
+        ("leaves a tree's last edge out", |input| {
+            changed_cover(input, |rows| {
+                if let Some(row) = rows.iter_mut().skip(1).find(|row| row.len() > 3) {
+                    row.pop();
+                }
+            })
+        }),
+        ("puts one edge more", |input| {
+            changed_cover(input, |rows| rows.last_mut().unwrap().push("0".into()))
+        }),
+        ("leaves the last tree out", |input| changed_cover(input, |rows| drop(rows.pop()))),
+        ("prints the trees in another order", |input| {
+            changed_cover(input, |rows| rows[1..].reverse())
+        }),
+        ("prints a tree's edges in another order", |input| {
+            changed_cover(input, |rows| rows[1..].iter_mut().for_each(|row| row[3..].reverse()))
+        }),
+        ("starts a tree elsewhere", |input| {
+            changed_cover(input, |rows| {
+                rows[1][1] = if rows[1][1] == "0" { "1" } else { "0" }.into()
+            })
+        }),
+        ("says too low to every trial", |input| match rounds(input) {
+            text if text.starts_with("cover") => "too low needs 9\n".into(),
+            text => text,
+        }),
+        ("says no cover without looking", |input| match rounds(input) {
+            text if text.starts_with("cover") => "no cover\n".into(),
+            text => text,
+        }),
+    ];
+    for (name, program) in rows {
+        let said = judge_rounds(1, |input| Ok(program(input)));
+        assert!(said.wrong.len() > 10, "{name}: {} right, {} wrong", said.right, said.wrong.len());
+    }
+}
+
 #[test]
 fn a_program_that_fails_does_not_pass() {
     let none = |input: &[u8]| run_program(Path::new("/no/such/program"), input);
@@ -118,39 +240,4 @@ fn a_program_is_fed_and_read() {
     assert_eq!(run_program(own_program(), &[]).expect("it runs"), "refused 41\n");
     assert_eq!(run_program(own_program(), &vec![1; 200_000]).expect("it runs"), "refused 41\n");
     assert!(run_program(Path::new("/no/such/program"), &whole).is_err());
-}
-
-/// The first word or two of an answer.
-fn opening(text: &str) -> String {
-    let words: Vec<&str> = text.split_whitespace().collect();
-    match words[0] {
-        "cover" | "no" => words[0].to_string(),
-        "refused" => words[..2].join(" "),
-        _ => words[..3].join(" "),
-    }
-}
-
-#[test]
-fn every_round_meets_every_answer() {
-    for round in 0..3 {
-        let all = inputs(round);
-        assert!(all != inputs(round + 1) && all == inputs(round));
-        let mut due = vec!["cover", "no", "too low stop", "too low parts", "too low needs"];
-        let numbers: Vec<String> =
-            [11, 12, 14, 15, 16, 21, 22, 41].map(|number| format!("refused {number}")).into();
-        due.extend(numbers.iter().map(String::as_str));
-        let met: Vec<(usize, String)> = all
-            .iter()
-            .map(|input| (input.first().copied().unwrap_or(0).into(), opening(&rounds(input))))
-            .collect();
-        for word in due {
-            assert!(met.iter().any(|(_, opening)| opening == word), "round {round}: no {word}");
-        }
-        for question in 1..=4 {
-            let covers = met.iter().filter(|row| row.0 == question && row.1 == "cover").count();
-            assert!(covers > 5, "round {round}, question {question}: {covers} covers");
-        }
-        let full = all.iter().filter(|input| input.len() == 16_396).count();
-        assert!(full > 8, "round {round}: {full} of full size");
-    }
 }

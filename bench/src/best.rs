@@ -1,0 +1,54 @@
+//! The best limit.
+
+use crate::assign::Assigned;
+use crate::question::{admit, answer_cover, is_rooted, BUFFER, NO_COVER};
+use crate::rooted::Placed;
+use crate::{rooted, unrooted};
+
+/// Answers with the number of a case or of a refusal; the values and the buffer's front are written as the case has them.
+pub fn best(kind: u32, k: usize, sheet: &[u8], values: &mut [u64; 3], buffer: &mut [u8]) -> u32 {
+    let graph = match admit(kind, k, sheet) {
+        Ok(graph) => graph,
+        Err(number) => return number,
+    };
+    if buffer.len() < BUFFER {
+        return 23;
+    }
+    let (limit, trees) = if is_rooted(kind) {
+        let Ok(mut prepared) = rooted::prepare(&graph, k, u64::MAX) else {
+            return NO_COVER;
+        };
+        // At 0 no edge is left, so that every vertex must be a root.
+        let limit = search(graph.n == k, graph.total(), |limit| prepared.accepts(limit));
+        let Placed { parts, left, assigned, .. } = prepared.place(limit);
+        let Assigned::Roots(roots) = assigned else {
+            unreachable!("the limit found is accepted");
+        };
+        (limit, prepared.trees(parts, left, &roots))
+    } else {
+        let prepared = unrooted::prepare(&graph);
+        if prepared.components > k {
+            return NO_COVER;
+        }
+        let limit = search(graph.n <= k, graph.total(), |limit| prepared.needs(limit) <= k as u64);
+        (limit, prepared.trees(limit))
+    };
+    answer_cover(&graph, limit, &trees, values, buffer)
+}
+
+/// The limit where the search ends, given whether 0 is accepted, the sum of all weights and the decision above 0.
+fn search(at_zero: bool, sum: u64, mut accepts: impl FnMut(u64) -> bool) -> u64 {
+    if at_zero {
+        return 0;
+    }
+    let (mut low, mut high) = (0, sum);
+    while high - low > 1 {
+        let middle = (low + high) / 2;
+        if accepts(middle) {
+            high = middle;
+        } else {
+            low = middle;
+        }
+    }
+    high
+}

@@ -1,0 +1,79 @@
+//! Distances from the roots, by Dijkstra's method with a binary heap.
+
+use std::cmp::Reverse;
+use std::collections::BinaryHeap;
+
+use crate::graph::{Around, Graph};
+
+/// The distance where no path leads: above every limit.
+const NONE: u32 = u32::MAX;
+
+/// The arcs of the whole graph and the distance of each vertex from each root.
+pub struct Distances {
+    around: Around,
+    from: Vec<Vec<u32>>,
+}
+
+impl Distances {
+    /// The distances from the roots 0 to k - 1.
+    pub fn new(graph: &Graph, k: usize) -> Distances {
+        let around = Around::new(graph, 0..graph.edges.len() as u16);
+        let mut heap = BinaryHeap::with_capacity(2 * graph.edges.len() + 1);
+        let from = (0..k as u16).map(|root| from_root(&around, graph.n, root, &mut heap)).collect();
+        Distances { around, from }
+    }
+
+    /// The roots within the limit of each vertex, as bits.
+    pub fn near(&self, limit: u64) -> [u32; 256] {
+        let limit = limit.min(u64::from(NONE - 1)) as u32;
+        let mut near = [0u32; 256];
+        for (root, distances) in self.from.iter().enumerate() {
+            for (bits, distance) in near.iter_mut().zip(distances) {
+                *bits |= u32::from(*distance <= limit) << root;
+            }
+        }
+        near
+    }
+
+    /// Adds the edges of a shortest path from a root to the nearest of some vertices, at least one of which it reaches.
+    pub fn path_to(&self, root: usize, vertices: impl Iterator<Item = u16>, path: &mut Vec<u16>) {
+        let distance = &self.from[root];
+        let nearest = vertices.min_by_key(|&v| distance[v as usize]);
+        let mut at = nearest.expect("a part has vertices");
+        while distance[at as usize] > 0 {
+            let here = distance[at as usize];
+            let is_last = |arc: &&crate::graph::Arc| {
+                distance[arc.to as usize].checked_add(arc.weight) == Some(here)
+            };
+            let last = self.around.of(at).iter().find(is_last).expect("a vertex reached");
+            path.push(last.edge);
+            at = last.to;
+        }
+    }
+}
+
+/// The distances from one root; the heap comes and goes empty. Its keys are a distance and a vertex in one number.
+fn from_root(
+    around: &Around,
+    n: usize,
+    root: u16,
+    heap: &mut BinaryHeap<Reverse<u64>>,
+) -> Vec<u32> {
+    let mut distance = vec![NONE; n];
+    distance[root as usize] = 0;
+    heap.push(Reverse(u64::from(root)));
+    while let Some(Reverse(key)) = heap.pop() {
+        let (near, vertex) = ((key >> 16) as u32, key as u16);
+        if near > distance[vertex as usize] {
+            continue;
+        }
+        for arc in around.of(vertex) {
+            let through = near + arc.weight;
+            if through < distance[arc.to as usize] {
+                distance[arc.to as usize] = through;
+                heap.push(Reverse(u64::from(through) << 16 | u64::from(arc.to)));
+            }
+        }
+    }
+    distance
+}

@@ -1,0 +1,111 @@
+//! Measuring two planners on the same questions, in turn.
+
+use std::hint::black_box;
+use std::time::{Duration, Instant};
+
+use crate::made::{sheet, Shape, Size};
+use crate::planners::{plain, Planner};
+use crate::question::BUFFER;
+
+/// What is asked.
+#[derive(Clone, Copy, Debug, PartialEq, Eq)]
+pub enum Asked {
+    /// The best limit.
+    Best,
+    /// A trial at the best limit.
+    Trial,
+    /// The check of the best limit's cover.
+    Check,
+}
+
+/// A question with all that it needs; the limit and the cover are those of the plain version's best answer.
+pub struct Question {
+    asked: Asked,
+    kind: u32,
+    k: usize,
+    sheet: Vec<u8>,
+    limit: u64,
+    cover: Vec<u8>,
+}
+
+impl Question {
+    /// The question of a kind on the graph of a shape and size.
+    pub fn new(asked: Asked, kind: u32, shape: Shape, size: &Size) -> Question {
+        let sheet = sheet(shape, size);
+        let (mut values, mut buffer) = ([0; 3], vec![0; BUFFER]);
+        let case = (plain().best)(kind, size.k, &sheet, &mut values, &mut buffer);
+        assert_eq!(case, 0, "the graphs measured have covers");
+        let cover = written(&buffer).to_vec();
+        Question { asked, kind, k: size.k, sheet, limit: values[0], cover }
+    }
+
+    /// Puts the question to a planner.
+    fn put(&self, planner: &Planner, values: &mut [u64; 3], buffer: &mut [u8]) -> u32 {
+        let Question { kind, k, ref sheet, .. } = *self;
+        match self.asked {
+            Asked::Best => (planner.best)(kind, k, sheet, values, buffer),
+            Asked::Trial => (planner.trial)(kind, k, self.limit, sheet, values, buffer),
+            Asked::Check => (planner.check)(kind, k, sheet, &self.cover, values),
+        }
+    }
+
+    /// Fails unless a planner's answer is right: the case, what the rules fix of the values, and a cover that the plain
+    /// check says yes to.
+    pub fn assert_right(&self, planner: &Planner) {
+        let (mut due, mut values) = ([0; 3], [0; 3]);
+        let mut buffer = vec![0; BUFFER];
+        assert_eq!(self.put(&plain(), &mut due, &mut buffer), 0);
+        buffer.fill(0);
+        assert_eq!(self.put(planner, &mut values, &mut buffer), 0, "a cover is due");
+        assert_eq!(values[0], due[0], "the limit, or the heaviest of the check");
+        if self.asked != Asked::Check {
+            let mut heaviest = [0; 3];
+            let cover = written(&buffer);
+            let said = (plain().check)(self.kind, self.k, &self.sheet, cover, &mut heaviest);
+            assert_eq!((said, heaviest[0]), (0, values[1]), "the cover written");
+        }
+    }
+}
+
+/// The bytes of a cover at a buffer's front.
+fn written(buffer: &[u8]) -> &[u8] {
+    let field = |at: usize| usize::from(u16::from_le_bytes([buffer[at], buffer[at + 1]]));
+    &buffer[..4 + 2 * field(0) + 4 * field(2)]
+}
+
+/// How long one measurement takes at least: short questions are put many times in a row.
+const LEAST: Duration = Duration::from_micros(200);
+
+/// The median time of a question for each planner, in microseconds. Each round measures every planner once, one after
+/// the other, beginning with another one each time.
+pub fn medians(question: &Question, planners: &[Planner], rounds: usize) -> Vec<f64> {
+    let (mut values, mut buffer) = ([0; 3], vec![0; BUFFER]);
+    let mut measured = |planner: &Planner, times: u32| {
+        let begin = Instant::now();
+        for _ in 0..times {
+            black_box(question.put(planner, &mut values, &mut buffer));
+        }
+        begin.elapsed()
+    };
+    let times_of = |planner: &Planner| {
+        measured(planner, 3);
+        let once = measured(planner, 3) / 3;
+        1 + (LEAST.as_nanos() / once.as_nanos().max(1)).min(1_000) as u32
+    };
+    let times = planners.iter().map(times_of).max().unwrap_or(1);
+    let mut all = vec![Vec::with_capacity(rounds); planners.len()];
+    for round in 0..rounds {
+        for turn in 0..planners.len() {
+            let which = (round + turn) % planners.len();
+            let taken = measured(&planners[which], times);
+            all[which].push(taken.as_secs_f64() * 1e6 / f64::from(times));
+        }
+    }
+    all.into_iter().map(median).collect()
+}
+
+/// The middle of some numbers.
+fn median(mut numbers: Vec<f64>) -> f64 {
+    numbers.sort_unstable_by(f64::total_cmp);
+    numbers[numbers.len() / 2]
+}

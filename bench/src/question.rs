@@ -1,0 +1,46 @@
+//! What every question has: the kind, the numbers of the cases, and who is refused.
+
+use crate::cover::{heaviest, write, Tree};
+use crate::graph::{read, Graph};
+
+/// Document 01's numbers of kinds and cases, as the linked library has them.
+pub const ROOTED: u32 = 0;
+pub const UNROOTED: u32 = 1;
+pub const COVER: u32 = 0;
+pub const STOP: u32 = 1;
+pub const PARTS: u32 = 2;
+pub const NEEDS: u32 = 3;
+pub const NO_COVER: u32 = 4;
+
+/// The least length of a lent buffer in bytes.
+pub const BUFFER: usize = 32_708;
+
+/// The largest limit.
+pub const LIMIT: u64 = 2_048_000_000;
+
+/// Whether a kind is rooted; every number but 0 is unrooted.
+pub fn is_rooted(kind: u32) -> bool {
+    kind == ROOTED
+}
+
+/// The graph of a question for k trees, or its refusal: 11 to 16, 21.
+pub fn admit(kind: u32, k: usize, sheet: &[u8]) -> Result<Graph, u32> {
+    let graph = read(sheet)?;
+    if k == 0 || k > 32 || is_rooted(kind) && k > graph.n {
+        return Err(21);
+    }
+    Ok(graph)
+}
+
+/// Answers with a cover: its bytes and values are written.
+pub fn answer_cover(
+    graph: &Graph,
+    limit: u64,
+    trees: &[Tree],
+    values: &mut [u64; 3],
+    buffer: &mut [u8],
+) -> u32 {
+    *values = [limit, heaviest(graph, trees), trees.len() as u64];
+    write(trees, buffer);
+    COVER
+}

@@ -1,0 +1,81 @@
+//! A trial at a limit.
+
+use crate::assign::Assigned;
+use crate::cover::{write, Tree};
+use crate::graph::Graph;
+use crate::question::{admit, answer_cover, is_rooted, BUFFER, LIMIT, NEEDS, PARTS, STOP};
+use crate::rooted::Placed;
+use crate::split::Piece;
+use crate::{rooted, unrooted};
+
+/// Answers with the number of a case or of a refusal; the values and the buffer's front are written as the case has them.
+pub fn trial(
+    kind: u32,
+    k: usize,
+    limit: u64,
+    sheet: &[u8],
+    values: &mut [u64; 3],
+    buffer: &mut [u8],
+) -> u32 {
+    let graph = match admit(kind, k, sheet) {
+        Ok(graph) => graph,
+        Err(number) => return number,
+    };
+    if limit > LIMIT {
+        return 22;
+    }
+    if buffer.len() < BUFFER {
+        return 23;
+    }
+    if is_rooted(kind) {
+        return rooted_trial(&graph, k, limit, values, buffer);
+    }
+    let prepared = unrooted::prepare(&graph);
+    let needs = prepared.needs(limit);
+    if needs > k as u64 {
+        values[0] = needs;
+        return NEEDS;
+    }
+    answer_cover(&graph, limit, &prepared.trees(limit), values, buffer)
+}
+
+/// Answers a rooted trial.
+fn rooted_trial(
+    graph: &Graph,
+    k: usize,
+    limit: u64,
+    values: &mut [u64; 3],
+    buffer: &mut [u8],
+) -> u32 {
+    let mut prepared = match rooted::prepare(graph, k, limit) {
+        Ok(prepared) => prepared,
+        Err(vertex) => {
+            values[0] = u64::from(vertex);
+            return STOP;
+        }
+    };
+    let Placed { parts, left, near, assigned } = prepared.place(limit);
+    match assigned {
+        Assigned::Roots(roots) => {
+            let trees = prepared.trees(parts, left, &roots);
+            answer_cover(graph, limit, &trees, values, buffer)
+        }
+        Assigned::Deficient(set) => {
+            let roots = set.iter().fold(0, |bits, &part| bits | near[part]).count_ones();
+            values[..2].copy_from_slice(&[set.len() as u64, u64::from(roots)]);
+            write(&chosen(parts, &set), buffer);
+            PARTS
+        }
+    }
+}
+
+/// Some parts as trees, by smallest edge.
+fn chosen(mut parts: Vec<Piece>, set: &[usize]) -> Vec<Tree> {
+    let take = |&part: &usize| {
+        let piece = &mut parts[part];
+        Tree::new(piece.start, std::mem::take(&mut piece.edges))
+    };
+    let mut trees: Vec<Tree> = set.iter().map(take).collect();
+    trees.sort_unstable_by_key(|tree| tree.edges[0]);
+    trees
+}

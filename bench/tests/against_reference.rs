@@ -1,0 +1,178 @@
+//! The quick version against `reference/`, an implementation that shares no code with it: the same case and values, and
+//! every byte where the rules fix it; where they leave a choice, the reference's judge says whether it is an allowed one.
+
+use bench::best::best;
+use bench::check::check;
+use bench::question::{BUFFER, ROOTED, UNROOTED};
+use bench::trial::trial;
+use reference::judge::{self, Reply};
+use reference::made_filings::filings;
+use reference::made_shapes::{graph, SEARCHED, SHAPES, WEIGHTS};
+use reference::made_trials::records;
+use reference::question::{Answer, Kind};
+use reference::random::Random;
+
+/// What stands in the values and the buffer before a question.
+const VALUE: u64 = 0x1111_2222_3333_4444;
+const FILL: u8 = 0xa5;
+
+fn number(kind: Kind) -> u32 {
+    if kind == Kind::Rooted {
+        ROOTED
+    } else {
+        UNROOTED
+    }
+}
+
+/// A question's number, values and buffer.
+type Got = (u32, [u64; 3], Vec<u8>);
+
+fn asked(room: usize, question: impl Fn(&mut [u64; 3], &mut [u8]) -> u32) -> Got {
+    let (mut values, mut buffer) = ([VALUE; 3], vec![FILL; room]);
+    let case = question(&mut values, &mut buffer);
+    (case, values, buffer)
+}
+
+/// The answer of a case; values past those of the case are as they came.
+fn answer(case: u32, values: [u64; 3], buffer: &[u8]) -> Result<Answer, String> {
+    let [a, b, c] = values;
+    let (answer, used) = match case {
+        0 => (Answer::Cover { limit: a, heaviest: b }, 3),
+        1 => (Answer::Stop(a as usize), 1),
+        2 => (Answer::Parts { parts: a as usize, roots: b as usize }, 2),
+        3 => (Answer::Needs(a), 1),
+        4 => (Answer::NoCover, 0),
+        _ => (Answer::Refused(case as u16), 0),
+    };
+    if values[used..].iter().any(|&value| value != VALUE) {
+        return Err("a value past those of the case was written".into());
+    }
+    if case == 0 && c != u64::from(buffer[0]) {
+        return Err(format!("{c} trees are named, {} written", buffer[0]));
+    }
+    Ok(answer)
+}
+
+/// Judges a trial, or with no limit the best limit.
+fn judged(
+    kind: Kind,
+    k: usize,
+    limit: Option<u64>,
+    sheet: &[u8],
+    room: usize,
+) -> Result<u32, String> {
+    let (case, values, buffer) = asked(room, |values, buffer| match limit {
+        Some(limit) => trial(number(kind), k, limit, sheet, values, buffer),
+        None => best(number(kind), k, sheet, values, buffer),
+    });
+    let answer = answer(case, values, &buffer)?;
+    let reply = Reply { answer: &answer, before: &vec![FILL; room], after: &buffer };
+    match limit {
+        Some(limit) => judge::trial(kind, sheet, k as u64, limit, reply)?,
+        None => judge::best(kind, sheet, k as u64, reply)?,
+    }
+    Ok(case)
+}
+
+#[test]
+fn made_trials_are_answered_as_the_reference_allows() {
+    let mut met = [0; 64];
+    for (i, record) in records().iter().enumerate() {
+        let said = judged(record.kind, record.k, Some(record.limit), &record.sheet, BUFFER);
+        let case = said.unwrap_or_else(|why| panic!("record {i}: {why}"));
+        met[case as usize] += 1;
+    }
+    for case in [0, 1, 2, 3, 11, 12, 13, 14, 15, 16, 21, 22] {
+        assert!(met[case] > 0, "case {case} is not met");
+    }
+}
+
+/// Questions on graphs of every shape with vertices between two numbers.
+fn on_shapes(seed: u64, turns: usize, vertices: (usize, usize), trees: usize) {
+    let mut random = Random::new(seed);
+    for turn in 0..turns {
+        for shape in SHAPES {
+            let n = random.between(vertices.0, vertices.1);
+            let k = random.between(1, n.min(trees));
+            let weights = WEIGHTS[random.below(WEIGHTS.len())];
+            let graph = graph(&mut random, shape, n, k, weights);
+            let sheet = graph.to_sheet();
+            let sum = graph.total() as usize;
+            let limits = [0, 1, sum, random.below(sum + 2), random.below(sum / k + 2)];
+            for kind in [Kind::Rooted, Kind::Unrooted] {
+                for limit in limits.into_iter().map(|limit| Some(limit as u64)).chain([None]) {
+                    let said = judged(kind, k, limit, &sheet, BUFFER + turn % 3);
+                    said.unwrap_or_else(|why| {
+                        panic!("{shape:?} n {n} k {k} {kind:?} {limit:?}: {why}")
+                    });
+                }
+            }
+        }
+    }
+}
+
+/// Graphs on which accepted limits lie below others that are not, so that a search of another order would show.
+#[test]
+fn uneven_graphs() {
+    for (n, k, edges) in SEARCHED {
+        let sheet = reference::graph::sheet(n, edges);
+        for kind in [Kind::Rooted, Kind::Unrooted] {
+            assert_eq!(judged(kind, k, None, &sheet, BUFFER), Ok(0));
+        }
+    }
+}
+
+#[test]
+fn small_graphs() {
+    on_shapes(11, 60, (1, 9), 4);
+}
+
+#[test]
+fn middling_graphs() {
+    on_shapes(12, 12, (10, 60), 12);
+}
+
+#[test]
+fn large_graphs() {
+    on_shapes(13, 1, (200, 256), 32);
+}
+
+/// The graphs that are measured, at their smaller sizes.
+#[test]
+fn measured_graphs() {
+    for shape in bench::made::SHAPES {
+        for size in &bench::made::SIZES[1..] {
+            let sheet = bench::made::sheet(shape, size);
+            for kind in [Kind::Rooted, Kind::Unrooted] {
+                assert_eq!(judged(kind, size.k, None, &sheet, BUFFER), Ok(0), "{shape:?} {size:?}");
+            }
+        }
+    }
+}
+
+#[test]
+fn short_buffers_are_refused() {
+    let sheet = reference::graph::sheet(4, &[(0, 2, 3), (2, 3, 3), (1, 3, 5)]);
+    for kind in [Kind::Rooted, Kind::Unrooted] {
+        for room in [0, 100, BUFFER - 1] {
+            assert_eq!(judged(kind, 2, Some(4), &sheet, room), Ok(23));
+            assert_eq!(judged(kind, 2, None, &sheet, room), Ok(23));
+        }
+    }
+}
+
+#[test]
+fn filed_covers_are_checked_as_the_reference_checks_them() {
+    for (i, filing) in filings().iter().enumerate() {
+        let mut values = [VALUE; 3];
+        let said = check(number(filing.kind), filing.k, &filing.sheet, &filing.cover, &mut values);
+        let due =
+            reference::check::check(filing.kind, &filing.sheet, filing.k as u64, &filing.cover);
+        match due {
+            Ok(heaviest) => assert_eq!((said, values), (0, [heaviest, VALUE, VALUE]), "filing {i}"),
+            Err(number) => {
+                assert_eq!((said, values), (u32::from(number), [VALUE; 3]), "filing {i}")
+            }
+        }
+    }
+}

@@ -1,0 +1,16 @@
+// Links libplanner_c.a from where `rt staticlib planner_c` writes it, or from the folder that PLANNER_LIB_DIR names.
+use std::env;
+use std::path::PathBuf;
+
+fn main() {
+    let folder = match env::var_os("PLANNER_LIB_DIR") {
+        Some(folder) => PathBuf::from(folder),
+        None => {
+            PathBuf::from(env::var_os("CARGO_MANIFEST_DIR").unwrap()).join("../../target/staticlib")
+        }
+    };
+    println!("cargo:rerun-if-env-changed=PLANNER_LIB_DIR");
+    println!("cargo:rerun-if-changed={}", folder.join("libplanner_c.a").display());
+    println!("cargo:rustc-link-search=native={}", folder.display());
+    println!("cargo:rustc-link-lib=static=planner_c");
+}

@@ -1,0 +1,292 @@
+//! The linked library against `reference/`, an implementation that shares no code with it, on some thousand made questions,
+//! damaged ones included: every answer, every value, every byte of the buffer and around it.
+
+use planner::{best, check, trial, Kind, Reply, BUFFER};
+use reference::districts::{self, Asked};
+use reference::graph::sheet;
+use reference::judge::{self, Reply as Given};
+use reference::made_filings::filings;
+use reference::made_trials;
+use reference::question::{Answer, Kind as Crews};
+use reference::random::Random;
+
+extern "C" {
+    fn planner_trial(
+        kind: u32,
+        k: usize,
+        limit: u64,
+        graph: *const u8,
+        graph_length: usize,
+        values: *mut u64,
+        buffer: *mut u8,
+        buffer_length: usize,
+    ) -> u32;
+    fn planner_best(
+        kind: u32,
+        k: usize,
+        graph: *const u8,
+        graph_length: usize,
+        values: *mut u64,
+        buffer: *mut u8,
+        buffer_length: usize,
+    ) -> u32;
+    fn planner_check(
+        kind: u32,
+        k: usize,
+        graph: *const u8,
+        graph_length: usize,
+        cover: *const u8,
+        cover_length: usize,
+        values: *mut u64,
+    ) -> u32;
+}
+
+/// How many bytes, or numbers, stand on either side of what is lent.
+const GUARD: usize = 64;
+
+/// A question as the exported functions take it.
+struct Question<'a> {
+    asked: &'a Asked,
+    kind: u32,
+    k: usize,
+    sheet: &'a [u8],
+}
+
+/// What came of a question: its number, the values and the buffer before and after.
+struct Got {
+    case: u32,
+    values: ([u64; 3], [u64; 3]),
+    buffer: (Vec<u8>, Vec<u8>),
+}
+
+/// Made bytes, so that no two buffers come alike.
+fn bytes(random: &mut Random, length: usize) -> Vec<u8> {
+    let words = (0..length.div_ceil(8)).flat_map(|_| random.next_number().to_le_bytes());
+    words.take(length).collect()
+}
+
+/// Calls the exported function with the values and the buffer inside larger ones, and checks what is around them.
+fn call(random: &mut Random, question: &Question) -> Got {
+    let Question { asked, kind, k, sheet } = *question;
+    let (limit, room, cover) = match asked {
+        Asked::Trial { limit, room } => (*limit, *room, &[][..]),
+        Asked::Best { room } => (0, *room, &[][..]),
+        Asked::Check { cover } => (0, 0, &cover[..]),
+    };
+    let before = bytes(random, room + 2 * GUARD);
+    let mut after = before.clone();
+    let numbers: Vec<u64> = (0..3 + 2 * GUARD).map(|_| random.next_number()).collect();
+    let mut changed = numbers.clone();
+    let (given, filed) = (sheet.to_vec(), cover.to_vec());
+    let (graph, length) = (given.as_ptr(), given.len());
+    let values = changed[GUARD..GUARD + 3].as_mut_ptr();
+    let buffer = after[GUARD..GUARD + room].as_mut_ptr();
+    // SAFETY: each pointer is to as much as its length says, that of the values to three numbers; nothing overlaps.
+    let case = unsafe {
+        match asked {
+            Asked::Trial { .. } => {
+                planner_trial(kind, k, limit, graph, length, values, buffer, room)
+            }
+            Asked::Best { .. } => planner_best(kind, k, graph, length, values, buffer, room),
+            Asked::Check { .. } => {
+                planner_check(kind, k, graph, length, filed.as_ptr(), filed.len(), values)
+            }
+        }
+    };
+    assert!(given == sheet && filed == cover, "what is only read was changed");
+    assert_eq!(changed[..GUARD], numbers[..GUARD], "numbers before the values");
+    assert_eq!(changed[GUARD + 3..], numbers[GUARD + 3..], "numbers behind the values");
+    assert_eq!(after[..GUARD], before[..GUARD], "bytes before the buffer");
+    assert_eq!(after[GUARD + room..], before[GUARD + room..], "bytes behind the buffer");
+    let three = |all: &[u64]| [all[GUARD], all[GUARD + 1], all[GUARD + 2]];
+    let inner = |all: &[u8]| all[GUARD..GUARD + room].to_vec();
+    Got {
+        case,
+        values: (three(&numbers), three(&changed)),
+        buffer: (inner(&before), inner(&after)),
+    }
+}
+
+/// The answer of a trial or a best limit; the values that the case does not have must be as they came.
+fn answer(got: &Got) -> Answer {
+    let [first, second, third] = got.values.1;
+    let (answer, count) = match got.case {
+        0 => (Answer::Cover { limit: first, heaviest: second }, 3),
+        1 => (Answer::Stop(first as usize), 1),
+        2 => (Answer::Parts { parts: first as usize, roots: second as usize }, 2),
+        3 => (Answer::Needs(first), 1),
+        4 => (Answer::NoCover, 0),
+        number => (Answer::Refused(number as u16), 0),
+    };
+    assert_eq!(got.values.1[count..], got.values.0[count..], "values behind those of the case");
+    if got.case == 0 {
+        let written = u16::from_le_bytes([got.buffer.1[0], got.buffer.1[1]]);
+        assert_eq!(third, u64::from(written), "the number of trees");
+    }
+    answer
+}
+
+/// Puts a question to the exported function and to the wrapper, and judges both; gives the case.
+fn judged(random: &mut Random, asked: &Asked, kind: Crews, k: usize, sheet: &[u8]) -> u32 {
+    let number = if kind == Crews::Rooted { 0 } else { 1 };
+    let got = call(random, &Question { asked, kind: number, k, sheet });
+    let trees = k as u64;
+    let said = match asked {
+        Asked::Check { cover } => {
+            let due = reference::check::check(kind, sheet, trees, cover);
+            let first = due.unwrap_or(got.values.0[0]);
+            let values = [first, got.values.0[1], got.values.0[2]];
+            assert_eq!(got.values.1, values, "the values of a check");
+            assert_eq!(got.case, due.err().unwrap_or(0).into(), "the number of a check");
+            Ok(())
+        }
+        Asked::Trial { limit, .. } => {
+            let answer = answer(&got);
+            let given = Given { answer: &answer, before: &got.buffer.0, after: &got.buffer.1 };
+            judge::trial(kind, sheet, trees, *limit, given)
+        }
+        Asked::Best { .. } => {
+            let answer = answer(&got);
+            let given = Given { answer: &answer, before: &got.buffer.0, after: &got.buffer.1 };
+            judge::best(kind, sheet, trees, given)
+        }
+    };
+    if let Err(why) = said {
+        panic!("{asked:?} {kind:?} k {k} sheet {:?}: {why}", &sheet[..sheet.len().min(200)]);
+    }
+    same_by_the_wrapper(asked, kind, k, sheet, &got);
+    got.case
+}
+
+/// The wrapper gives the same reply and the same bytes.
+fn same_by_the_wrapper(asked: &Asked, crews: Crews, k: usize, sheet: &[u8], got: &Got) {
+    let kind = if crews == Crews::Rooted { Kind::Rooted } else { Kind::Unrooted };
+    let mut buffer = got.buffer.0.clone();
+    let reply = match asked {
+        Asked::Trial { limit, .. } => trial(kind, k, *limit, sheet, &mut buffer),
+        Asked::Best { .. } => best(kind, k, sheet, &mut buffer),
+        Asked::Check { cover } => {
+            let due = if got.case == 0 { Ok(got.values.1[0]) } else { Err(got.case) };
+            assert_eq!(check(kind, k, sheet, cover), due);
+            return;
+        }
+    };
+    let [first, second, third] = got.values.1;
+    let due = match got.case {
+        0 => Reply::Cover { limit: first, heaviest: second, trees: third },
+        1 => Reply::TooLowStop { vertex: first },
+        2 => Reply::TooLowParts { parts: first, roots: second },
+        3 => Reply::TooLowNeeds { trees: first },
+        4 => Reply::NoCover,
+        number => Reply::Refused(number),
+    };
+    assert_eq!(reply, due);
+    assert!(buffer == got.buffer.1, "the wrapper's bytes differ");
+}
+
+/// Fails unless each of these cases was met.
+fn assert_met(met: &[usize; 64], due: &[usize]) {
+    for &case in due {
+        assert!(met[case] > 0, "case {case} is not met");
+    }
+}
+
+#[test]
+fn trials_are_answered_as_the_reference_allows() {
+    let mut random = Random::new(3);
+    let mut met = [0; 64];
+    for record in made_trials::records() {
+        let room = BUFFER + if random.below(4) == 0 { random.below(90) } else { 0 };
+        let asked = Asked::Trial { limit: record.limit, room };
+        met[judged(&mut random, &asked, record.kind, record.k, &record.sheet) as usize] += 1;
+    }
+    assert_met(&met, &[0, 1, 2, 3, 11, 12, 13, 14, 15, 16, 21, 22]);
+}
+
+#[test]
+fn the_list_of_small_districts_and_best_limits() {
+    let mut random = Random::new(4);
+    let mut met = [0; 64];
+    for record in districts::records() {
+        let case = judged(&mut random, &record.asked, record.kind, record.k, &record.sheet);
+        met[case as usize] += 1;
+    }
+    assert_met(&met, &[0, 1, 2, 3, 4, 11, 12, 13, 14, 15, 16, 21, 22, 23, 31, 32, 33, 34, 35]);
+}
+
+#[test]
+fn filed_covers_are_checked() {
+    let mut random = Random::new(5);
+    let mut met = [0; 64];
+    for filing in filings() {
+        let asked = Asked::Check { cover: filing.cover };
+        met[judged(&mut random, &asked, filing.kind, filing.k, &filing.sheet) as usize] += 1;
+    }
+    assert_met(&met, &[0, 11, 12, 13, 14, 15, 16, 21, 31, 32, 33, 34, 35]);
+}
+
+/// Numbers wider than the fields of any file, for both kinds and every function.
+#[test]
+fn numbers_past_every_range_are_refused() {
+    let mut random = Random::new(6);
+    let n = sheet(4, &[(0, 2, 3), (2, 3, 3), (1, 3, 5)]);
+    for kind in [Crews::Rooted, Crews::Unrooted] {
+        for k in [0, 33, 65_536 + 2, (1 << 32) + 2, usize::MAX] {
+            for asked in [
+                Asked::Trial { limit: 4, room: BUFFER },
+                Asked::Best { room: BUFFER },
+                Asked::Check { cover: vec![] },
+            ] {
+                assert_eq!(judged(&mut random, &asked, kind, k, &n), 21);
+            }
+        }
+        for limit in [2_048_000_001, 1 << 32, (1 << 32) + 4, u64::MAX] {
+            let asked = Asked::Trial { limit, room: BUFFER };
+            assert_eq!(judged(&mut random, &asked, kind, 2, &n), 22);
+        }
+        for room in [0, 1, 100, BUFFER - 1] {
+            let asked = Asked::Trial { limit: 4, room };
+            assert_eq!(judged(&mut random, &asked, kind, 2, &n), 23);
+            assert_eq!(judged(&mut random, &Asked::Best { room }, kind, 2, &n), 23);
+        }
+    }
+}
+
+/// Every kind but 0 is unrooted.
+#[test]
+fn every_other_kind_is_unrooted() {
+    let mut random = Random::new(7);
+    let n = sheet(4, &[(0, 2, 3), (2, 3, 3), (1, 3, 5)]);
+    for kind in [1, 2, 3, 256, 1 << 16, u32::MAX] {
+        for (limit, case, value) in [(3, 3, 3), (0, 3, 4), (6, 0, 6)] {
+            let asked = Asked::Trial { limit, room: BUFFER };
+            let question = Question { asked: &asked, kind, k: 2, sheet: &n };
+            let got = call(&mut random, &question);
+            assert_eq!((got.case, got.values.1[0]), (case, value), "kind {kind} limit {limit}");
+        }
+        let asked = Asked::Best { room: BUFFER };
+        let got = call(&mut random, &Question { asked: &asked, kind, k: 1, sheet: &n });
+        assert_eq!((got.case, got.values.1), (0, [6, 11, 1]), "kind {kind}");
+        // One tree from vertex 3 over all lines: a cover without roots, none with them.
+        let cover = vec![1, 0, 3, 0, 3, 0, 0, 0, 0, 0, 0, 0, 0, 0, 1, 0, 2, 0];
+        let asked = Asked::Check { cover };
+        let got = call(&mut random, &Question { asked: &asked, kind, k: 1, sheet: &n });
+        assert_eq!((got.case, got.values.1[0]), (0, 11), "kind {kind}");
+        let got = call(&mut random, &Question { asked: &asked, kind: 0, k: 1, sheet: &n });
+        assert_eq!(got.case, 32);
+    }
+}
+
+/// Sheet N of document 01, k 2, limit 4: the bytes that are written.
+#[test]
+fn the_bytes_of_sheet_n() {
+    let n = sheet(4, &[(0, 2, 3), (2, 3, 3), (1, 3, 5)]);
+    let mut buffer = vec![7; BUFFER];
+    let due = Reply::Cover { limit: 4, heaviest: 6, trees: 2 };
+    assert_eq!(trial(Kind::Rooted, 2, 4, &n, &mut buffer), due);
+    let cover = [2, 0, 2, 0, 0, 0, 1, 0, 0, 0, 0, 0, 0, 0, 1, 0];
+    assert_eq!(buffer[..16], cover);
+    assert!(buffer[16..].iter().all(|&byte| byte == 7));
+    assert_eq!(check(Kind::Rooted, 2, &n, &cover), Ok(6));
+    assert_eq!(best(Kind::Rooted, 2, &n, &mut buffer), due);
+}

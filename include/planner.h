@@ -1,0 +1,74 @@
+/* Min-max tree covers of a graph: link libplanner_c.a, which `rt staticlib planner_c` writes. */
+#ifndef PLANNER_H
+#define PLANNER_H
+
+#include <stddef.h>
+#include <stdint.h>
+
+#ifdef __cplusplus
+extern "C" {
+#endif
+
+/* The kind of a question: 0 is rooted ("yard"), every other number unrooted ("roving"). */
+#define PLANNER_ROOTED 0u
+#define PLANNER_UNROOTED 1u
+
+/* The least length of a buffer, in bytes: room for any cover. */
+#define PLANNER_BUFFER 32708u
+
+/* What planner_trial and planner_best answer, with the values of each; every other number is that of a refusal. */
+#define PLANNER_COVER 0u         /* values: the limit, the heaviest weight, the number of trees. A cover is written. */
+#define PLANNER_TOO_LOW_STOP 1u  /* values: the lowest vertex joined to no root. */
+#define PLANNER_TOO_LOW_PARTS 2u /* values: T parts, D roots near any of them, D < T. The parts are written. */
+#define PLANNER_TOO_LOW_NEEDS 3u /* values: the number of trees needed, which is above k. */
+#define PLANNER_NO_COVER 4u      /* no values: no cover of the kind exists at any limit. */
+
+/*
+ * The bytes. All fields are unsigned, lowest byte first; vertices, edges and trees are numbered from 0.
+ *
+ * A graph: n, the number of vertices (2 bytes, 1 to 256); m, the number of edges (2 bytes, 0 to 2,048); m pairs of ends
+ * (2 bytes each end); m weights (4 bytes each, 1 to 1,000,000). 4 + 8m bytes.
+ * A cover: t, the number of trees (2 bytes); q, the number of entries (2 bytes); t starts (2 bytes each); q tree numbers,
+ * then q edge numbers (2 bytes each), rising strictly by tree, then by edge. 4 + 2t + 4q bytes.
+ *
+ * k is the number of trees, 1 to 32. The roots of a rooted question are vertices 0 to k - 1, so k is at most n.
+ *
+ * For all functions below: any input is answered. Each pointer is to as many bytes as its length says, `values` to exactly
+ * three numbers; no pointer is null even where a length is 0, and what is written overlaps nothing else: nothing tests
+ * this. Only the values of the answer's case are written, from the first on; of the buffer only the front that the cover
+ * or the parts fill, as cover bytes. All else, and all of both at a refusal, is left as it came.
+ */
+
+/*
+ * A trial at a limit (0 to 2,048,000,000). Accepted: a cover whose heaviest tree weighs at most four times the limit.
+ * Too low: every cover of the kind for k has a tree heavier than the limit.
+ *
+ * Refused, tried in this order: 11 graph_length is below 4 or not 4 + 8m. 12 n is 0 or above 256. 13 m is above 2,048. Then
+ * edge by edge 14 an end is not below n, 15 the ends are equal, 16 the weight is 0 or above 1,000,000. 21 k is outside 1 to
+ * 32, or above n in a rooted question. 22 the limit is above 2,048,000,000. 23 buffer_length is below PLANNER_BUFFER.
+ */
+uint32_t planner_trial(uint32_t kind, size_t k, uint64_t limit, const uint8_t *graph, size_t graph_length,
+                       uint64_t *values, uint8_t *buffer, size_t buffer_length);
+
+/*
+ * The best limit: PLANNER_COVER, whose heaviest tree weighs at most four times that of any cover of the kind for k;
+ * PLANNER_NO_COVER, exactly where none exists; or a refusal as of a trial, without 22.
+ */
+uint32_t planner_best(uint32_t kind, size_t k, const uint8_t *graph, size_t graph_length, uint64_t *values,
+                      uint8_t *buffer, size_t buffer_length);
+
+/*
+ * The check of a filed cover: 0 exactly where its bytes are a cover of the kind for k, with the heaviest weight as the first
+ * value, the other two left as they came. Otherwise 11 to 16 and 21 as of a trial, or 31 cover_length is below 4 or not
+ * 4 + 2t + 4q. 32 t or a start breaks the rule of the kind (rooted: k trees, tree j starts at vertex j; unrooted: 1 to k
+ * trees, starts below n). 33 an entry's tree is not below t, its edge not below m, or the order is wrong. 34 a tree has a
+ * loop or an edge not joined to its start. 35 a vertex is uncovered.
+ */
+uint32_t planner_check(uint32_t kind, size_t k, const uint8_t *graph, size_t graph_length, const uint8_t *cover,
+                       size_t cover_length, uint64_t *values);
+
+#ifdef __cplusplus
+}
+#endif
+
+#endif
