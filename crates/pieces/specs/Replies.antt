@@ -11,7 +11,7 @@ use Rattle.rules.specs.Reply as rules
 use Rattle.rules.specs.RootedTrial.{Choices}
 use Rattle.rules.specs.Search.{trial}
 use Rattle.rules.specs.Questions.{bufferAfter}
-use Rattle.rules.specs.Meaning.{GoodFor}
+use Rattle.rules.specs.Fit.{GoodFor}
 use Rattle.pieces.specs.declared.reply.Reply.{Reply}
 use Rattle.pieces.specs.declared.reply.Reply.the-variants.{Sheet, Crews, Limit, Room, Cover, Stop, Parts, Needs, NoCover}
 

@@ -23,7 +23,7 @@ use Rattle.rules.specs.Cover as cover
 use Rattle.rules.specs.RootedTrial.{Choices}
 use Rattle.rules.specs.Search.{noCover, bestLimit, best}
 use Rattle.rules.specs.Questions.{crewCount, tooManyRoots, crewFault, written, bufferAfter}
-use Rattle.rules.specs.Meaning.{GoodFor}
+use Rattle.rules.specs.Fit.{GoodFor}
 use Rattle.rules.proofs.CrewsRight.{rooted-fit}
 use Rattle.planner_laws.proofs.SomeChoices.{some-choices}
 use Rattle.cover.specs.declared.crews.Kind.{Kind}

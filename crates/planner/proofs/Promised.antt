@@ -21,7 +21,8 @@ use Rattle.rules.specs.Reply as rules
 use Rattle.rules.specs.RootedTrial.{Choices}
 use Rattle.rules.specs.Search.{trial, best, bestLimit}
 use Rattle.rules.specs.Questions.{numberIn, sheetFault, crewFault, limitFault, roomFault, trialFault, askTrial, bestFault, askBest, written, bufferAfter}
-use Rattle.rules.specs.Meaning.{CrewsFit, GoodFor, TrialMeans, BestMeans}
+use Rattle.rules.specs.Fit.{CrewsFit, GoodFor}
+use Rattle.planner_laws.specs.Meaning.{TrialMeans, BestMeans}
 use Rattle.rules.proofs.SheetRight.{sheet-right}
 use Rattle.rules.proofs.CrewsRight.{rooted-fit, unrooted-fit}
 use Rattle.planner_laws.proofs.BothKinds.{trial-bounds}

@@ -15,7 +15,7 @@ use Rattle.rules.specs.Forest.{keep}
 use Rattle.rules.specs.Reply as rules
 use Rattle.rules.specs.RootedTrial.{Choices}
 use Rattle.rules.specs.Search.{trial, bestLimit, best}
-use Rattle.rules.specs.Meaning.{GoodFor}
+use Rattle.rules.specs.Fit.{GoodFor}
 use Rattle.rules.specs.Questions.{crewFault}
 use Rattle.cover.specs.Crews.{crewsOf}
 use Rattle.cover.specs.declared.crews.Kind.{Kind}

@@ -13,7 +13,8 @@ use Rattle.rules.specs.Reply as rules
 use Rattle.rules.specs.RootedTrial.{Choices}
 use Rattle.rules.specs.Search.{trial, bestLimit, best}
 use Rattle.rules.specs.Questions.{limitFault, trialFault, askTrial, bestFault, askBest}
-use Rattle.rules.specs.Meaning.{GoodFor, TrialMeans, BestMeans}
+use Rattle.rules.specs.Fit.{GoodFor}
+use Rattle.planner_laws.specs.Meaning.{TrialMeans, BestMeans}
 use Rattle.cover.specs.declared.crews.Kind.{Kind}
 use Rattle.cover.specs.Crews.{crewsOf}
 use Rattle.pieces.specs.declared.reply.Reply.{Reply}

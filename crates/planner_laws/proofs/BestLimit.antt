@@ -23,7 +23,7 @@ use Rattle.rules.specs.RootedTrial.{Choices}
 use Rattle.rules.specs.Search.{accepts, Bounds, searched, bestLimit}
 use Rattle.forest_laws.proofs.Ordering.{in-ordered}
 use Rattle.planner_laws.proofs.SearchSteps.{width, Found, search-found, search-any, steps-enough}
-use Rattle.rules.specs.Meaning.{GoodFor}
+use Rattle.rules.specs.Fit.{GoodFor}
 use Rattle.planner_laws.proofs.TrialBounds.{trialTrees, CoverWithin, TrialBounds}
 
 -- the sum of all weights, and the bounds at which the search begins

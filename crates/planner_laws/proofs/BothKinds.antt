@@ -4,7 +4,7 @@
 use Rattle.graph.specs.Graph.{Graph}
 use Rattle.graph.specs.Valid.{Valid}
 use Rattle.rules.specs.Cover.{Crews, rooted, unrooted}
-use Rattle.rules.specs.Meaning.{CrewsFit}
+use Rattle.rules.specs.Fit.{CrewsFit}
 use Rattle.split_laws.proofs.Whole.{valid-ends}
 use Rattle.planner_laws.proofs.RootedStop.{stop-too-low}
 use Rattle.planner_laws.proofs.RootedParts.{parts-too-low}

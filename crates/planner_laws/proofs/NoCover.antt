@@ -25,7 +25,8 @@ use Rattle.rules.specs.Order.{ordered}
 use Rattle.rules.specs.Labels.{Labels, apart, together, joined, mergeAll}
 use Rattle.rules.specs.Forest.{unjoined, lowest}
 use Rattle.rules.specs.Search.{nobody, noCover}
-use Rattle.rules.specs.Meaning.{CrewsFit, NoneAtAll}
+use Rattle.rules.specs.Fit.{CrewsFit}
+use Rattle.planner_laws.specs.Meaning.{NoneAtAll}
 use Rattle.rules.proofs.Linked.{linked-more}
 use Rattle.forest_laws.proofs.Ordering.{in-ordered}
 use Rattle.forest_laws.proofs.Walks.{merged-linked, linked-merged}

@@ -15,7 +15,8 @@ use Rattle.rules.specs.Reply.{Reply, covered, too-low-parts, too-low-needs, no-
 use Rattle.rules.specs.RootedTrial.{Choices, stopOr, unjoinedAt, isAssignable, rootedTrial}
 use Rattle.rules.specs.UnrootedTrial.{needed, unrootedTrial}
 use Rattle.rules.specs.Search.{nobody, accepts, trial, noCover, bestLimit, best}
-use Rattle.rules.specs.Meaning.{GoodFor, CrewsFit, NoneWithin, TrialMeans, BestMeans}
+use Rattle.rules.specs.Fit.{GoodFor, CrewsFit}
+use Rattle.planner_laws.specs.Meaning.{NoneWithin, TrialMeans, BestMeans}
 use Rattle.planner_laws.proofs.NoCover.{no-cover-none, some-cover}
 use Rattle.planner_laws.proofs.TrialBounds.{trialTrees, CoverWithin, TrialBounds}
 use Rattle.planner_laws.proofs.BestLimit.{best-accepted, best-cover, best-factor}

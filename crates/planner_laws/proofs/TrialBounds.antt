@@ -15,7 +15,8 @@ use Rattle.rules.specs.Cover.{Tree, heaviest, Crews, rooted, unrooted, IsCover}
 use Rattle.rules.specs.RootedTrial.{Choices, GoodChoices, unjoinedAt, rootedParts, mayGo, isAssignable, rootedCover}
 use Rattle.rules.specs.UnrootedTrial.{needed, unrootedTrees}
 use Rattle.rules.specs.Search.{nobody, accepts}
-use Rattle.rules.specs.Meaning.{GoodFor, NoneWithin}
+use Rattle.rules.specs.Fit.{GoodFor}
+use Rattle.planner_laws.specs.Meaning.{NoneWithin}
 
 -- The trees of an accepted trial.
 abbrev pub trialTrees : Graph → Crews → ℕ → Choices → List Tree

@@ -15,7 +15,7 @@ use Rattle.lists.proofs.Runs.{length-below}
 use Rattle.graph.specs.Graph.{Graph}
 use Rattle.rules.specs.Cover.{Crews, rooted, unrooted}
 use Rattle.rules.specs.Questions.{crewCount, tooManyRoots, crewFault}
-use Rattle.rules.specs.Meaning.{CrewsFit}
+use Rattle.rules.specs.Fit.{CrewsFit}
 use Rattle.graph.proofs.Faults.{quiet-if}
 
 -- There is at least one crew, and there are no more roots than vertices.

@@ -29,8 +29,8 @@ pub mod RootedTrial
 pub mod UnrootedTrial
 -- "The best limit":
 pub mod Search
--- what the replies mean
-pub mod Meaning
+-- crews that fit, and choices that are good
+pub mod Fit
 -- "Who causes which number":
 -- the check of a filed cover
 pub mod CheckCover

@@ -4,22 +4,9 @@
 use Prim.Native.Nat.{ℕ, _*_, _≤_, _<_}
 use mathlib.Core.Path.{_≡_}
 use mathlib.Core.List.{List}
-use lib.ListN.{length}
-use Rattle.lists.specs.Member.{_∈_}
 use Rattle.graph.specs.Graph.{Graph}
-use Rattle.rules.specs.Cover.{Tree, heaviest, Crews, rooted, unrooted, IsCover}
-use Rattle.rules.specs.RootedTrial.{Choices, GoodChoices}
+use Rattle.rules.specs.Cover.{Tree, heaviest, Crews, IsCover}
 use Rattle.rules.specs.Reply.{Reply, refused, covered, too-low-stop, too-low-parts, too-low-needs, no-cover}
-
--- Crews that 21 does not refuse: there is at least one, and each root is a vertex.
-abbrev pub CrewsFit : Graph → Crews → Type 0
-CrewsFit g (rooted roots) = (1 ≤ length roots) × ((r : ℕ) → r ∈ roots → r < g .vertices)
-CrewsFit g (unrooted k) = 1 ≤ k
-
--- What holds of the free choices of a trial at a limit. An unrooted trial has none.
-abbrev pub GoodFor : Graph → Crews → ℕ → Choices → Type 0
-GoodFor g (rooted roots) limit c = GoodChoices g roots limit c
-GoodFor g (unrooted k) limit c = Unit {0}
 
 -- No cover by the crews is within the limit: the heaviest of each is above it.
 abbrev pub NoneWithin : Graph → Crews → ℕ → Type 0

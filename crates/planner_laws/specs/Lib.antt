@@ -1,0 +1,3 @@
+-- The words of the theorems.
+-- what the replies mean
+pub mod Meaning
