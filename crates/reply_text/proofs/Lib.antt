@@ -5,3 +5,5 @@ pub mod Digits
 pub mod Putting
 -- lines, number by number
 pub mod LineEnds
+-- the lines of trees, part by part and tree by tree
+pub mod TreeLines

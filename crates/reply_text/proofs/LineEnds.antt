@@ -6,6 +6,10 @@ use mathlib.Core.List.{List, [], _∷_, _++_, append-assoc}
 use Rattle.lists.specs.Lists.{flat}
 use Rattle.reply_text.specs.Lines.{bytesOf, spaced, allSpaced, ended}
 
+pub spaced-none : allSpaced [] ≡ []
+unfolding allSpaced flat
+spaced-none = refl
+
 pub spaced-next : (n : ℕ) (ns : List ℕ) → allSpaced (n ∷ ns) ≡ spaced n ++ allSpaced ns
 unfolding allSpaced flat
 spaced-next n ns = refl

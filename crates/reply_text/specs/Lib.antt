@@ -5,3 +5,5 @@ pub mod Lines
 pub mod Text
 -- document 01's example, and a line of each other reply
 pub mod Examples
+-- what the functions that write trees ask and promise
+pub mod Trees
