@@ -7,3 +7,11 @@ pub mod Putting
 pub mod LineEnds
 -- the lines of trees, part by part and tree by tree
 pub mod TreeLines
+-- how long texts are
+pub mod TextLengths
+-- a cover read from the buffer that it was written to
+pub mod CoverRead
+-- the text by a reply's number and values
+pub mod SaidText
+-- the text of a cover, from the buffer
+pub mod CoverSaid

@@ -7,3 +7,5 @@ pub mod Text
 pub mod Examples
 -- what the functions that write trees ask and promise
 pub mod Trees
+-- what the writing of a reply asks and promises
+pub mod Replies
