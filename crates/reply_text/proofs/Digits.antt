@@ -1,13 +1,16 @@
--- Decimal digits: the last one stands behind those of the number's tenth; how many there are; read again they are the number.
+-- Decimal digits: the last one stands behind those of the number's tenth. Each is a digit, the first is no zero, read again they are the
+-- number; and how many there are.
 -- Assumes nothing.
 use Prim.Native.Nat.{ℕ, zero, suc, _+_, _-_, _*_, _/_, _%_, _^_, _≤_, _<_}
 use mathlib.Core.Path.{_≡_, refl, sym, ap, _∙_}
-use mathlib.Core.List.{List, [], _∷_, _++_}
+use mathlib.Core.List.{List, [], _∷_, _++_, List·Memᴰ·append-cases, List·Memᴰ·eq-of-singleton}
+use mathlib.Core.Logic.{_⊎_, inl, inr}
 use native.Mathlib.Decide.{decLt}
 use native.Mathlib.Nat.{mod-eq-of-lt, div-lt-iff-lt-mul, pow-suc}
 use native.Mathlib.Omega.{arith}
-use lib.ListN.{length, length-append}
+use lib.ListN.{length, getD, length-append, List·getD-append}
 use borrow.Author.Tests.{lt-ltb, le-ltb}
+use Rattle.lists.specs.Member.{_∈_}
 use Rattle.reply_text.specs.Lines.{digit, digitsWithin, digits, readBehind, readDigits}
 
 -- A number below ten is its own digit.
@@ -67,3 +70,38 @@ read-within (suc k) n h = go (decLt n 10) (read-within k (n / 10) (omega arith))
 
 pub digits-read : (n : ℕ) → readDigits (digits n) ≡ n
 digits-read n = read-within n n (omega arith)
+
+-- Each is the byte of a digit, 48 to 57.
+each-within : (k n : ℕ) → n ≤ k → (d : ℕ) → d ∈ digits n → (48 ≤ d) × (d < 58)
+each-within zero n h d m = let q = List·Memᴰ·eq-of-singleton (rw (digits-last n (omega arith)) at m) in (omega arith, omega arith)
+each-within (suc k) n h d m = go (decLt n 10) (each-within k (n / 10) (omega arith) d)
+  where
+    go : Dec (n < 10) → (d ∈ digits (n / 10) → (48 ≤ d) × (d < 58)) → (48 ≤ d) × (d < 58)
+    go (yes p) rec = let q = List·Memᴰ·eq-of-singleton (rw (digits-last n p) at m) in (omega arith, omega arith)
+    go (no p) rec = either (List·Memᴰ·append-cases (digits (n / 10)) (rw (digits-more n (omega arith)) at m))
+      where
+        either : (d ∈ digits (n / 10)) ⊎ (d ∈ digit (n % 10) ∷ []) → (48 ≤ d) × (d < 58)
+        either (inl i) = rec i
+        either (inr i) = let q = List·Memᴰ·eq-of-singleton i in (omega arith, omega arith)
+
+pub digits-each : (n d : ℕ) → d ∈ digits n → (48 ≤ d) × (d < 58)
+digits-each n d m = each-within n n (omega arith) d m
+
+-- There is at least one, and the first is no zero but for the number 0.
+digits-some : (n : ℕ) → 0 < length (digits n)
+digits-some n = go (decLt n 10)
+  where
+    go : Dec (n < 10) → 0 < length (digits n)
+    go (yes p) = rw (digits-last n p) (omega arith)
+    go (no p) = rw (digits-more n (omega arith)) (omega (arith, length-append (digits (n / 10)) (digit (n % 10) ∷ [])))
+
+first-within : (k n : ℕ) → n ≤ k → 0 < n → 48 < getD (digits n) 0 0
+first-within zero n h some = absurd (omega arith)
+first-within (suc k) n h some = go (decLt n 10) (λ s. first-within k (n / 10) (omega arith) s)
+  where
+    go : Dec (n < 10) → (0 < n / 10 → 48 < getD (digits (n / 10)) 0 0) → 48 < getD (digits n) 0 0
+    go (yes p) rec = rw (digits-last n p) (omega arith)
+    go (no p) rec = rw (digits-more n (omega arith), List·getD-append (digits (n / 10)) (digit (n % 10) ∷ []) 0 0 (digits-some (n / 10))) (rec (omega arith))
+
+pub digits-first : (n : ℕ) → 0 < n → 48 < getD (digits n) 0 0
+digits-first n some = first-within n n (omega arith) some

@@ -15,3 +15,5 @@ pub mod CoverRead
 pub mod SaidText
 -- the text of a cover, from the buffer
 pub mod CoverSaid
+-- which replies can be printed
+pub mod PrintableReplies
