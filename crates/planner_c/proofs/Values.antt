@@ -1,0 +1,70 @@
+-- Values stored from the first on stand in front of those that stay, and the cases without a value change none.
+-- Assumes nothing.
+use Prim.{tt}
+use Prim.Native.Nat.{ℕ, zero, suc}
+use mathlib.Core.Path.{_≡_, refl}
+use mathlib.Core.List.{List, [], _∷_}
+use native.Mathlib.Omega.{arith}
+use lib.ListN.{length, set}
+use types.Run.{OneOf, miss}
+use denote.Enum.Declared.{tagOf}
+use Rattle.cover.proofs.check.Verdict as verdict
+use Rattle.cover.specs.declared.crews.Kind.the-variants.{Unrooted}
+use Rattle.cover.specs.declared.check.Verdict.{Verdict}
+use Rattle.cover.specs.declared.check.Verdict.the-variants.{Yes, Sheet, Crews, Length, Starts, Entries, Trees, Vertices}
+use Rattle.pieces.proofs.reply.Reply as reply
+use Rattle.pieces.specs.declared.reply.Reply.{Reply}
+use Rattle.pieces.specs.declared.reply.Reply.the-variants as replies
+use Rattle.pieces.specs.Replies.{said, says}
+use Rattle.planner_c.specs.Numbers.{kindOf, sayingOf, Puts}
+
+-- A number that is not 0 names the unrooted kind.
+pub unrooted : (kind : ℕ) → (kind ≡ 0 → ⊥) → Unrooted ≡ kindOf kind
+unrooted zero other = absurd (other refl)
+unrooted (suc kind) other = refl
+
+-- One value, two and three, stored in a list of three.
+pub puts-one : {number x : ℕ} (before : List ℕ) → length before ≡ 3 → Puts (said number (x ∷ [])) before (set before 0 x)
+puts-one [] long = absurd (omega (arith, long))
+puts-one (a ∷ rest) long = record { values = refl }
+
+pub puts-two : {number x y : ℕ} (before : List ℕ) → length before ≡ 3 → Puts (said number (x ∷ y ∷ [])) before (set (set before 0 x) 1 y)
+puts-two [] long = absurd (omega (arith, long))
+puts-two (a ∷ []) long = absurd (omega (arith, long))
+puts-two (a ∷ b ∷ rest) long = record { values = refl }
+
+pub puts-three : {number x y z : ℕ} (before : List ℕ) → length before ≡ 3
+    → Puts (said number (x ∷ y ∷ z ∷ [])) before (set (set (set before 0 x) 1 y) 2 z)
+puts-three [] long = absurd (omega (arith, long))
+puts-three (a ∷ []) long = absurd (omega (arith, long))
+puts-three (a ∷ b ∷ []) long = absurd (omega (arith, long))
+puts-three (a ∷ b ∷ c ∷ rest) long = record { values = refl }
+
+-- A reply of a case without values: none of those with some (4 to 7).
+abbrev withoutValues : List ℕ
+withoutValues = 0 ∷ 1 ∷ 2 ∷ 3 ∷ 8 ∷ []
+
+pub puts-no-value : (r : Reply) (before : List ℕ) → OneOf withoutValues (tagOf reply.the-type r) → Puts (says r) before before
+puts-no-value (replies.Sheet f) before case = record { values = refl }
+puts-no-value replies.Crews before case = record { values = refl }
+puts-no-value replies.Limit before case = record { values = refl }
+puts-no-value replies.Room before case = record { values = refl }
+puts-no-value (replies.Cover limit heaviest t) before case = absurd (miss withoutValues 4 tt case)
+puts-no-value (replies.Stop v) before case = absurd (miss withoutValues 5 tt case)
+puts-no-value (replies.Parts T D) before case = absurd (miss withoutValues 6 tt case)
+puts-no-value (replies.Needs C) before case = absurd (miss withoutValues 7 tt case)
+puts-no-value replies.NoCover before case = record { values = refl }
+
+-- A verdict that is not yes (0).
+abbrev numbers : List ℕ
+numbers = 1 ∷ 2 ∷ 3 ∷ 4 ∷ 5 ∷ 6 ∷ 7 ∷ []
+
+pub puts-no-heaviest : (v : Verdict) (before : List ℕ) → OneOf numbers (tagOf verdict.the-type v) → Puts (sayingOf v) before before
+puts-no-heaviest (Yes h) before case = absurd (miss numbers 0 tt case)
+puts-no-heaviest (Sheet f) before case = record { values = refl }
+puts-no-heaviest Crews before case = record { values = refl }
+puts-no-heaviest Length before case = record { values = refl }
+puts-no-heaviest Starts before case = record { values = refl }
+puts-no-heaviest Entries before case = record { values = refl }
+puts-no-heaviest Trees before case = record { values = refl }
+puts-no-heaviest Vertices before case = record { values = refl }

@@ -1,0 +1,24 @@
+-- `planner_c::said::put_heaviest` meets its contract. Assumes nothing.
+use Rattle.planner_c.proofs.Values.{puts-one, puts-no-heaviest}
+use borrow.Author.Needs.{needs}
+use Rattle.planner_c.proofs.said.put_heaviest.Statement.{statement}
+use Rattle.planner_c.proofs.said.put_heaviest.Tie as tie
+
+enum-known-verdict : tie.Need-enum-known-verdict
+enum-known-verdict c = search needs
+
+slice-write-values : tie.Need-slice-write-values
+slice-write-values c = search needs
+
+same-length : tie.Need-same-length
+same-length c = search needs
+
+returns : tie.Need-returns
+returns c = let s = c .before .before .before in rw (c .before .verdict .given .1) (puts-one (s .args .values .now) (s .pre))
+
+returns-2 : tie.Need-returns-2
+returns-2 c = let s = c .before in puts-no-heaviest (s .args .verdict) (s .args .values .now) (c .match .keys2)
+
+pub put-heaviest-spec : {M : Type 1} → statement M
+put-heaviest-spec =
+    tie.close (tie.spec enum-known-verdict slice-write-values same-length returns returns-2)

@@ -1,0 +1,30 @@
+-- What crosses to C as numbers: the kind of a question, and the number and values that a verdict says. (What a reply says: `says` of the crate `pieces`.)
+-- Assumes nothing.
+use Prim.Native.Nat.{ℕ, zero, suc}
+use mathlib.Core.Path.{_≡_}
+use mathlib.Core.List.{List, [], _∷_, _++_}
+use lib.ListN.{length, drop}
+use Rattle.rules.specs.Reply as rules
+use Rattle.cover.specs.declared.crews.Kind.{Kind}
+use Rattle.cover.specs.declared.crews.Kind.the-variants.{Rooted, Unrooted}
+use Rattle.cover.specs.declared.check.Verdict.{Verdict}
+use Rattle.cover.specs.Promise as check
+use Rattle.pieces.specs.Replies.{Said, said}
+
+-- 0 is rooted ("yard"), every other number unrooted ("roving").
+abbrev pub kindOf : ℕ → Kind
+kindOf zero = Rooted
+kindOf (suc other) = Unrooted
+
+-- The rules' verdict: yes is 0 with the heaviest weight, a refusal its own number.
+abbrev pub saidOf : rules.Verdict → Said
+saidOf (rules.yes heaviest) = said 0 (heaviest ∷ [])
+saidOf (rules.number number) = said number []
+
+-- The program's verdict.
+abbrev pub sayingOf : Verdict → Said
+sayingOf verdict = saidOf (check.says verdict)
+
+-- The case's values, from the first on; those behind stay as they came.
+pub record Puts (s : Said) (before after : List ℕ) : Type 0 where
+  pub values : after ≡ s .values ++ drop (length (s .values)) before

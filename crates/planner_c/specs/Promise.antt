@@ -1,0 +1,33 @@
+-- What the exported functions promise on every input, refused ones too: the number returned and the values written are those of a reply,
+-- of which all that the planner promises holds, for the lent bytes as they are before and after.
+-- Assumes nothing.
+use Prim.Native.Nat.{ℕ}
+use mathlib.Core.Path.{_≡_}
+use mathlib.Core.List.{List}
+use Rattle.cover.specs.declared.check.Verdict.{Verdict}
+use Rattle.cover.specs.Promise.{CheckPromise}
+use Rattle.pieces.specs.declared.reply.Reply.{Reply}
+use Rattle.pieces.specs.Replies.{says}
+use Rattle.planner.specs.Promise.{TrialPromise, BestPromise}
+use Rattle.planner_c.specs.Numbers.{kindOf, sayingOf, Puts}
+
+-- A trial at a limit.
+pub record TrialExported (kind k limit : ℕ) (b values valuesAfter before after : List ℕ) (r : ℕ) : Type 0 where
+  pub reply : Reply
+  pub promise : TrialPromise (kindOf kind) k limit b before after reply
+  pub number : r ≡ says reply .number
+  pub puts : Puts (says reply) values valuesAfter
+
+-- The best limit.
+pub record BestExported (kind k : ℕ) (b values valuesAfter before after : List ℕ) (r : ℕ) : Type 0 where
+  pub reply : Reply
+  pub promise : BestPromise (kindOf kind) k b before after reply
+  pub number : r ≡ says reply .number
+  pub puts : Puts (says reply) values valuesAfter
+
+-- The check of a filed cover.
+pub record CheckExported (kind k : ℕ) (b c values valuesAfter : List ℕ) (r : ℕ) : Type 0 where
+  pub verdict : Verdict
+  pub promise : CheckPromise (kindOf kind) k b c verdict
+  pub number : r ≡ sayingOf verdict .number
+  pub puts : Puts (sayingOf verdict) values valuesAfter

@@ -1,0 +1,58 @@
+// The planner as a library that a C or a Rust program links: `include/planner.h` declares it.
+pub mod said;
+
+use crate::said::kind_of;
+use crate::said::number_of;
+use crate::said::put_heaviest;
+use crate::said::put_values;
+use crate::said::verdict_number;
+ghost use Rattle.planner_c.specs.Promise.{TrialExported, BestExported, CheckExported};
+
+// A trial at a limit, with its reply as a number and values.
+#[no_mangle]
+pub extern "C" fn planner_trial(
+    kind: u32,
+    k: usize,
+    limit: u64,
+    graph: &[u8],
+    values: &mut [u64; 3],
+    buffer: &mut [u8],
+) -> u32
+    ensures { λ r. ⌜ TrialExported kind k limit (now (graph .entry)) (now (values .entry)) (now (values .exit)) (now (buffer .entry)) (now (buffer .exit)) r ⌝ }
+{
+    let reply = planner::question::trial(kind_of(kind), k, limit, graph, buffer);
+    put_values(reply, values);
+    number_of(reply)
+}
+
+// The best limit, with its reply as a number and values.
+#[no_mangle]
+pub extern "C" fn planner_best(
+    kind: u32,
+    k: usize,
+    graph: &[u8],
+    values: &mut [u64; 3],
+    buffer: &mut [u8],
+) -> u32
+    ensures { λ r. ⌜ BestExported kind k (now (graph .entry)) (now (values .entry)) (now (values .exit)) (now (buffer .entry)) (now (buffer .exit)) r ⌝ }
+{
+    let reply = planner::question::best(kind_of(kind), k, graph, buffer);
+    put_values(reply, values);
+    number_of(reply)
+}
+
+// The check of a filed cover, with its verdict as a number and a value.
+#[no_mangle]
+pub extern "C" fn planner_check(
+    kind: u32,
+    k: usize,
+    graph: &[u8],
+    cover: &[u8],
+    values: &mut [u64; 3],
+) -> u32
+    ensures { λ r. ⌜ CheckExported kind k (now (graph .entry)) (now (cover .entry)) (now (values .entry)) (now (values .exit)) r ⌝ }
+{
+    let verdict = cover::check::check_cover(kind_of(kind), k, graph, cover);
+    put_heaviest(verdict, values);
+    verdict_number(verdict)
+}

@@ -1,0 +1,89 @@
+// What crosses to C as numbers: the kind of a question, and what a reply and a verdict say.
+use cover::check::Verdict;
+use cover::crews::Kind;
+use pieces::reply::Reply;
+ghost use mathlib.Core.Path.{_≡_};
+ghost use lib.ListN.{length};
+ghost use Rattle.pieces.specs.Replies.{says};
+ghost use Rattle.planner_c.specs.Numbers.{kindOf, sayingOf, Puts};
+
+// The kind that a number names: 0 rooted, every other unrooted.
+pub fn kind_of(kind: u32) -> Kind
+    ensures { λ r. ⌜ r ≡ kindOf kind ⌝ }
+{
+    match kind {
+        0 => Kind::Rooted,
+        _ => Kind::Unrooted,
+    }
+}
+
+// The number of a reply's case.
+pub fn number_of(reply: Reply) -> u32
+    ensures { λ r. ⌜ r ≡ says reply .number ⌝ }
+{
+    match reply {
+        Reply::Sheet(f) => graph::number(f) as u32,
+        Reply::Crews => 21,
+        Reply::Limit => 22,
+        Reply::Room => 23,
+        Reply::Cover(_, _, _) => 0,
+        Reply::Stop(_) => 1,
+        Reply::Parts(_, _) => 2,
+        Reply::Needs(_) => 3,
+        Reply::NoCover => 4,
+    }
+}
+
+// Writes the values of a reply's case, from the first on.
+pub fn put_values(reply: Reply, values: &mut [u64])
+    requires { ⌜ length (now values) ≡ 3 ⌝ }
+    ensures { λ _. ⌜ Puts (says reply) (now (values .entry)) (now (values .exit)) ⌝ }
+{
+    match reply {
+        Reply::Cover(limit, heaviest, t) => {
+            values[0] = limit;
+            values[1] = heaviest;
+            values[2] = t as u64;
+        }
+        Reply::Stop(v) => {
+            values[0] = v as u64;
+        }
+        Reply::Parts(parts, roots) => {
+            values[0] = parts as u64;
+            values[1] = roots as u64;
+        }
+        Reply::Needs(trees) => {
+            values[0] = trees;
+        }
+        _ => {}
+    }
+}
+
+// The number of a verdict: 0 for yes.
+pub fn verdict_number(verdict: Verdict) -> u32
+    ensures { λ r. ⌜ r ≡ sayingOf verdict .number ⌝ }
+{
+    match verdict {
+        Verdict::Yes(_) => 0,
+        Verdict::Sheet(f) => graph::number(f) as u32,
+        Verdict::Crews => 21,
+        Verdict::Length => 31,
+        Verdict::Starts => 32,
+        Verdict::Entries => 33,
+        Verdict::Trees => 34,
+        Verdict::Vertices => 35,
+    }
+}
+
+// Writes the heaviest weight as the first value, where the verdict is yes.
+pub fn put_heaviest(verdict: Verdict, values: &mut [u64])
+    requires { ⌜ length (now values) ≡ 3 ⌝ }
+    ensures { λ _. ⌜ Puts (sayingOf verdict) (now (values .entry)) (now (values .exit)) ⌝ }
+{
+    match verdict {
+        Verdict::Yes(heaviest) => {
+            values[0] = heaviest;
+        }
+        _ => {}
+    }
+}
