@@ -10,7 +10,7 @@ use Rattle.lists.proofs.Put.{put-count, put-taken, put-fits}
 use Rattle.graph.specs.Graph.{Graph, edgeCount}
 use Rattle.graph.specs.Bytes.{graphOf}
 use Rattle.rooted.specs.Prepared.{Prepared}
-use Rattle.rooted.specs.Table.{Tabled}
+use Rattle.marks.specs.Table.{Tabled}
 use Rattle.planner.specs.declared.prepare.Ready.{Ready}
 use Rattle.planner.specs.Preparing.{ForestPrepared, DistancesAsked, PreparedTo}
 

@@ -2,13 +2,13 @@
 // and the distances from all roots. Crews without roots are prepared with an empty list of them.
 use forest::around::put_around;
 use forest::order::order_edges;
+use marks::table::fill_table;
 use pieces::arcs::put_arcs;
 use pieces::pieces::number_up;
 use pieces::whole::keep_whole;
-use rooted::table::fill_table;
 ghost use lib.ListN.{length};
 ghost use Rattle.graph.specs.Bytes.{graphOf};
-ghost use Rattle.rooted.specs.Table.{Tabled};
+ghost use Rattle.marks.specs.Table.{Tabled};
 ghost use Rattle.planner.specs.Preparing.{ForestAsked, ForestPrepared, DistancesAsked, PrepareAsked, PreparedTo};
 
 // How many edges there are, and how many of them the whole forest has.

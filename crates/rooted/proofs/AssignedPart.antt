@@ -30,14 +30,15 @@ use Rattle.planner_laws.proofs.RootedPieces.{part-at, rooted-left}
 use Rattle.distance.specs.Trail.{trailOf}
 use Rattle.distance.specs.Shortest.{unreached}
 use Rattle.pieces.specs.Pieces.{treeOf}
-use Rattle.rooted.specs.Near.{distanceIn, nearOne}
-use Rattle.rooted.specs.Nearest.{Nearest}
-use Rattle.rooted.specs.Placed.{DistancesTabled, LastsTabled, rowOf, TrialArrays, PartsPlaced}
+use Rattle.marks.specs.Near.{distanceIn, nearOne}
+use Rattle.marks.specs.Nearest.{Nearest}
+use Rattle.marks.specs.Tabled.{DistancesTabled, LastsTabled, rowOf}
+use Rattle.rooted.specs.Placed.{TrialArrays, PartsPlaced}
 use Rattle.rooted.specs.Tree.{BackGiven}
 use Rattle.rooted.proofs.ChosenLaid.{map-at}
 use Rattle.rooted.proofs.NearMeansMayGo.{near-reaches, more-edges, around-inside}
-use Rattle.rooted.proofs.RootPath.{nearest-back, nearest-shortest-path}
-use Rattle.rooted.proofs.RowMarks.{row-room}
+use Rattle.marks.proofs.RootPath.{nearest-back, nearest-shortest-path}
+use Rattle.marks.proofs.RowMarks.{row-room}
 
 -- The piece at place i.
 abbrev pub pieceAt : TrialArrays → ℕ → Tree

@@ -1,20 +1,4 @@
 -- Laws that belong to no one function, in reading order.
--- where an element of a row stands
-pub mod RowPlaces
--- rows of marks: one more root, one more vertex
-pub mod RowMarks
--- a row of marks for each of several trees
-pub mod RowsMarked
--- the nearest of vertices looked at one after the other
-pub mod NearestSoFar
--- edges marked one after the other
-pub mod EdgeMarks
--- the edges kept of a union are its tree's
-pub mod UnionEdges
--- the places of the parts, between those of the leftovers
-pub mod PartsBetween
--- the table of distances, column by column, and the rows of last edges
-pub mod ColumnsWritten
 -- the pieces of a rooted trial by their numbers
 pub mod PiecesByNumber
 -- an assignment asked as it must be
@@ -31,12 +15,8 @@ pub mod ChosenLaid
 pub mod MarkedPieces
 -- a placed deficient set may be written, and what is written is the answer
 pub mod TooLowPlaced
--- marking the edges of a list that is known by another name
-pub mod TreeMarks
 -- the edges kept for a root are those of its union's tree
 pub mod RootUnion
--- the path marked for a part is a shortest one
-pub mod RootPath
 -- the part that a root is assigned, and the path to it
 pub mod AssignedPart
 -- each root's tree may be made

@@ -22,7 +22,7 @@ use Rattle.rules.specs.Held.{treeAt, treesAt, risen}
 use Rattle.rules.specs.Cover.{Tree}
 use Rattle.rules.specs.RootedTrial.{partOf, chosenParts}
 use Rattle.cover.specs.Chosen.{AllHeld}
-use Rattle.rooted.specs.Deficient.{placesMarked}
+use Rattle.marks.specs.Deficient.{placesMarked}
 use Rattle.rooted.specs.TooLowParts.{bySmallest, edgesOf, ChosenGiven}
 use Rattle.rooted.proofs.ChosenLaid.{map-at}
 

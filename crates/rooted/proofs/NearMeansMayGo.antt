@@ -29,10 +29,10 @@ use Rattle.rules.specs.RootedTrial.{mayGo, partOf, rootedParts}
 use Rattle.matching.specs.Input.{allowedAt}
 use Rattle.distance.specs.Shortest.{SaysDistance, nowhere, there, unreached}
 use Rattle.pieces.specs.Pieces.{endsOf}
-use Rattle.rooted.specs.Near.{distanceIn, nearOne, nearTree, RowsMarked}
-use Rattle.rooted.specs.Placed.{DistancesTabled}
+use Rattle.marks.specs.Near.{distanceIn, nearOne, nearTree, RowsMarked}
+use Rattle.marks.specs.Tabled.{DistancesTabled}
 use Rattle.rooted.specs.Parts.{PieceArrays, PiecesPlaced}
-use Rattle.rooted.proofs.RowPlaces.{place-within}
+use Rattle.marks.proofs.RowPlaces.{place-within}
 
 -- Some element of one list passes a test exactly where one of the other does, where they have the same elements and the tests agree on them.
 pub any-alike : {A : Type 0} (f h : A → Bool) (xs ys : List A) → ((x : A) → x ∈ xs → x ∈ ys) → ((y : A) → y ∈ ys → y ∈ xs)

@@ -13,8 +13,9 @@ use Rattle.graph.specs.Graph.{Graph}
 use Rattle.rules.specs.RootedTrial.{unionTree}
 use Rattle.rules.proofs.Linked.{turned}
 use Rattle.distance.specs.Trail.{trailOf}
-use Rattle.rooted.specs.Nearest.{Nearest}
-use Rattle.rooted.specs.Placed.{rowOf, TrialArrays, PartsPlaced}
+use Rattle.marks.specs.Nearest.{Nearest}
+use Rattle.marks.specs.Tabled.{rowOf}
+use Rattle.rooted.specs.Placed.{TrialArrays, PartsPlaced}
 use Rattle.rooted.specs.Tree.{AssignedAre, none, part}
 use Rattle.rooted.specs.CoverTrees.{RootTree}
 use Rattle.rooted.proofs.AssignedPart.{pieceAt, byte-is-root, bytes-apart, places-many}

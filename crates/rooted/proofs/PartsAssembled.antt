@@ -19,10 +19,10 @@ use Rattle.rules.specs.RootedTrial.{rootedParts, mayGo, isAssignable}
 use Rattle.matching.specs.Assignable.{assignable}
 use Rattle.matching.specs.Input.{allowedAt}
 use Rattle.planner_laws.proofs.RootedSize.{rooted-parts-few}
-use Rattle.rooted.specs.Near.{nearTree, TreeHeld, TreesGiven, RowsMarked}
+use Rattle.marks.specs.Near.{nearTree, TreeHeld, TreesGiven, RowsMarked}
 use Rattle.rooted.specs.Placed.{trialArrays, PartsPlaced}
 use Rattle.rooted.specs.Parts.{PieceArrays, PiecesPlaced, PartsAsked, AssignAsked, AssignDone}
-use Rattle.rooted.proofs.RowPlaces.{place-within}
+use Rattle.marks.proofs.RowPlaces.{place-within}
 use Rattle.rooted.proofs.NearMeansMayGo.{row-says, marks-small}
 use Rattle.rooted.proofs.AssignmentsAlike.{assignment-same, deficient-same, assignable-same}
 

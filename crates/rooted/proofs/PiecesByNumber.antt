@@ -34,10 +34,10 @@ use Rattle.split.proofs.ByNumber as numbered
 use Rattle.cover.specs.Chosen.{IsHeld}
 use Rattle.planner_laws.proofs.RootedPrepared.{pieces-of-whole}
 use Rattle.planner_laws.proofs.RootedSize.{rooted-parts-few}
-use Rattle.rooted.specs.Near.{TreeHeld}
-use Rattle.rooted.specs.Places.{between}
+use Rattle.marks.specs.Near.{TreeHeld}
+use Rattle.marks.specs.Places.{between}
 use Rattle.rooted.specs.Parts.{PieceArrays, arraysOf, PiecesAsked, PiecesPlaced}
-use Rattle.rooted.proofs.PartsBetween.{between-lefts}
+use Rattle.marks.proofs.PartsBetween.{between-lefts}
 
 -- The number of a part is below that of all pieces,
 part-below : (ps : List Pieces) (first : ℕ) {c : ℕ} → c ∈ partPlaces first ps → c < first + (length (allParts ps) + length ps)

@@ -15,11 +15,11 @@ use Rattle.lists.proofs.Zeros.{zeros-at}
 use Rattle.graph.specs.Graph.{Graph, edgeCount}
 use Rattle.graph.specs.Valid.{Valid}
 use Rattle.distance.specs.Trail.{trailOf}
-use Rattle.rooted.specs.Near.{Marked}
+use Rattle.marks.specs.Near.{Marked}
 use Rattle.rooted.specs.Tree.{AssignedMarked, nobody, somebody, AssignedAre, none, part, TreeKept, RootWritten}
-use Rattle.rooted.proofs.RowMarks.{marked-same}
-use Rattle.rooted.proofs.TreeMarks.{marked-both}
-use Rattle.rooted.proofs.UnionEdges.{union-edges}
+use Rattle.marks.proofs.RowMarks.{marked-same}
+use Rattle.marks.proofs.TreeMarks.{marked-both}
+use Rattle.marks.proofs.UnionEdges.{union-edges}
 
 or-swap : (p q : Bool) → p || q ≡ q || p
 or-swap true true = refl

@@ -25,11 +25,12 @@ use Rattle.rules.specs.RootedTrial.{rootedPieces, rootedParts, partOf, mayGo, C
 use Rattle.rules.proofs.Linked.{turned, of-turned}
 use Rattle.distance.specs.Trail.{trailOf}
 use Rattle.distance.specs.Shortest.{unreached}
-use Rattle.rooted.specs.Placed.{DistancesTabled, LastsTabled, rowOf, TrialArrays, PartsPlaced}
+use Rattle.marks.specs.Tabled.{DistancesTabled, LastsTabled, rowOf}
+use Rattle.rooted.specs.Placed.{TrialArrays, PartsPlaced}
 use Rattle.rooted.specs.Tree.{AssignedAre, none, part}
 use Rattle.rooted.specs.CoverTrees.{RootTree}
 use Rattle.rooted.proofs.NearMeansMayGo.{any-alike}
-use Rattle.rooted.proofs.UnionEdges.{union-same}
+use Rattle.marks.proofs.UnionEdges.{union-same}
 use Rattle.rooted.proofs.AssignedPart.{given, byte, byte-is-root, bytes-apart, places-many, placed-part, part-path}
 use Rattle.rooted.proofs.PartPaths.{PathFor}
 

@@ -13,7 +13,7 @@ use Rattle.graph.specs.Graph.{Graph, edgeCount}
 use Rattle.graph.specs.Bytes.{graphOf}
 use Rattle.rules.specs.Order.{comesBefore, ordered}
 use Rattle.pieces.proofs.SortedImages.{sort-length}
-use Rattle.rooted.specs.Placed.{rowOf}
+use Rattle.marks.specs.Tabled.{rowOf}
 use Rattle.rooted.specs.Tree.{ReachGiven}
 use Rattle.rooted.specs.CoverTrees.{RootsGiven, CoverAsked}
 use Rattle.rooted.proofs.AssignedPart.{bytes-room, places-many, start-in, part-edge, left-edge, part-back}

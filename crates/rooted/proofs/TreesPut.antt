@@ -10,10 +10,10 @@ use Rattle.lists.specs.Put.{PutTo}
 use Rattle.lists.proofs.Put.{put-count, put-front}
 use Rattle.graph.specs.Graph.{Graph}
 use Rattle.graph.specs.Bytes.{graphOf}
-use Rattle.rooted.specs.Placed.{rowOf}
+use Rattle.marks.specs.Tabled.{rowOf}
 use Rattle.rooted.specs.Tree.{RootGiven, RootWritten}
 use Rattle.rooted.specs.CoverTrees.{RootsGiven, TreePut}
-use Rattle.rooted.proofs.RowMarks.{row-room}
+use Rattle.marks.proofs.RowMarks.{row-room}
 
 -- From the length on nothing is left.
 drop-past : (n : ℕ) (xs : List ℕ) → length xs ≤ n → drop n xs ≡ []

@@ -15,7 +15,8 @@ use Rattle.rules.specs.RootedTrial.{unjoinedAt}
 use Rattle.pieces.specs.declared.reply.Reply.{Reply}
 use Rattle.pieces.specs.declared.reply.Reply.the-variants.{Parts}
 use Rattle.rooted.specs.declared.too_low_parts.Deficient.{Deficient}
-use Rattle.rooted.specs.Placed.{TrialArrays, DistancesTabled, LastsTabled, PartsPlaced}
+use Rattle.marks.specs.Tabled.{DistancesTabled, LastsTabled}
+use Rattle.rooted.specs.Placed.{TrialArrays, PartsPlaced}
 use Rattle.rooted.specs.Prepared.{Prepared}
 use Rattle.rooted.specs.TooLowParts.{SetWritten}
 

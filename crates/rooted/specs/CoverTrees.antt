@@ -14,7 +14,8 @@ use Rattle.rules.specs.Cover.{heaviest}
 use Rattle.rules.specs.CoverBytes.{encode}
 use Rattle.rules.specs.Order.{ordered}
 use Rattle.rules.specs.RootedTrial.{Choices, GoodChoices, unionTree, rootedCover}
-use Rattle.rooted.specs.Placed.{DistancesTabled, LastsTabled, rowOf, trialArrays, PartsPlaced}
+use Rattle.marks.specs.Tabled.{DistancesTabled, LastsTabled, rowOf}
+use Rattle.rooted.specs.Placed.{trialArrays, PartsPlaced}
 use Rattle.rooted.specs.Tree.{AssignedAre, RootGiven}
 
 -- The edges are those of root j's tree: of the union of its part, a path back from one of the part's nearest vertices, and what is left at the

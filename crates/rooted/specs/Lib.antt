@@ -1,20 +1,8 @@
 -- What the contracts of `rooted` say, in reading order.
--- which roots are near a part
-pub mod Near
--- the places of the parts among the pieces
-pub mod Places
 -- the parts of a rooted trial, placed
 pub mod Placed
 -- what placing the parts asks, step by step
 pub mod Parts
--- the table of distances, and the last edges
-pub mod Table
--- the vertex of a part that is nearest to a root
-pub mod Nearest
--- the edges of a union that are kept
-pub mod Union
--- the parts of a deficient set
-pub mod Deficient
 -- the parts of a deficient set, written
 pub mod TooLowParts
 -- the tree of one root

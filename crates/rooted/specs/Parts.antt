@@ -21,8 +21,8 @@ use Rattle.rules.specs.Held.{treeAt, treesAt, risen}
 use Rattle.rules.specs.RootedTrial.{unjoinedAt, rootedPieces, rootedParts, partOf, leftAt}
 use Rattle.forest.specs.Around.{Around}
 use Rattle.cover.specs.Chosen.{IsHeld}
-use Rattle.rooted.specs.Near.{TreeHeld}
-use Rattle.rooted.specs.Placed.{DistancesTabled}
+use Rattle.marks.specs.Near.{TreeHeld}
+use Rattle.marks.specs.Tabled.{DistancesTabled}
 
 -- The arrays of the pieces: their starts, bounds and edges, the number of each root's leftover, and the number of each part's piece.
 pub record PieceArrays : Type 0 where

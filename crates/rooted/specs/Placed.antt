@@ -1,12 +1,11 @@
 -- The parts of a rooted trial, placed: the arrays hold the pieces of the trial, the rows say which roots are near each part, and an
 -- assignment or a deficient set was found (document 01, steps 4 and 5).
 -- Assumes nothing.
-use Prim.Native.Nat.{ℕ, _+_, _*_, _≤_, _<_}
+use Prim.Native.Nat.{ℕ, _≤_, _<_}
 use mathlib.Core.Path.{_≡_}
 use mathlib.Core.Bool.{Bool, true, false}
-use mathlib.Core.List.{List, [], map}
-use mathlib.Core.Option.{none}
-use lib.ListN.{length, getD, take, drop}
+use mathlib.Core.List.{List, map}
+use lib.ListN.{length, getD, take}
 use Rattle.lists.specs.Member.{_∈_}
 use Rattle.lists.specs.Segments.{segment}
 use Rattle.lists.specs.Sort.{rise}
@@ -14,28 +13,8 @@ use Rattle.graph.specs.Graph.{Graph}
 use Rattle.matching.specs.Assignment.{IsAssignment, IsDeficient}
 use Rattle.matching.specs.Input.{allowedAt}
 use Rattle.rules.specs.Held.{treesAt, risen}
-use Rattle.rules.specs.Distance.{distances}
 use Rattle.rules.specs.RootedTrial.{rootedPieces, rootedParts, leftAt, mayGo, isAssignable}
-use Rattle.distance.specs.Shortest.{SaysDistance, Shortest}
 use Rattle.cover.specs.Chosen.{IsHeld, AllHeld}
-use Rattle.rooted.specs.Near.{distanceIn}
-
--- The table has the distance of each vertex from each root: that of vertex v from root j at v * k + j, of k roots.
-pub record DistancesTabled (g : Graph) (roots table : List ℕ) : Type 0 where
-  pub room : g .vertices * length roots ≤ length table
-  pub each : (v j : ℕ) → v < g .vertices → j < length roots
-      → SaysDistance (distanceIn table (length roots) v j) (getD (distances g (getD roots j 0)) v none)
-
--- Root j's distances and last edges, n of each, stand one root after the other: those of root j from j * n on.
-abbrev pub rowOf : ℕ → List ℕ → ℕ → List ℕ
-rowOf n rows j = take n (drop (j * n) rows)
-
--- The last edges of each root lead back to it along paths of the distances that the table says.
-pub record LastsTabled (g : Graph) (roots table lasts : List ℕ) : Type 0 where
-  pub room : length roots * g .vertices ≤ length lasts
-  pub each : (j : ℕ) → j < length roots
-      → (dist : List ℕ) × ((v : ℕ) → v < g .vertices → getD dist v 0 ≡ distanceIn table (length roots) v j)
-      × Shortest g (getD roots j 0) dist (rowOf (g .vertices) lasts j)
 
 -- The arrays of a rooted trial: the pieces by their starts, bounds and edges; the number of each root's leftover; the number of each part's
 -- piece; for each part a row of marks, 1 where a root is near; and what the assignment wrote, a byte for each part.

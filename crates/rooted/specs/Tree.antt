@@ -20,8 +20,8 @@ use Rattle.rules.specs.RootedTrial.{unionTree}
 use Rattle.distance.specs.Trail.{trailOf, CanGoBack}
 use Rattle.cover.specs.Chosen.{IsHeld, AllHeld}
 use Rattle.pieces.specs.Pieces.{treeOf}
-use Rattle.rooted.specs.Near.{Marked}
-use Rattle.rooted.specs.Nearest.{NearestGiven, Nearest}
+use Rattle.marks.specs.Near.{Marked}
+use Rattle.marks.specs.Nearest.{NearestGiven, Nearest}
 
 -- r is the first place below the bound where j stands, or the bound where it stands at none.
 pub record FirstWith (bytes : List ℕ) (bound j r : ℕ) : Type 0 where

@@ -3,12 +3,6 @@
 pub mod answer;
 pub mod cover_trees;
 pub mod decide;
-pub mod deficient;
-pub mod near;
-pub mod nearest;
 pub mod parts;
-pub mod places;
-pub mod table;
 pub mod too_low_parts;
 pub mod tree;
-pub mod union;

@@ -1,7 +1,7 @@
 // The parts of a rooted trial, placed (document 01, steps 4 and 5): the forest's trees are split with the limit as threshold, the roots near
 // each part are marked, and each part is given a root of its own; or else a set of parts is marked that has too few roots.
-use crate::near::mark_parts;
-use crate::places::part_places;
+use marks::near::mark_parts;
+use marks::places::part_places;
 use matching::Answer;
 use matching::assign;
 use split::split_forest;

@@ -1,9 +1,9 @@
 // The parts of a set that admits no assignment, written (document 01, step 5: "too low, parts T, yards D", the parts "ordered by smallest
 // line"). The pieces stand as the splitting left them; those chosen are laid out again with their edges rising.
-use crate::deficient::count_allowed;
-use crate::deficient::marked_places;
 use cover::write::write_cover;
 use forest::index::wide;
+use marks::deficient::count_allowed;
+use marks::deficient::marked_places;
 use pieces::chosen::sort_chosen;
 use pieces::pieces::element_at;
 use pieces::pieces::number_up;

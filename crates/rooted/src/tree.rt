@@ -1,11 +1,11 @@
 // The tree of one root (document 01, step 6): "a tree is the union of its part if any, a shortest path to it, and what is left at the yard".
 // The union's edges are marked, kept in order, and put by rising number.
-use crate::nearest::nearest_vertex;
-use crate::union::keep_union;
-use crate::union::mark_edges;
 use distance::path_back;
 use forest::index::wide;
 use forest::order::rise_edges;
+use marks::nearest::nearest_vertex;
+use marks::union::keep_union;
+use marks::union::mark_edges;
 use pieces::pieces::element_at;
 use pieces::pieces::piece_edges;
 ghost use mathlib.Core.Path.{_≡_};
@@ -15,7 +15,7 @@ ghost use Rattle.lists.specs.Lists.{member};
 ghost use Rattle.lists.specs.Segments.{segment};
 ghost use Rattle.graph.specs.Bytes.{graphOf};
 ghost use Rattle.distance.specs.Trail.{trailOf};
-ghost use Rattle.rooted.specs.Near.{Marked};
+ghost use Rattle.marks.specs.Near.{Marked};
 ghost use Rattle.rooted.specs.Tree.{FirstWith, PieceGiven, BackGiven, TreeAsked, TreeKept, ReachGiven, ReachMarked, AssignedGiven, AssignedMarked, RootGiven, RootWritten};
 
 // The first place below a bound where the byte stands; the bound where there is none.

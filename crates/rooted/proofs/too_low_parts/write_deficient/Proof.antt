@@ -8,7 +8,7 @@ use lib.ListN.{length, take}
 use lib.Seq.{length-take-le}
 use borrow.Author.Needs.{needs}
 use Rattle.lists.proofs.Put.{put-taken, put-count}
-use Rattle.rooted.specs.Deficient.{placesMarked}
+use Rattle.marks.specs.Deficient.{placesMarked}
 use Rattle.rooted.specs.TooLowParts.{ChosenGiven}
 use Rattle.rooted.proofs.MarkedPieces.{marked-given, marked-in-order}
 use Rattle.rooted.proofs.too_low_parts.write_deficient.Statement.{statement}

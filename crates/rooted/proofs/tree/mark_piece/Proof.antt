@@ -1,6 +1,6 @@
 -- `rooted::tree::mark_piece` meets its contract. Assumes nothing.
 use borrow.Author.Needs.{needs}
-use Rattle.rooted.proofs.TreeMarks.{each-below, marked-named}
+use Rattle.marks.proofs.TreeMarks.{each-below, marked-named}
 use Rattle.rooted.proofs.tree.mark_piece.Statement.{statement}
 use Rattle.rooted.proofs.tree.mark_piece.Tie as tie
 
