@@ -11,3 +11,5 @@ pub mod Steps
 pub mod Exactly
 -- of a valid graph, the ranges that callers use
 pub mod Ranges
+-- a view shows its own bytes
+pub mod Viewed

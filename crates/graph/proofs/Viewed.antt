@@ -1,0 +1,16 @@
+-- A view that shows some bytes shows its own: what the readers through a view ask.
+-- Assumes nothing.
+use mathlib.Core.Path.{refl, sym, subst}
+use Prim.Native.Nat.{ℕ}
+use mathlib.Core.List.{List}
+use denote.Ref.{now}
+use Rattle.graph.specs.Bytes.{graphOf}
+use Rattle.graph.specs.View.{CountsOf, Views}
+use Rattle.graph.specs.declared.view.View.{View}
+
+pub views-own : (v : View) (b : List ℕ) → Views v b → Views v (now (v .bytes))
+views-own v b h =
+    record {
+      bytes-are = refl;
+      counts = subst (λ (x : List ℕ). CountsOf (graphOf x) (v .vertices) (v .edges)) (sym (h .bytes-are)) (h .counts);
+    }
