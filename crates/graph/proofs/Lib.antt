@@ -11,5 +11,5 @@ pub mod Steps
 pub mod Exactly
 -- of a valid graph, the ranges that callers use
 pub mod Ranges
--- a view shows its own bytes
+-- a view shows its own bytes, and what the check counts are the counts
 pub mod Viewed

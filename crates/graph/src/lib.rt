@@ -173,9 +173,9 @@ fn check_edges(b: &[u8]) -> Checked
     let m = edge_count(b);
     let mut e = 0;
     while e < m {
-        let one = one_end(b, e);
-        let other = other_end(b, e);
-        let w = weight(b, e);
+        let one = view::one_end(b, n, m, e);
+        let other = view::other_end(b, n, m, e);
+        let w = view::weight(b, n, m, e);
         if n <= one {
             return Checked::Refused(Fault::End);
         }
