@@ -1,5 +1,5 @@
 // The graph's bytes (document 01: a "sheet"): readers of its fields, and the check with 11 to 16.
-// Everything is read from the caller's own bytes, and every public function takes all bytes.
+// Everything is read from the caller's own bytes, and every public function of this file takes all bytes. Edges are read through a view.
 // The words of the contracts stand in specs/: `graphOf` is the graph that the bytes spell, `checkOf` the check.
 pub mod view;
 
@@ -144,7 +144,7 @@ pub(crate) fn weight_at(b: &[u8], m: usize, e: usize) -> u64
     }
 }
 
-// One end of edge e; 0 past the last edge.
+// One end of edge e; 0 past the last edge. Who has the counts at hand calls the reader of `view`, which does not count again.
 pub fn one_end(b: &[u8], e: usize) -> usize
     ensures { λ r. ⌜ Reads (oneEnd (graphOf (now (b .entry))) e) (2 ^ 16) r ⌝ }
 {
