@@ -178,7 +178,8 @@ module _ {M : Type 1} (𝓤 : URA M) (H : Heap 𝓤) (A : Atoms 𝓤) (W : Given
         assigns ! (of-opd ! (load ! (from ! (fld ! refl (stop !))) (look-in ! 6 (sub ! 2 refl (whole !))))) (from ! (stop !)) (init ! 0 refl (tt, wt .1 .1 .1 .0)) $
         move ! (10 ∷ []) $ use1 W (raw (Callee 𝓤 H A Says .pre to) ⊛ ‵ Own) (apart (wt .1 .1 .1 .0 .fits)) $ split ! $
         calls-at ! fm (Callee 𝓤 H A Says) known to
-        (and-then ! (load ! (from ! (stop !)) (look ! 4 refl)) (and-then ! (load ! (from ! (stop !)) (look ! 2 refl)) (and-then ! (load ! (from ! (stop !)) (look ! 6 refl)) (no-more !))))
+        (and-then ! (load ! (from ! (stop !)) (look ! 4 refl)) (and-then ! (load ! (from ! (stop !)) (look ! 2 refl))
+        (and-then ! (load ! (from ! (stop !)) (look ! 6 refl)) (no-more !))))
         (λ u.
         use1 W (later (some (λ (r : ℕ). ((‵ (flft κ q) ⊛ ‵ ftrue) ⊛ ‵ (usize .own r (u ∷ [])))
         ⊛ raw (ensured 𝓤 H A callee.ended (reads-at 𝓤 Says) (κ, tt) (d .bytes, (d .edges, (e, tt))) tt r)))) (id⊢ 𝓤 _) $ await ! tt $ pick ! (λ r.
