@@ -11,3 +11,9 @@ pub mod Steps
 pub mod Exactly
 -- of a valid graph, the ranges that callers use
 pub mod Ranges
+-- a view shows its own bytes, and what the check counts are the counts
+pub mod Viewed
+-- the walk of a reader through a view
+mod Reading
+-- the walk of a function that makes a view and reads through it
+mod Through

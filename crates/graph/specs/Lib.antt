@@ -9,3 +9,5 @@ pub mod Fault
 pub mod Check
 -- what a valid graph is, and when bytes are one
 pub mod Valid
+-- what a view of the bytes says
+pub mod View

@@ -1,6 +1,8 @@
 // The graph's bytes (document 01: a "sheet"): readers of its fields, and the check with 11 to 16.
-// Everything is read from the caller's own bytes, and every public function takes all bytes.
+// Everything is read from the caller's own bytes, and every public function of this file takes all bytes. Edges are read through a view.
 // The words of the contracts stand in specs/: `graphOf` is the graph that the bytes spell, `checkOf` the check.
+pub mod view;
+
 ghost use mathlib.Core.Path.{_≡_};
 ghost use Prim.Native.Nat.{_+_, _^_, _≤_};
 ghost use lib.ListN.{length};
@@ -110,38 +112,57 @@ pub fn edge_count(b: &[u8]) -> usize
     if b.len() == 4 + 8 * m { m } else { 0 }
 }
 
-// One end of edge e; 0 past the last edge.
-pub fn one_end(b: &[u8], e: usize) -> usize
+// One end of edge e, of m edges; 0 past the last edge.
+pub(crate) fn one_end_at(b: &[u8], m: usize, e: usize) -> usize
+    requires { ⌜ m ≡ edgeCount (graphOf (now b)) ⌝ }
     ensures { λ r. ⌜ Reads (oneEnd (graphOf (now (b .entry))) e) (2 ^ 16) r ⌝ }
 {
-    if e < edge_count(b) {
-        u16_within(b, 4 + 4 * e)
-    } else {
-        0
-    }
+    if e < m { u16_within(b, 4 + 4 * e) } else { 0 }
 }
 
-// The other end of edge e; 0 past the last edge.
-pub fn other_end(b: &[u8], e: usize) -> usize
+// The other end of edge e, of m edges; 0 past the last edge.
+pub(crate) fn other_end_at(b: &[u8], m: usize, e: usize) -> usize
+    requires { ⌜ m ≡ edgeCount (graphOf (now b)) ⌝ }
     ensures { λ r. ⌜ Reads (otherEnd (graphOf (now (b .entry))) e) (2 ^ 16) r ⌝ }
 {
-    if e < edge_count(b) {
+    if e < m {
         u16_within(b, 4 + 4 * e + 2)
     } else {
         0
     }
 }
 
-// The weight of edge e; 0 past the last edge.
-pub fn weight(b: &[u8], e: usize) -> u64
+// The weight of edge e, of m edges; 0 past the last edge.
+pub(crate) fn weight_at(b: &[u8], m: usize, e: usize) -> u64
+    requires { ⌜ m ≡ edgeCount (graphOf (now b)) ⌝ }
     ensures { λ r. ⌜ Reads (weightOf (graphOf (now (b .entry))) e) (2 ^ 32) r ⌝ }
 {
-    let m = edge_count(b);
     if e < m {
         u32_within(b, 4 + 4 * m + 4 * e)
     } else {
         0
     }
+}
+
+// One end of edge e; 0 past the last edge. Who has the counts at hand calls the reader of `view`, which does not count again.
+pub fn one_end(b: &[u8], e: usize) -> usize
+    ensures { λ r. ⌜ Reads (oneEnd (graphOf (now (b .entry))) e) (2 ^ 16) r ⌝ }
+{
+    view::one_end(b, vertex_count(b), edge_count(b), e)
+}
+
+// The other end of edge e; 0 past the last edge.
+pub fn other_end(b: &[u8], e: usize) -> usize
+    ensures { λ r. ⌜ Reads (otherEnd (graphOf (now (b .entry))) e) (2 ^ 16) r ⌝ }
+{
+    view::other_end(b, vertex_count(b), edge_count(b), e)
+}
+
+// The weight of edge e; 0 past the last edge.
+pub fn weight(b: &[u8], e: usize) -> u64
+    ensures { λ r. ⌜ Reads (weightOf (graphOf (now (b .entry))) e) (2 ^ 32) r ⌝ }
+{
+    view::weight(b, vertex_count(b), edge_count(b), e)
 }
 
 // The check edge by edge.
@@ -152,9 +173,9 @@ fn check_edges(b: &[u8]) -> Checked
     let m = edge_count(b);
     let mut e = 0;
     while e < m {
-        let one = one_end(b, e);
-        let other = other_end(b, e);
-        let w = weight(b, e);
+        let one = view::one_end(b, n, m, e);
+        let other = view::other_end(b, n, m, e);
+        let w = view::weight(b, n, m, e);
         if n <= one {
             return Checked::Refused(Fault::End);
         }
