@@ -1,0 +1,135 @@
+-- Which replies can be printed: refusals by document 01's numbers, and replies that mean what the rules say of them.
+-- Assumes nothing.
+use Prim.Native.Nat.{ℕ, _≤_}
+use mathlib.Core.Path.{_≡_, refl, sym, subst, _∙_}
+use mathlib.Core.Bool.{Bool, true, false}
+use mathlib.Core.List.{List, [], _∷_, map, List·Memᴰ·head, List·Memᴰ·tail}
+use mathlib.Core.Option.{some, none}
+use native.Mathlib.Omega.{arith}
+use Rattle.graph.specs.Graph.{Edge}
+use Rattle.graph.specs.Bytes.{graphOf}
+use Rattle.graph.specs.Fault.{Fault, faultIf, firstFault, refusedOr}
+use Rattle.graph.specs.Check.{yes, number, edgeFault, edgesFault, headFault, checkOf}
+use Rattle.graph.specs.Valid.{IsGraph}
+use Rattle.graph.proofs.Faults.{refuses, quiet-each}
+use Rattle.rules.specs.Cover.{Crews}
+use Rattle.rules.specs.Reply.{Reply, refused}
+use Rattle.rules.specs.RootedTrial.{Choices}
+use Rattle.rules.specs.Search.{trial, best}
+use Rattle.rules.specs.Questions.{numberIn, sheetFault, crewFault, limitFault, roomFault, trialFault, askTrial, bestFault, askBest}
+use Rattle.rules.specs.Meaning.{TrialMeans, BestMeans}
+use Rattle.rules.proofs.SheetRight.{sheet-right}
+use Rattle.reply_text.specs.Replies.{Printable}
+
+-- Document 01's numbers begin at 11.
+abbrev pub Numbered : Fault → Type 0
+Numbered f = (k : ℕ) → f ≡ some k → 11 ≤ k
+
+if-numbered : (test : Bool) (n : ℕ) → 11 ≤ n → Numbered (faultIf test n)
+unfolding faultIf
+if-numbered true n h k q = let e : n ≡ k = cc in omega arith
+if-numbered false n h k q = absurd (refuses k (sym q))
+
+-- The first of none, and of one more.
+first-none : Numbered (firstFault [])
+unfolding firstFault
+first-none k q = absurd (refuses k (sym q))
+
+first-next : (f : Fault) (fs : List Fault) → Numbered f → Numbered (firstFault fs) → Numbered (firstFault (f ∷ fs))
+unfolding firstFault
+first-next (some n) fs h later = h
+first-next none fs h later = later
+
+-- The faults of a graph's bytes: of an edge, of all edges, of the head, and of the whole.
+edge-numbered : (n : ℕ) (e : Edge) → Numbered (edgeFault n e)
+unfolding edgeFault
+edge-numbered n e =
+    first-next _ _ (if-numbered _ 14 (omega arith)) (first-next _ _ (if-numbered _ 15 (omega arith)) (first-next _ _ (if-numbered _ 16 (omega arith)) first-none))
+
+edges-numbered : (n : ℕ) (es : List Edge) → Numbered (edgesFault n es)
+unfolding edgesFault
+edges-numbered n [] = first-none
+edges-numbered n (e ∷ es) = first-next (edgeFault n e) (map (edgeFault n) es) (edge-numbered n e) (edges-numbered n es)
+
+head-numbered : (b : List ℕ) → Numbered (headFault b)
+unfolding headFault
+head-numbered b =
+    first-next _ _ (if-numbered _ 11 (omega arith)) (first-next _ _ (if-numbered _ 12 (omega arith)) (first-next _ _ (if-numbered _ 13 (omega arith)) first-none))
+
+number-back : (f : Fault) (n m : ℕ) → numberIn (refusedOr number f (yes n m)) ≡ f
+unfolding numberIn refusedOr
+number-back (some k) n m = refl
+number-back none n m = refl
+
+sheet-numbered : (b : List ℕ) → Numbered (sheetFault b)
+unfolding sheetFault checkOf
+sheet-numbered b k q =
+    let edges = edgesFault (graphOf b .vertices) (graphOf b .edges) in
+    let whole : Numbered (firstFault (headFault b ∷ edges ∷ [])) =
+    first-next (headFault b) (edges ∷ []) (head-numbered b) (first-next edges [] (edges-numbered (graphOf b .vertices) (graphOf b .edges)) first-none) in
+    whole k (sym (number-back (firstFault (headFault b ∷ edges ∷ [])) _ _) ∙ q)
+
+-- The faults of the questions.
+trial-numbered : (b : List ℕ) (crews : Crews) (limit room : ℕ) → Numbered (trialFault b crews limit room)
+unfolding trialFault crewFault limitFault roomFault
+trial-numbered b crews limit room =
+    first-next _ _ (sheet-numbered b)
+    (first-next _ _ (if-numbered _ 21 (omega arith)) (first-next _ _ (if-numbered _ 22 (omega arith)) (first-next _ _ (if-numbered _ 23 (omega arith)) first-none)))
+
+best-numbered : (b : List ℕ) (crews : Crews) (room : ℕ) → Numbered (bestFault b crews room)
+unfolding bestFault crewFault roomFault
+best-numbered b crews room =
+    first-next _ _ (sheet-numbered b) (first-next _ _ (if-numbered _ 21 (omega arith)) (first-next _ _ (if-numbered _ 23 (omega arith)) first-none))
+
+-- A refusal can be printed.
+pub refusal-printable : (b : List ℕ) (k : ℕ) → 11 ≤ k → Printable b (refused k)
+refusal-printable b k h =
+    record {
+      refusal = λ n q. let e : k ≡ n = cc in omega arith;
+      cover = λ limit heaviest trees q. let z : _≡_ {A = ℕ} 0 1 = cc in absurd (omega arith);
+    }
+
+-- So can an answer that means what the rules say: it is no refusal, and what it accepts is a cover.
+module _ (b : List ℕ) (graph : IsGraph b) (crews : Crews) (sound : crewFault crews (graphOf b .vertices) ≡ none) (ruled : Reply) where
+  pub trial-printable : (limit : ℕ) → TrialMeans (graphOf b) crews limit ruled → Printable b ruled
+  trial-printable limit means =
+      record {
+        refusal = λ n q. absurd (subst (TrialMeans (graphOf b) crews limit) q means);
+        cover = λ l h trees q. record {
+          graph = graph;
+          crews = crews;
+          sound = sound;
+          cover = subst (TrialMeans (graphOf b) crews limit) q means .carries .cover;
+        };
+      }
+
+  pub best-printable : BestMeans (graphOf b) crews ruled → Printable b ruled
+  best-printable means =
+      record {
+        refusal = λ n q. absurd (subst (BestMeans (graphOf b) crews) q means);
+        cover = λ l h trees q. record { graph = graph; crews = crews; sound = sound; cover = subst (BestMeans (graphOf b) crews) q means .carries .cover };
+      }
+
+-- So can the answers of the questions, refused or not.
+ask-printable : (b : List ℕ) (f : Fault) (answer : Reply) → Numbered f → (f ≡ none → Printable b answer) → Printable b (refusedOr refused f answer)
+unfolding refusedOr
+ask-printable b (some k) answer h else = refusal-printable b k (h k refl)
+ask-printable b none answer h else = else refl
+
+module _ (b : List ℕ) (crews : Crews) (room : ℕ) (c : Choices) where
+  pub ask-trial-printable : (limit : ℕ) → (trialFault b crews limit room ≡ none → TrialMeans (graphOf b) crews limit (trial (graphOf b) crews limit c))
+      → Printable b (askTrial b crews limit room c)
+  unfolding askTrial trialFault
+  ask-trial-printable limit means =
+      ask-printable b (trialFault b crews limit room) (trial (graphOf b) crews limit c) (trial-numbered b crews limit room)
+      (λ q.
+      trial-printable b (sheet-right b .0 (quiet-each _ q (List·Memᴰ·head refl))) crews (quiet-each _ q (List·Memᴰ·tail (List·Memᴰ·head refl)))
+      (trial (graphOf b) crews limit c) limit (means q))
+
+  pub ask-best-printable : (bestFault b crews room ≡ none → BestMeans (graphOf b) crews (best (graphOf b) crews c)) → Printable b (askBest b crews room c)
+  unfolding askBest bestFault
+  ask-best-printable means =
+      ask-printable b (bestFault b crews room) (best (graphOf b) crews c) (best-numbered b crews room)
+      (λ q.
+      best-printable b (sheet-right b .0 (quiet-each _ q (List·Memᴰ·head refl))) crews (quiet-each _ q (List·Memᴰ·tail (List·Memᴰ·head refl)))
+      (best (graphOf b) crews c) (means q))
