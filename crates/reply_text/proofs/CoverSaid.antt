@@ -15,7 +15,8 @@ use Rattle.pieces.specs.declared.reply.Reply.the-variants.{Cover}
 use Rattle.pieces.specs.Replies.{Said, said, saidOf, says, Replied}
 use Rattle.reply_text.specs.Lines.{line}
 use Rattle.reply_text.specs.Text.{treeLines, textOf}
-use Rattle.reply_text.specs.Replies.{CoverOf, Printable, TextAsked, TextWritten, coverText, CoverAsked}
+use Rattle.reply_text.specs.Trees.{TreesAsked}
+use Rattle.reply_text.specs.Replies.{CoverOf, Printable, TextAsked, TextWritten, coverText}
 use Rattle.reply_text.proofs.CoverRead.{trees-again, entries-right, lines-room, cover-end, cover-front}
 use Rattle.reply_text.proofs.SaidText.{textSaid, treesOf, said-text}
 
@@ -54,7 +55,7 @@ module _ {b buf : List ℕ} {reply : Reply} {limit heaviest t end : ℕ} (q : re
     end-is : end ≡ length (take end buf)
     end-is = ends ∙ cover-end b (here .cover) buf (here .rest) (here .first) ∙ sym (ap length front)
 
-    asked-here : {room : ℕ} → 65536 ≤ room → CoverAsked b (take end buf) room
+    asked-here : {room : ℕ} → 65536 ≤ room → TreesAsked b (take end buf) 69 room
     asked-here enough =
         record {
           entries = rw front (entries-right b (here .cover));
@@ -72,7 +73,7 @@ module _ {b buf : List ℕ} {reply : Reply} {limit heaviest t end : ℕ} (q : re
   pub cover-inside : {room : ℕ} → TextAsked b reply buf room → end ≡ length (take end buf)
   cover-inside a = end-is (a .replied) (a .printable)
 
-  pub cover-asked : {room : ℕ} → TextAsked b reply buf room → CoverAsked b (take end buf) room
+  pub cover-asked : {room : ℕ} → TextAsked b reply buf room → TreesAsked b (take end buf) 69 room
   cover-asked a = asked-here (a .replied) (a .printable) (a .enough)
 
   pub cover-written : {before after : List ℕ} {r : ℕ} → PutTo 0 (coverText b limit heaviest t (take end buf)) before after r → TextWritten b reply buf before after r

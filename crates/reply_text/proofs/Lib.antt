@@ -1,5 +1,5 @@
 -- Laws of the text of replies.
--- decimal digits: the last one and those before it, how many there are, and the number that they spell
+-- decimal digits: the last one and those before it, the number that they spell, no zero in front, and how many there are
 pub mod Digits
 -- texts put one behind the other, and the room that is left
 pub mod Putting

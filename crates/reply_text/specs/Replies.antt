@@ -1,18 +1,15 @@
 -- The text of a program's reply: what its writing asks and promises.
 -- Assumes nothing.
-use Prim.Native.Nat.{ℕ, _+_, _≤_}
+use Prim.Native.Nat.{ℕ, _≤_}
 use mathlib.Core.Path.{_≡_}
-use mathlib.Core.Bool.{true}
 use mathlib.Core.List.{List, [], _∷_, _++_}
 use mathlib.Core.Option.{none}
-use lib.ListN.{length}
 use Rattle.lists.specs.Put.{PutTo}
-use Rattle.graph.specs.Graph.{Graph, edgeCount}
+use Rattle.graph.specs.Graph.{Graph}
 use Rattle.graph.specs.Bytes.{graphOf}
 use Rattle.graph.specs.Valid.{IsGraph}
 use Rattle.rules.specs.Cover.{Tree, Crews, IsCover}
 use Rattle.rules.specs.CoverBytes.{decode}
-use Rattle.rules.specs.CheckCover.{entriesRight}
 use Rattle.rules.specs.Questions.{crewFault}
 use Rattle.rules.specs.Reply as rules
 use Rattle.pieces.specs.declared.reply.Reply.{Reply}
@@ -48,11 +45,6 @@ pub record TextWritten (b : List ℕ) (reply : Reply) (buf before after : List �
 -- The text of a cover, from its bytes.
 unfoldable pub coverText : List ℕ → ℕ → ℕ → ℕ → List ℕ → List ℕ
 coverText b limit heaviest t c = line "cover" (limit ∷ heaviest ∷ t ∷ []) ++ treeLines (graphOf b) (decode c)
-
--- The entries are those of a cover, and there is room for its text: 69 bytes for three numbers of at most 20 digits, and the trees' lines.
-pub record CoverAsked (b c : List ℕ) (room : ℕ) : Type 0 where
-  pub entries : entriesRight (edgeCount (graphOf b)) c ≡ true
-  pub fits : 69 + length (treeLines (graphOf b) (decode c)) ≤ room
 
 -- A refusal was written, whatever the graph is.
 pub record RefusalWritten (number : ℕ) (before after : List ℕ) (r : ℕ) : Type 0 where

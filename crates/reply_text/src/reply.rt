@@ -11,7 +11,8 @@ ghost use mathlib.Core.List.{[], _∷_, _++_};
 ghost use lib.ListN.{length};
 ghost use Rattle.lists.specs.Put.{PutTo};
 ghost use Rattle.reply_text.specs.Lines.{bytesOf, spaced, line, ended};
-ghost use Rattle.reply_text.specs.Replies.{TextAsked, TextWritten, coverText, CoverAsked, RefusalWritten};
+ghost use Rattle.reply_text.specs.Replies.{TextAsked, TextWritten, coverText, RefusalWritten};
+ghost use Rattle.reply_text.specs.Trees.{TreesAsked};
 
 // A line of a word and a number, at the front. A number has at most 20 digits.
 fn write_line(word: &[u8], x: u64, out: &mut [u8]) -> usize
@@ -39,9 +40,9 @@ fn write_parts(parts: u64, roots: u64, out: &mut [u8]) -> usize
     put_line(b" yards", roots, out, behind_parts)
 }
 
-// `cover` limit heaviest t, then the lines of the trees.
+// `cover` limit heaviest t, at most 69 bytes, then the lines of the trees.
 fn write_cover(b: &[u8], limit: u64, heaviest: u64, t: u64, c: &[u8], out: &mut [u8]) -> usize
-    requires { ⌜ CoverAsked (now b) (now c) (length (now out)) ⌝ }
+    requires { ⌜ TreesAsked (now b) (now c) 69 (length (now out)) ⌝ }
     ensures { λ r. ⌜ PutTo 0 (coverText (now (b .entry)) limit heaviest t (now (c .entry))) (now (out .entry)) (now (out .exit)) r ⌝ }
 {
     let behind_word = put_word(b"cover", out, 0);

@@ -99,4 +99,5 @@ pub +put-number-spec : {M : Type 1} → statement M
 +put-number-spec =
     close μ
     (λ t.
-    lts.spec (asked t, reads.Post) (given t) reads.Post (cast-out t) (add-out t) (slice-write-out t) (add-result t) (same-length t) (returns t) (put-number-requires t) (cast-out-2 t) (add-out-2 t) (slice-write-out-2 t) (add-result-2 t) (same-length-2 t) (returns-2 t))
+    lts.spec (asked t, reads.Post) (given t) reads.Post (cast-out t) (add-out t) (slice-write-out t) (add-result t) (same-length t) (returns t)
+    (put-number-requires t) (cast-out-2 t) (add-out-2 t) (slice-write-out-2 t) (add-result-2 t) (same-length-2 t) (returns-2 t))
