@@ -9,3 +9,5 @@ pub mod BehindRoom
 pub mod FixedLines
 -- what is written of a reply, reply by reply
 pub mod FixedReplies
+-- replies of the planner can be printed
+pub mod Asked

@@ -35,7 +35,7 @@ pub fn confirms(kind: Kind, k: usize, b: &[u8], c: &[u8], heaviest: u64) -> bool
 
 // A space and `yes` or `no`, from a place on.
 pub fn put_yes(sure: bool, out: &mut [u8], at: usize) -> usize
-    requires { ⌜ at + 4 ≤ length (now out) ⌝ }
+    requires { ⌜ at + length (yesWord sure) ≤ length (now out) ⌝ }
     ensures { λ r. ⌜ PutTo at (yesWord sure) (now (out .entry)) (now (out .exit)) r ⌝ }
 {
     if sure {

@@ -6,13 +6,27 @@ use pieces::reply::Reply;
 use reply_text::lines::put_word;
 ghost use mathlib.Core.Path.{_≡_};
 ghost use Prim.Native.Nat.{_+_, _*_, _≤_};
-ghost use lib.ListN.{length};
+ghost use lib.ListN.{length, replicate};
 ghost use Rattle.lists.specs.Put.{PutTo};
 ghost use Rattle.pieces.specs.Replies.{said, says};
 ghost use Rattle.gate_replies.specs.Full.{headOf, announcedIn, frontLength, untouched, bit, fullOf, fullReply};
 
 // What every byte of a lent buffer is before a question.
-pub const FILL: u8 = 165;
+const FILL: u8 = 165;
+
+// The longest buffer that two bytes name, filled. A program lends so much of it as a question asks for.
+pub fn filled() -> [u8; 65536]
+    ensures { λ r. ⌜ r ≡ replicate 65536 165 ⌝ }
+{
+    [FILL; 65536]
+}
+
+// Zeros: room for any text, and for any reply in full.
+pub fn room() -> [u8; 65600]
+    ensures { λ r. ⌜ r ≡ replicate 65600 0 ⌝ }
+{
+    [0; 65600]
+}
 
 // A number, how many values follow, and these.
 fn put_head(number: u64, values: &[u64], out: &mut [u8]) -> usize

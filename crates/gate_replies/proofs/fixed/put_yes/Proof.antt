@@ -10,7 +10,8 @@ slice-aggregate-put-word : tie.Need-slice-aggregate-put-word
 slice-aggregate-put-word c = search needs
 
 put-word-requires : tie.Need-put-word-requires
-put-word-requires c κs = search needs
+unfolding yesWord
+put-word-requires c κs = let t = c .before .before in let s = t .before .before in rw (t .if1 .taken) at (s .pre)
 
 same-length : tie.Need-same-length
 same-length c = search needs
@@ -23,7 +24,8 @@ slice-aggregate-put-word-2 : tie.Need-slice-aggregate-put-word-2
 slice-aggregate-put-word-2 c = search needs
 
 put-word-requires-2 : tie.Need-put-word-requires-2
-put-word-requires-2 c κs = search needs
+unfolding yesWord
+put-word-requires-2 c κs = let t = c .before .before in let s = t .before .before in rw (t .if1 .left) at (s .pre)
 
 same-length-2 : tie.Need-same-length-2
 same-length-2 c = search needs

@@ -53,7 +53,14 @@ put-yes-requires : tie.Need-put-yes-requires
 put-yes-requires c κs =
     let l = c .before .before .before in
     let s = start (worded l) in
-    behind-room 4 (limit-put l) (omega (arith, spaced-few (s .args .limit) (omega (arith, s .fits .limit)), length-append (bytesOf "cover") (spaced (s .args .limit)), s .pre))
+    behind-room _ (limit-put l)
+    (omega (
+      arith,
+      spaced-few (s .args .limit) (omega (arith, s .fits .limit)),
+      yes-few (s .args .sure),
+      length-append (bytesOf "cover") (spaced (s .args .limit)),
+      s .pre,
+    ))
 
 put-last-requires : tie.Need-put-last-requires
 put-last-requires c κs =
