@@ -4,10 +4,9 @@
 mod text;
 
 use cover::crews::Kind;
+use gate_replies::file::file_reply;
 use gate_replies::full::filled;
 use gate_replies::full::room;
-use gate_replies::full::write_full;
-use libc::STDERR_FILENO;
 use libc::STDIN_FILENO;
 use libc::STDOUT_FILENO;
 use pieces::reply::Reply;
@@ -32,15 +31,6 @@ fn print_reply(kind: Kind, k: usize, b: &[u8], reply: Reply, buf: &[u8])
     let mut out = room();
     let end = write_text(kind, k, b, reply, buf, &mut out);
     io::write_all(STDOUT_FILENO, &out[..end]);
-}
-
-// Writes a reply in full to standard error.
-fn file_reply(reply: Reply, buf: &[u8])
-    requires { ⌜ length (now buf) ≤ 65536 ⌝ }
-{
-    let mut out = room();
-    let end = write_full(reply, buf, &mut out);
-    io::write_all(STDERR_FILENO, &out[..end]);
 }
 
 // Asks for a trial, and prints and files the reply.

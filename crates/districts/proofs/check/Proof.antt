@@ -1,19 +1,22 @@
--- `made_trials::file_reply` is safe: the room is enough for any reply in full. Assumes nothing.
+-- `districts::check` is safe: the answer's text fits the room. Assumes nothing.
 use mathlib.Core.Path.{sym}
 use native.Mathlib.Omega.{arith}
 use lib.Seq.{length-take-le}
 use borrow.Author.Needs.{needs}
-use Rattle.made_trials.proofs.file_reply.Statement.{statement}
-use Rattle.made_trials.proofs.file_reply.Tie as tie
+use Rattle.districts.proofs.check.Statement.{statement}
+use Rattle.districts.proofs.check.Tie as tie
 
 room-requires : tie.Need-room-requires
 room-requires c κs = search needs
 
-slice-aggregate-write-full : tie.Need-slice-aggregate-write-full
-slice-aggregate-write-full c = search needs
+check-cover-requires : tie.Need-check-cover-requires
+check-cover-requires c κs = search needs
 
-write-full-requires : tie.Need-write-full-requires
-write-full-requires c κs = search needs
+slice-aggregate-write-verdict : tie.Need-slice-aggregate-write-verdict
+slice-aggregate-write-verdict c = search needs
+
+write-verdict-requires : tie.Need-write-verdict-requires
+write-verdict-requires c κs = search needs
 
 array-share-prefix-out : tie.Need-array-share-prefix-out
 array-share-prefix-out c = search needs
@@ -27,13 +30,14 @@ write-all-requires c κs = search needs
 returns : tie.Need-returns
 returns c = search needs
 
-pub file-reply-spec : {M : Type 1} → statement M
-file-reply-spec =
+pub check-spec : {M : Type 1} → statement M
+check-spec =
     tie.close
     (tie.spec
     room-requires
-    slice-aggregate-write-full
-    write-full-requires
+    check-cover-requires
+    slice-aggregate-write-verdict
+    write-verdict-requires
     array-share-prefix-out
     slice-aggregate-write-all
     write-all-requires
