@@ -3,9 +3,11 @@
 pub mod FieldLaws
 -- whether bytes are as they came, one by one
 pub mod FillLaws
--- texts put one behind the other: the room behind those that are put
+-- the room behind texts that are put
 pub mod BehindRoom
--- the lines of what the rules fix
+-- replies in full: what they write, and how long what they say is
+pub mod FullReplies
+-- how long the lines are of what the rules fix
 pub mod FixedLines
 -- what is written of a reply, reply by reply
 pub mod FixedReplies

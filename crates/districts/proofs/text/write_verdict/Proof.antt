@@ -19,8 +19,9 @@ slice-aggregate-put-line c = search needs
 put-line-requires : tie.Need-put-line-requires
 unfolding line
 put-line-requires c κs =
-    let s = c .before .before .before .before .before .before in
-    omega (arith, last-few (c .before .before .before .verdict .given .0 .0) (omega arith), s .pre)
+    let k = c .before .before .before in
+    let s = k .before .before .before in
+    omega (arith, last-few (k .verdict .given .0 .0) (omega arith), s .pre)
 
 same-length : tie.Need-same-length
 same-length c = search needs

@@ -1,6 +1,6 @@
 -- `gate_replies::full::put_said` meets its contract, reply by reply.
 -- Assumes nothing.
-use Rattle.gate_replies.proofs.FixedReplies.{said-put}
+use Rattle.gate_replies.proofs.FullReplies.{said-put}
 use borrow.Author.Needs.{needs}
 use Rattle.gate_replies.proofs.full.put_said.Statement.{statement}
 use Rattle.gate_replies.proofs.full.put_said.Tie as tie

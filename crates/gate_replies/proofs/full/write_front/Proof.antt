@@ -10,7 +10,7 @@ use Rattle.pieces.specs.Replies.{says}
 use Rattle.gate_replies.specs.Fields.{field}
 use Rattle.gate_replies.specs.Full.{headOf, bit, fullOf}
 use Rattle.gate_replies.proofs.FieldLaws.{field-length}
-use Rattle.gate_replies.proofs.FixedReplies.{head-few}
+use Rattle.gate_replies.proofs.FullReplies.{head-few}
 use Rattle.gate_replies.proofs.BehindRoom.{behind-room}
 use borrow.Author.Needs.{needs}
 use Rattle.gate_replies.proofs.full.write_front.Statement.{statement}
@@ -62,7 +62,8 @@ number-of-requires c κs = search needs
 
 put-field-requires-2 : tie.Need-put-field-requires-2
 put-field-requires-2 c κs =
-    let w = c .before .before .before .before .before in
+    let n = c .before in
+    let w = n .before .before .before .before in
     let l = w .before .before .before .before in
     let s = start (said-before l) in
     let front = s .args .front .now in

@@ -10,7 +10,7 @@ use Rattle.lists.specs.Put.{PutTo}
 use Rattle.pieces.specs.declared.reply.Reply.{Reply}
 use Rattle.pieces.specs.Replies.{says}
 use Rattle.gate_replies.specs.Full.{frontLength, fullOf, fullReply}
-use Rattle.gate_replies.proofs.FixedReplies.{front-within}
+use Rattle.gate_replies.proofs.FullReplies.{front-within}
 use borrow.Author.Needs.{needs}
 use Rattle.gate_replies.proofs.full.write_full.Statement.{statement}
 use Rattle.gate_replies.proofs.full.write_full.Tie as tie

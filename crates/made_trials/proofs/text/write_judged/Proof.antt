@@ -4,16 +4,17 @@ use Prim.Native.Nat.{ℕ, _+_, _≤_}
 use mathlib.Core.Path.{refl, sym}
 use mathlib.Core.List.{List, [], _++_, append-nil}
 use native.Mathlib.Omega.{arith}
-use lib.ListN.{length}
+use lib.ListN.{length, length-append}
 use Rattle.lists.proofs.PutOneByOne.{PutSoFar, so-far-none, so-far-all}
 use Rattle.graph.specs.Bytes.{graphOf}
 use Rattle.rules.specs.CoverBytes.{decode}
 use Rattle.reply_text.specs.Lines.{bytesOf, spaced}
 use Rattle.reply_text.specs.Text.{treeLines}
 use Rattle.reply_text.proofs.Putting.{part-room, part-put}
+use Rattle.reply_text.proofs.TextLengths.{spaced-few}
 use Rattle.gate_replies.specs.Fixed.{yesWord}
+use Rattle.gate_replies.proofs.FixedLines.{yes-few}
 use Rattle.made_trials.specs.Text.{judgedText}
-use Rattle.made_trials.proofs.Judged.{judged-room}
 use borrow.Author.Needs.{needs}
 use Rattle.made_trials.proofs.text.write_judged.Statement.{statement}
 use Rattle.made_trials.proofs.text.write_judged.Tie as tie
@@ -43,8 +44,18 @@ module _ (s : tie.Start) where
 
   room : 0 + length whole ≤ length (s .args .out .now)
   room =
-      judged-room (s .args .b .now) (s .args .limit) (s .args .heaviest) (s .args .t) (s .args .sure) (s .args .c .now) (omega (arith, s .fits .limit))
-      (omega (arith, s .fits .heaviest)) (omega (arith, s .fits .t)) (s .pre .fits)
+      omega (
+        arith,
+        spaced-few (s .args .limit) (omega (arith, s .fits .limit)),
+        spaced-few (s .args .heaviest) (omega (arith, s .fits .heaviest)),
+        spaced-few (s .args .t) (omega (arith, s .fits .t)),
+        yes-few (s .args .sure),
+        s .pre .fits,
+        length-append (spaced (s .args .limit)) heaviest-on,
+        length-append (spaced (s .args .heaviest)) count-on,
+        length-append (spaced (s .args .t)) yes-on,
+        length-append (yesWord (s .args .sure)) end-on,
+      )
 
   begun : PutSoFar 0 whole whole (s .args .out .now) (s .args .out .now) 0
   begun = so-far-none (s .args .out .now) 0 (omega arith)
@@ -52,7 +63,7 @@ module _ (s : tie.Start) where
 -- The word is put.
 module _ (c : tie.After-put-word) where
   abbrev start : tie.Start
-  start = c .before .before .before .before .before .before
+  start = let k = c .before .before .before in k .before .before .before
 
   worded-put : PutSoFar 0 (whole start) (limit-on start) (start .args .out .now) (c .put-word .last .1 .0) (c .put-word .result)
   worded-put = part-put (begun start) (bytesOf "cover") (limit-on start) refl (c .put-word .ensures)
@@ -104,7 +115,7 @@ module _ (c : tie.After-put-yes) where
 -- The end of the line is put.
 module _ (c : tie.After-put-word2) where
   abbrev judged : tie.After-put-yes
-  judged = c .before .before .before .before .before
+  judged = let k = c .before in k .before .before .before .before
 
   abbrev s5 : tie.Start
   s5 = s4 judged
