@@ -1,5 +1,5 @@
 // The text of replies (document 01, "The program `rounds`"), written into a lent array of bytes.
 // The words of the contracts stand in specs/ and in the definitions of the crate `rules`.
-mod lines;
+pub mod lines;
 pub mod reply;
-mod trees;
+pub mod trees;

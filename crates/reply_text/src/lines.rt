@@ -6,7 +6,7 @@ ghost use Rattle.lists.specs.Put.{PutTo};
 ghost use Rattle.reply_text.specs.Lines.{digits, spaced, ended};
 
 // The bytes of a word, from a place on.
-pub(crate) fn put_word(word: &[u8], out: &mut [u8], at: usize) -> usize
+pub fn put_word(word: &[u8], out: &mut [u8], at: usize) -> usize
     requires { ⌜ at + length (now word) ≤ length (now out) ⌝ }
     ensures { λ r. ⌜ PutTo at (now (word .entry)) (now (out .entry)) (now (out .exit)) r ⌝ }
 {
@@ -35,7 +35,7 @@ pub(crate) fn put_number(x: u64, out: &mut [u8], at: usize) -> usize
 }
 
 // A space and a number.
-pub(crate) fn put_spaced(x: u64, out: &mut [u8], at: usize) -> usize
+pub fn put_spaced(x: u64, out: &mut [u8], at: usize) -> usize
     requires { ⌜ at + length (spaced x) ≤ length (now out) ⌝ }
     ensures { λ r. ⌜ PutTo at (spaced x) (now (out .entry)) (now (out .exit)) r ⌝ }
 {
@@ -44,7 +44,7 @@ pub(crate) fn put_spaced(x: u64, out: &mut [u8], at: usize) -> usize
 }
 
 // A space, a number and the end of the line.
-pub(crate) fn put_last(x: u64, out: &mut [u8], at: usize) -> usize
+pub fn put_last(x: u64, out: &mut [u8], at: usize) -> usize
     requires { ⌜ at + length (ended (x ∷ [])) ≤ length (now out) ⌝ }
     ensures { λ r. ⌜ PutTo at (ended (x ∷ [])) (now (out .entry)) (now (out .exit)) r ⌝ }
 {
@@ -53,7 +53,7 @@ pub(crate) fn put_last(x: u64, out: &mut [u8], at: usize) -> usize
 }
 
 // A line of a word and a number.
-pub(crate) fn put_line(word: &[u8], x: u64, out: &mut [u8], at: usize) -> usize
+pub fn put_line(word: &[u8], x: u64, out: &mut [u8], at: usize) -> usize
     requires { ⌜ at + length (now word ++ ended (x ∷ [])) ≤ length (now out) ⌝ }
     ensures { λ r. ⌜ PutTo at (now (word .entry) ++ ended (x ∷ [])) (now (out .entry)) (now (out .exit)) r ⌝ }
 {

@@ -1,0 +1,129 @@
+// Puts document 01's small districts and made graphs to the planner and to the check, and prints what the rules fix of the answers. Standard input
+// holds records, one behind the other: the question (2 bytes: 1 rooted trial, 2 unrooted trial, 3 rooted best, 4 unrooted best, 5 rooted check,
+// 6 unrooted check), k (2), the limit (4), how long the lent buffer is (2), whether the reply is printed whole (2: 1 if it is), the length of the
+// graph's bytes (2) and of the filed cover's (2), all lowest byte first, then these bytes. What it must print was printed by an unrelated
+// implementation. The replies in full go to standard error, as bytes, for a judge that knows which choices are free.
+mod text;
+
+use cover::check::check_cover;
+use cover::crews::Kind;
+use gate_replies::file::file_reply;
+use gate_replies::full::filled;
+use gate_replies::full::room;
+use libc::STDIN_FILENO;
+use libc::STDOUT_FILENO;
+use pieces::reply::Reply;
+use planner::ask::Asked;
+use planner::question::best;
+use planner::question::trial;
+use text::write_text;
+use text::write_verdict;
+ghost use Prim.Native.Nat.{_^_, _≤_, _<_};
+ghost use lib.ListN.{length};
+ghost use Rattle.reply_text.specs.Replies.{TextAsked};
+
+// Prints a reply: all of it, or what the rules fix.
+fn print_reply(whole: bool, kind: Kind, k: usize, b: &[u8], reply: Reply, buf: &[u8])
+    requires { ⌜ TextAsked (now b) reply (now buf) 65536 ⌝ }
+{
+    let mut out = room();
+    let end = write_text(whole, kind, k, b, reply, buf, &mut out);
+    io::write_all(STDOUT_FILENO, &out[..end]);
+}
+
+// The planner's reply to a trial, or to the question for the best limit. It can be printed.
+fn reply_to(asked: Asked, kind: Kind, k: usize, b: &[u8], buf: &mut [u8]) -> Reply
+    ensures { λ r. ⌜ TextAsked (now (b .entry)) r (now (buf .exit)) 65536 ⌝ }
+{
+    match asked {
+        Asked::At(limit) => trial(kind, k, limit, b, buf),
+        Asked::Best => best(kind, k, b, buf),
+    }
+}
+
+// Asks the planner, and prints and files the reply.
+fn answer(asked: Asked, whole: bool, kind: Kind, k: usize, b: &[u8], buf: &mut [u8])
+    requires { ⌜ length (now buf) ≤ 65536 ⌝ }
+{
+    let reply = reply_to(asked, kind, k, b, buf);
+    print_reply(whole, kind, k, b, reply, buf);
+    file_reply(reply, buf);
+}
+
+// Has the planner asked with a filled buffer of the length that the record names.
+fn ask(asked: Asked, whole: bool, lent: usize, kind: Kind, k: usize, b: &[u8])
+    requires { ⌜ lent < 2 ^ 16 ⌝ }
+{
+    let mut buf = filled();
+    answer(asked, whole, kind, k, b, &mut buf[..lent]);
+}
+
+// Asks the check, and prints its answer.
+fn check(kind: Kind, k: usize, b: &[u8], filed: &[u8]) {
+    let mut out = room();
+    let end = write_verdict(check_cover(kind, k, b, filed), &mut out);
+    io::write_all(STDOUT_FILENO, &out[..end]);
+}
+
+// Answers a record by its question.
+fn answer_record(
+    question: usize,
+    k: usize,
+    limit: u64,
+    lent: usize,
+    whole: bool,
+    b: &[u8],
+    filed: &[u8],
+)
+    requires { ⌜ lent < 2 ^ 16 ⌝ }
+{
+    match question {
+        1 => ask(Asked::At(limit), whole, lent, Kind::Rooted, k, b),
+        2 => ask(Asked::At(limit), whole, lent, Kind::Unrooted, k, b),
+        3 => ask(Asked::Best, whole, lent, Kind::Rooted, k, b),
+        4 => ask(Asked::Best, whole, lent, Kind::Unrooted, k, b),
+        5 => check(Kind::Rooted, k, b, filed),
+        _ => check(Kind::Unrooted, k, b, filed),
+    }
+}
+
+// Reads the rest of a record, of which the head was read, and answers it.
+fn read_rest(head: &[u8], sheet: &mut [u8], filed: &mut [u8]) {
+    io::read_full(STDIN_FILENO, sheet);
+    io::read_full(STDIN_FILENO, filed);
+    answer_record(
+        graph::u16_at(head, 0),
+        graph::u16_at(head, 2),
+        graph::u32_at(head, 4),
+        graph::u16_at(head, 8),
+        graph::u16_at(head, 10) == 1,
+        sheet,
+        filed,
+    );
+}
+
+// Reads one record and answers it; says whether there was one.
+fn answer_one() -> bool {
+    let mut head = [0u8; 16];
+    if io::read_full(STDIN_FILENO, &mut head) < 16 {
+        return false;
+    }
+    let sheet_length = graph::u16_at(&head, 12);
+    let cover_length = graph::u16_at(&head, 14);
+    let mut sheet = io::large_buffer();
+    let mut filed = io::large_buffer();
+    read_rest(
+        &head,
+        &mut sheet[..sheet_length],
+        &mut filed[..cover_length],
+    );
+    true
+}
+
+// Answers records until there is none left. Nothing says that the input ends, so the turns are counted down from a number that no input uses up.
+fn main() {
+    let mut turns = u64::MAX;
+    while turns > 0 && answer_one() {
+        turns -= 1;
+    }
+}

@@ -1,0 +1,66 @@
+// What is printed of a reply, and of the check's answer.
+use cover::check::Verdict;
+use cover::crews::Kind;
+use gate_replies::fixed::write_fixed;
+use pieces::reply::Reply;
+use reply_text::lines::put_line;
+use reply_text::reply::write_refused;
+use reply_text::reply::write_reply;
+ghost use Prim.Native.Nat.{_≤_};
+ghost use lib.ListN.{length};
+ghost use Rattle.lists.specs.Put.{PutTo};
+ghost use Rattle.cover.specs.Promise.{says};
+ghost use Rattle.reply_text.specs.Replies.{TextAsked};
+ghost use Rattle.districts.specs.Text.{DistrictWritten, verdictText};
+
+// The whole text of a reply, or what the rules fix of it, as the first bytes of `out`. Says how many.
+pub(crate) fn write_text(
+    whole: bool,
+    kind: Kind,
+    k: usize,
+    b: &[u8],
+    reply: Reply,
+    buf: &[u8],
+    out: &mut [u8],
+) -> usize
+    requires { ⌜ TextAsked (now b) reply (now buf) (length (now out)) ⌝ }
+    ensures { λ r. ⌜ DistrictWritten whole kind k (now (b .entry)) reply (now (buf .entry)) (now (out .entry)) (now (out .exit)) r ⌝ }
+{
+    if whole {
+        return write_reply(b, reply, buf, out);
+    }
+    write_fixed(kind, k, b, reply, buf, out)
+}
+
+// The check's answer, as the first bytes of `out`. Says how many.
+pub(crate) fn write_verdict(verdict: Verdict, out: &mut [u8]) -> usize
+    requires { ⌜ 29 ≤ length (now out) ⌝ }
+    ensures { λ r. ⌜ PutTo 0 (verdictText (says verdict)) (now (out .entry)) (now (out .exit)) r ⌝ }
+{
+    match verdict {
+        Verdict::Yes(heaviest) => {
+            return put_line(b"yes", heaviest, out, 0);
+        }
+        Verdict::Sheet(fault) => {
+            return write_refused(graph::number(fault) as u64, out);
+        }
+        Verdict::Crews => {
+            return write_refused(21, out);
+        }
+        Verdict::Length => {
+            return write_refused(31, out);
+        }
+        Verdict::Starts => {
+            return write_refused(32, out);
+        }
+        Verdict::Entries => {
+            return write_refused(33, out);
+        }
+        Verdict::Trees => {
+            return write_refused(34, out);
+        }
+        Verdict::Vertices => {
+            return write_refused(35, out);
+        }
+    }
+}

@@ -1,0 +1,46 @@
+-- What is written of a reply where the rules leave a choice, reply by reply.
+-- Assumes nothing.
+use Prim.Native.Nat.{ℕ}
+use mathlib.Core.Path.{_≡_, sym, ap, subst, _∙_}
+use mathlib.Core.Bool.{Bool}
+use mathlib.Core.List.{List, []}
+use lib.ListN.{take}
+use denote.Enum.Declared.{tagOf}
+use types.Run.{OneOf, miss}
+use Rattle.lists.specs.Put.{PutTo}
+use Rattle.rules.specs.CoverBytes.{coverLength}
+use Rattle.cover.specs.declared.crews.Kind.{Kind}
+use Rattle.pieces.proofs.reply.Reply as reply
+use Rattle.pieces.specs.declared.reply.Reply.{Reply}
+use Rattle.pieces.specs.declared.reply.Reply.the-variants.{Sheet, Crews, Limit, Room, Cover, Stop, Parts, Needs, NoCover}
+use Rattle.reply_text.specs.Lines.{line}
+use Rattle.reply_text.specs.Replies.{TextWritten}
+use Rattle.gate_replies.specs.Fixed.{confirmed, sureLine, FixedBy, FixedWritten}
+use Rattle.gate_replies.proofs.FullReplies.{others}
+
+module _ {kind : Kind} {k : ℕ} {b buf before after : List ℕ} {r : ℕ} where
+  -- A cover: the buffer's own counts say where its bytes end.
+  pub fixed-cover : {reply : Reply} {limit heaviest t end : ℕ} {sure : Bool} → reply ≡ Cover limit heaviest t → end ≡ coverLength buf
+      → sure ≡ confirmed kind k b (take end buf) heaviest → PutTo 0 (sureLine limit sure t) before after r → FixedWritten kind k b reply buf before after r
+  fixed-cover {limit = limit} {heaviest = heaviest} {t = t} q ends answer p =
+      record {
+        fixed =
+            subst (FixedBy kind k b buf before after r) (sym q)
+            (subst (λ s. PutTo 0 (sureLine limit s t) before after r) (answer ∙ ap (λ n. confirmed kind k b (take n buf) heaviest) ends) p);
+      }
+
+  -- Parts.
+  pub fixed-parts : {reply : Reply} {T D : ℕ} → reply ≡ Parts T D → PutTo 0 (line "too low parts" []) before after r → FixedWritten kind k b reply buf before after r
+  fixed-parts q p = record { fixed = subst (FixedBy kind k b buf before after r) (sym q) p }
+
+  -- Any other.
+  pub fixed-other : (x : Reply) → OneOf others (tagOf reply.the-type x) → TextWritten b x buf before after r → FixedWritten kind k b x buf before after r
+  fixed-other (Sheet f) o p = record { fixed = p }
+  fixed-other Crews o p = record { fixed = p }
+  fixed-other Limit o p = record { fixed = p }
+  fixed-other Room o p = record { fixed = p }
+  fixed-other (Cover limit heaviest t) o p = absurd (miss others 4 tt o)
+  fixed-other (Stop v) o p = record { fixed = p }
+  fixed-other (Parts T D) o p = absurd (miss others 6 tt o)
+  fixed-other (Needs C) o p = record { fixed = p }
+  fixed-other NoCover o p = record { fixed = p }

@@ -1,0 +1,2 @@
+-- What is printed of the replies to trials.
+pub mod Text
