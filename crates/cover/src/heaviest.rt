@@ -16,7 +16,7 @@ ghost use Rattle.cover.specs.Runs.{runEdges, InEntries};
 ghost use Rattle.cover.specs.Trees.{CoverGiven};
 
 // The weight of the edges of a run of entries.
-fn run_weight(b: &[u8], c: &[u8], from: usize, to: usize) -> u64
+pub fn run_weight(b: &[u8], c: &[u8], from: usize, to: usize) -> u64
     requires { ⌜ InEntries (now c) from to ⌝ }
     ensures { λ r. ⌜ r ≡ totalWeight (graphOf (now (b .entry))) (runEdges (now (c .entry)) from to) ⌝ }
 {

@@ -2,35 +2,20 @@
 // tree stand side by side, so that one walk through the entries serves all trees.
 use crate::lines::put_spaced;
 use crate::lines::put_word;
+use cover::heaviest::run_weight;
 use cover::read::entry_edge;
 use cover::read::start_in;
 use cover::read::trees_in;
 use cover::trees::run_end;
-ghost use mathlib.Core.Path.{_≡_};
 ghost use Prim.Native.Nat.{_+_, _≤_};
 ghost use lib.ListN.{length};
 ghost use Rattle.lists.specs.Put.{PutTo};
 ghost use Rattle.graph.specs.Bytes.{graphOf};
-ghost use Rattle.rules.specs.Walk.{totalWeight};
 ghost use Rattle.rules.specs.CoverBytes.{decode};
-ghost use Rattle.cover.specs.Runs.{InEntries, runEdges};
+ghost use Rattle.cover.specs.Runs.{runEdges};
 ghost use Rattle.reply_text.specs.Lines.{allSpaced};
 ghost use Rattle.reply_text.specs.Text.{treeLine, treeLines};
 ghost use Rattle.reply_text.specs.Trees.{runTree, TreeAsked, TreesAsked};
-
-// The weight of the edges of a run of entries.
-fn run_weight(b: &[u8], c: &[u8], from: usize, to: usize) -> u64
-    requires { ⌜ InEntries (now c) from to ⌝ }
-    ensures { λ r. ⌜ r ≡ totalWeight (graphOf (now (b .entry))) (runEdges (now (c .entry)) from to) ⌝ }
-{
-    let mut sum: u64 = 0;
-    let mut i = from;
-    while i < to {
-        sum += graph::weight(b, entry_edge(c, i));
-        i += 1;
-    }
-    sum
-}
 
 // The edges of a run of entries, each behind a space, from a place on.
 fn put_run(c: &[u8], from: usize, to: usize, out: &mut [u8], at: usize) -> usize
