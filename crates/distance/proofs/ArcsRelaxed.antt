@@ -15,26 +15,16 @@ use Rattle.lists.proofs.Member.{either}
 use Rattle.forest.specs.Around.{arcEdge, arcHead, arcWeight}
 use Rattle.distance.specs.Trail.{lastOf}
 use Rattle.distance.specs.Shortest.{unreached}
-use Rattle.distance.specs.Relaxing.{ArcIn, ArcRelaxed, kept, lowered, found, Becomes, same, nearer, Relaxed}
+use Rattle.distance.specs.Relaxing.{ArcIn, ArcRelaxed, kept, lowered, Becomes, same, nearer, Relaxed}
 
 -- One arc, by what is read from it.
 module _ {a u d v w : ℕ} (head : v ≡ arcHead a) (weight : w ≡ arcWeight a) (dist last : List ℕ) where
   pub arc-kept : getD dist v 0 ≤ d + w → ArcRelaxed a u d dist last dist last false
   arc-kept h = kept (rw (sym head, sym weight) h) refl refl refl
 
-  pub arc-changed : {e x : ℕ} → d + w < getD dist v 0 → getD dist v 0 ≤ unreached → e ≡ arcEdge a → x ≡ lastOf e u
-      → ArcRelaxed a u d dist last (set dist v (d + w)) (set last v x) (eqb (getD dist v 0) unreached)
-  arc-changed {e} {x} h most edge q = go (either (eqb (getD dist v 0) unreached))
-    where
-      less : d + arcWeight a < getD dist (arcHead a) 0
-      less = rw (sym head, sym weight) h
-
-      go : (eqb (getD dist v 0) unreached ≡ true) ⊎ (eqb (getD dist v 0) unreached ≡ false)
-          → ArcRelaxed a u d dist last (set dist v (d + w)) (set last v x) (eqb (getD dist v 0) unreached)
-      go (inl t) = found less (rw (sym head) (eqb-true (getD dist v 0) unreached t)) (rw (head, weight)) (rw (q, edge, head)) t
-      go (inr t) =
-          let low : getD dist v 0 < unreached = omega (arith, eqb-false (getD dist v 0) unreached t) in
-          lowered less (rw (sym head) low) (rw (head, weight)) (rw (q, edge, head)) t
+  pub arc-changed : {e x : ℕ} → d + w < getD dist v 0 → e ≡ arcEdge a → x ≡ lastOf e u
+      → ArcRelaxed a u d dist last (set dist v (d + w)) (set last v x) true
+  arc-changed {e} {x} h edge q = lowered (rw (sym head, sym weight) h) (rw (head, weight)) (rw (q, edge, head)) refl
 
 -- An arc among fewer is one among more.
 arc-wider : {arcs : List ℕ} {lo hi a : ℕ} → ArcIn arcs lo hi a → ArcIn arcs lo (hi + 1) a
@@ -110,5 +100,4 @@ module _ {arcs : List ℕ} {lo i u : ℕ} {d l e m : List ℕ} (r : Relaxed arcs
   pub relaxed-more : arcHead arc < length e → arcHead arc < length m → {x : ℕ} → x ≡ getD d u 0 → {f k : List ℕ} {b : Bool} → ArcRelaxed arc u x e m f k b
       → Relaxed arcs lo (i + 1) u d l f k
   relaxed-more in-dist in-last own (kept low p q t) = rw (p, q) (relaxed-kept (rw own at low))
-  relaxed-more in-dist in-last own (lowered less was p q t) = rw (p, q, own) (relaxed-lowered in-dist in-last (rw own at less))
-  relaxed-more in-dist in-last own (found less was p q t) = rw (p, q, own) (relaxed-lowered in-dist in-last (rw own at less))
+  relaxed-more in-dist in-last own (lowered less p q t) = rw (p, q, own) (relaxed-lowered in-dist in-last (rw own at less))

@@ -1,12 +1,10 @@
 -- Laws that belong to no one function, in reading order.
 -- the arcs of a vertex, relaxed one after the other
 pub mod ArcsRelaxed
--- the list of the vertices reached
-pub mod ReachedList
--- whoever is found is added to the list
-pub mod FoundListed
--- the start of a search, and the nearest that waits
-pub mod NearestWaiting
+-- the start of a search
+pub mod SearchStart
+-- keys in blocks, and the least of each
+pub mod KeyBlocks
 -- trails, followed edge by edge
 pub mod Trails
 -- the invariant of the search
@@ -15,6 +13,10 @@ pub mod SettledInvariant
 pub mod ArcEdges
 -- once the search is over, the arrays say the distances and the shortest paths
 pub mod ArraysSayDistances
+-- who waits and who is settled
+pub mod WhoWaits
+-- whoever is nearer gets a new key
+pub mod ArcsRekeyed
 -- the search, turn by turn
 pub mod SearchTurns
 -- the trail of the nearest vertex of a part is a shortest path to it

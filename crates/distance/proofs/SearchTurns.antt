@@ -1,38 +1,32 @@
--- The search, turn by turn: the list of the vertices reached, the invariant of those settled, and what stands beyond the vertices.
+-- The search, turn by turn: who waits, the invariant of those settled, and what stands beyond the vertices.
 -- Assumes nothing.
-use Prim.Native.Nat.{ℕ, _+_, _≤_, _<_}
+use Prim.Native.Nat.{ℕ, suc, _+_, _-_, _≤_, _<_}
 use mathlib.Core.Path.{_≡_, refl, sym, ap, _∙_, subst}
 use mathlib.Core.Bool.{true, false}
 use mathlib.Core.List.{List}
-use mathlib.Core.Logic.{_⊎_, inl, inr, ⊎-elim, dite}
-use native.Mathlib.Decide.{ℕ-discrete}
+use mathlib.Core.Logic.{_⊎_, inl, inr}
 use native.Mathlib.Omega.{arith}
-use lib.ListN.{length, getD, set, drop, length-drop, length-set}
-use lib.Seq.{getD-drop, ext-getD}
+use lib.ListN.{length, getD, drop, length-drop}
+use lib.Seq.{getD-drop, ext-getD, getD-set-other}
 use lib.Dec.{ltb}
 use borrow.Author.Tests.{ltb-true, ltb-false}
 use Rattle.lists.proofs.Member.{either}
 use Rattle.lists.proofs.Put.{only-first, only-first-length, only-first-rest}
 use Rattle.forest.specs.Around.{arcHead, Arcs}
 use Rattle.distance.specs.Shortest.{unreached, Searchable, Searched}
-use Rattle.distance.specs.Reached.{Stands, Listed, Started, Seekable, NearestListed}
-use Rattle.distance.specs.Relaxing.{ArcAt, Becomes, same, nearer, Relaxed, Relaxable, AllRelaxed}
-use Rattle.distance.proofs.ReachedList.{listed-start, listed-few, listed-swapped, swapped-second, swapped-other}
+use Rattle.distance.specs.Waiting.{keyOf, vertexOf, nobody, LeastFrom, Blocks, KeyPut, Started}
+use Rattle.distance.specs.Relaxing.{ArcAt, Becomes, same, nearer, Relaxed, Relaxable, Rekeyed, key-kept, key-new, AllRelaxed}
 use Rattle.distance.proofs.SettledInvariant.{Settling, settling-none, settling-more, Settled, settled-all}
 use Rattle.distance.proofs.ArraysSayDistances.{traced-all}
+use Rattle.distance.proofs.WhoWaits.{Keyed, Open, Nearest, settledAt, settledCount, key-low, keyed-start, open-start, keyed-taken, keyed-no-lower, keyed-nobody, nearest-is, taken-at, taken-other, settled-yes, settled-not, settled-same, count-most, count-more}
 
--- v is a vertex, and is not among the first s, which are settled.
-abbrev pub Open : ℕ → List ℕ → ℕ → ℕ → Type 0
-Open n list s v = (v < n) × ((i : ℕ) → i < s → getD list i 0 ≡ v → ⊥)
-
--- Of the n vertices t are reached, of which s are settled.
-pub record Searching (n : ℕ) (bounds arcs : List ℕ) (root : ℕ) (dist₀ last₀ list : List ℕ) (s t : ℕ) (dist last : List ℕ) : Type 0 where
+-- Some vertices are reached, and of these some are settled and the others wait; the nearest has the key `least`.
+pub record Searching (n : ℕ) (bounds arcs : List ℕ) (root : ℕ) (dist₀ last₀ : List ℕ) (least : ℕ) (dist last wait low : List ℕ) : Type 0 where
   pub ready : Searchable n bounds arcs root dist last
-  pub few : s ≤ t
-  pub fits : t ≤ 256
-  pub listed : Listed n list t dist
-  pub state : Settling n bounds arcs root (Open n list s) s dist last
-  pub list-size : length list ≡ 256
+  pub blocks : Blocks wait low
+  pub keyed : Keyed n dist wait
+  pub state : Settling n bounds arcs root (Open n dist wait) (settledCount n dist wait) dist last
+  pub nearest : LeastFrom low 0 16 least
   pub dist-size : length dist ≡ length dist₀
   pub last-size : length last ≡ length last₀
   pub dist-rest : drop n dist ≡ drop n dist₀
@@ -40,15 +34,15 @@ pub record Searching (n : ℕ) (bounds arcs : List ℕ) (root : ℕ) (dist₀ la
 
 module _ {n : ℕ} {bounds arcs : List ℕ} {root : ℕ} where
   -- The start.
-  pub searching-start : {dist₀ last₀ list dist : List ℕ} → Searchable n bounds arcs root dist₀ last₀ → Started n root dist₀ dist list
-      → length list ≡ 256 → length dist ≡ length dist₀ → Searching n bounds arcs root dist last₀ list 0 1 dist last₀
-  searching-start p s size dist-size = record {
+  pub searching-start : {dist₀ last₀ dist none wait low : List ℕ} {least key : ℕ} → Searchable n bounds arcs root dist₀ last₀ → Started n root dist₀ dist
+      → length dist ≡ length dist₀ → length none ≡ 256 → ((v : ℕ) → v < 256 → getD none v 0 ≡ nobody) → key ≡ keyOf 0 root
+      → KeyPut root key none wait low → LeastFrom low 0 16 least → Searching n bounds arcs root dist last₀ least dist last₀ wait low
+  searching-start {dist = dist} {none = none} p s dist-size size all is put near = record {
     ready = record { sound = p .sound; root-inside = p .root-inside; dist-room = omega (arith, p .dist-room); last-room = p .last-room };
-    few = omega arith;
-    fits = omega arith;
-    listed = listed-start (p .root-inside) (s .first) (s .root-zero) (s .others);
-    state = settling-none (λ v h. (h, λ i l. absurd (omega arith))) (s .root-zero) (s .others);
-    list-size = size;
+    blocks = put .blocks;
+    keyed = rw (put .stored, is) (keyed-start dist none (p .sound .few) size (p .root-inside) all (s .root-zero));
+    state = settling-none (rw (put .stored, is) (open-start dist none (p .sound .few) size (p .root-inside) (s .others))) (s .root-zero) (s .others);
+    nearest = near;
     dist-size = refl;
     last-size = refl;
     dist-rest = refl;
@@ -56,7 +50,7 @@ module _ {n : ℕ} {bounds arcs : List ℕ} {root : ℕ} where
   }
 
   -- What was searched since the start was searched since before it.
-  pub searched-since : {dist₀ last₀ list dist d l : List ℕ} → n ≤ length dist₀ → Started n root dist₀ dist list → length dist ≡ length dist₀
+  pub searched-since : {dist₀ last₀ dist d l : List ℕ} → n ≤ length dist₀ → Started n root dist₀ dist → length dist ≡ length dist₀
       → Searched n bounds arcs root dist last₀ d l → Searched n bounds arcs root dist₀ last₀ d l
   searched-since h s size r = record {
     of-graph = r .of-graph;
@@ -72,60 +66,35 @@ arc-inside sound {u} h a i = rw (i .is) (sound .heads u (i .place) h (i .from) (
 module _ {n : ℕ} {bounds arcs : List ℕ} (sound : Arcs n bounds arcs) {u : ℕ} {d l e m : List ℕ} (vertex : u < n)
     (r : Relaxed arcs (getD bounds u 0) (getD bounds (u + 1) 0) u d l e m)
   where
-    kept-beyond : (i : ℕ) → (getD e (n + i) 0 ≡ getD d (n + i) 0) × (getD m (n + i) 0 ≡ getD l (n + i) 0)
-    kept-beyond i = go (r .each (n + i))
+    kept-outside : (v : ℕ) → n ≤ v → (getD e v 0 ≡ getD d v 0) × (getD m v 0 ≡ getD l v 0)
+    kept-outside v h = go (r .each v)
       where
-        go : Becomes arcs (getD bounds u 0) (getD bounds (u + 1) 0) u (n + i) d l e m → (getD e (n + i) 0 ≡ getD d (n + i) 0) × (getD m (n + i) 0 ≡ getD l (n + i) 0)
+        go : Becomes arcs (getD bounds u 0) (getD bounds (u + 1) 0) u v d l e m → (getD e v 0 ≡ getD d v 0) × (getD m v 0 ≡ getD l v 0)
         go (same x y) = (x, y)
         go (nearer {a = a} at head x less y) = absurd (omega (arith, arc-inside sound vertex a at))
 
     dist-beyond : length e ≡ length d → drop n e ≡ drop n d
     dist-beyond q =
         ext-getD 0 (drop n e) (drop n d) (omega (arith, length-drop n e, length-drop n d))
-        (λ i h. getD-drop n e i 0 ∙ kept-beyond i .0 ∙ sym (getD-drop n d i 0))
+        (λ i h. getD-drop n e i 0 ∙ kept-outside (n + i) (omega arith) .0 ∙ sym (getD-drop n d i 0))
 
     last-beyond : length m ≡ length l → drop n m ≡ drop n l
     last-beyond q =
         ext-getD 0 (drop n m) (drop n l) (omega (arith, length-drop n m, length-drop n l))
-        (λ i h. getD-drop n m i 0 ∙ kept-beyond i .1 ∙ sym (getD-drop n l i 0))
+        (λ i h. getD-drop n m i 0 ∙ kept-outside (n + i) (omega arith) .1 ∙ sym (getD-drop n l i 0))
 
-module _ {n : ℕ} {bounds arcs : List ℕ} {root : ℕ} {dist₀ last₀ list : List ℕ} {s t : ℕ} {dist last : List ℕ}
-    (k : Searching n bounds arcs root dist₀ last₀ list s t dist last)
+module _ {n : ℕ} {bounds arcs : List ℕ} {root : ℕ} {dist₀ last₀ : List ℕ} {least : ℕ} {dist last wait low : List ℕ}
+    (k : Searching n bounds arcs root dist₀ last₀ least dist last wait low)
   where
-    pub searching-few : t ≤ n
-    searching-few = listed-few (k .listed)
-
-    room : t ≤ length list
-    room = omega (arith, searching-few, k .list-size, k .ready .sound .few)
-
-    -- The nearest can be looked for.
-    pub searching-seekable : s < t → Seekable list s t dist
-    searching-seekable some = record {
-      some-wait = some;
-      room = room;
-      inside = λ i h. omega (arith, k .listed .inside i h, k .ready .dist-room);
-    }
-
-    -- A vertex that is not settled is not reached, or waits.
-    open-waits : (v : ℕ) → Open n list s v → (unreached ≤ getD dist v 0) ⊎ ((i : ℕ) × (s ≤ i) × (i < t) × (getD list i 0 ≡ v))
-    open-waits v (h, out) = go (either (ltb (getD dist v 0) unreached))
-      where
-        place : Stands list t v → (i : ℕ) × (s ≤ i) × (i < t) × (getD list i 0 ≡ v)
-        place p =
-            ⊎-elim (λ b. absurd (out (p .place) (ltb-true (p .place) s b) (p .is))) (λ b. (p .place, ltb-false (p .place) s b, p .within, p .is))
-            (either (ltb (p .place) s))
-
-        go : (ltb (getD dist v 0) unreached ≡ true) ⊎ (ltb (getD dist v 0) unreached ≡ false)
-            → (unreached ≤ getD dist v 0) ⊎ ((i : ℕ) × (s ≤ i) × (i < t) × (getD list i 0 ≡ v))
-        go (inl b) = inr (place (k .listed .all v h (ltb-true (getD dist v 0) unreached b)))
-        go (inr b) = inl (ltb-false (getD dist v 0) unreached b)
+    few : n ≤ 256
+    few = k .ready .sound .few
 
     -- The search is over where none waits.
-    pub searched-all : t ≤ s → Searched n bounds arcs root dist₀ last₀ dist last
+    pub searched-all : least ≡ nobody → Searched n bounds arcs root dist₀ last₀ dist last
     searched-all none =
-        let far : (v : ℕ) → Open n list s v → unreached ≤ getD dist v 0 =
-        λ v o. ⊎-elim (λ h. h) (λ w. absurd (omega (arith, w .1, w .2))) (open-waits v o) in
-        let settled : Settled n bounds arcs root dist last = settled-all (k .state) (omega (arith, searching-few, k .few)) far in
+        let far : (v : ℕ) → Open n dist wait v → unreached ≤ getD dist v 0 =
+        λ v o. o .1 (keyed-nobody (k .blocks) (k .keyed) few (k .nearest) none v (o .0)) in
+        let settled : Settled n bounds arcs root dist last = settled-all (k .state) (count-most n dist wait) far in
         record {
           of-graph =
               λ g around q.
@@ -135,81 +104,125 @@ module _ {n : ℕ} {bounds arcs : List ℕ} {root : ℕ} {dist₀ last₀ list :
           last-rest = only-first n (omega (arith, k .last-size, k .ready .last-room)) (k .last-size) (k .last-rest);
         }
 
-    -- The nearest that waits, u, changes places with the first that waits, and its arcs are relaxed.
-    module _ {at u : ℕ} (near : NearestListed list s t dist at) (is : u ≡ getD list at 0) where
-      abbrev moved : List ℕ
-      moved = set (set list at (getD list s 0)) s (getD list at 0)
+    -- The nearest that waits, u, waits no longer, and its arcs are relaxed.
+    module _ {u : ℕ} (some : least ≡ nobody → ⊥) (is : u ≡ vertexOf least) where
+      near : Nearest n dist wait u
+      near = rw is (nearest-is (k .blocks) (k .keyed) few (k .nearest) some)
 
-      first-waits : s < t
-      first-waits = omega (arith, near .from, near .to)
+      pub searching-vertex : u < n
+      searching-vertex = near .inside
 
-      listed-now : Listed n moved t dist
-      listed-now = listed-swapped (k .listed) (near .to) first-waits room
+      open-now : Open n dist wait u
+      open-now = (near .inside, λ q. absurd (near .waits q))
 
-      vertex : u < n
-      vertex = rw is (k .listed .inside at (near .to))
+      module _ {taken low-taken : List ℕ} (t : KeyPut u nobody wait taken low-taken) where
+        keyed-now : Keyed n dist taken
+        keyed-now = rw (t .stored) (keyed-taken (k .keyed) (omega (arith, k .blocks .wait-size, few, near .inside)))
 
-      reached : getD dist u 0 < unreached
-      reached = rw is (k .listed .reached at (near .to))
-
-      -- It is open, and no open vertex is nearer.
-      open-now : Open n list s u
-      open-now = (vertex, λ i h q. omega (arith, near .from, k .listed .apart i at (omega arith) (near .to) (q ∙ is)))
-
-      lowest : (v : ℕ) → Open n list s v → getD dist u 0 ≤ getD dist v 0
-      lowest v o =
-          ⊎-elim (λ far. omega (arith, reached))
-          (λ w. omega (arith, near .least (w .0) (w .1) (w .2), ap (λ x. getD dist x 0) (w .3), ap (λ x. getD dist x 0) is)) (open-waits v o)
-
-      pub searching-relaxable : Relaxable bounds arcs u dist last moved t
-      searching-relaxable =
-          let p = k .ready in
-          let size : length moved ≡ length list = length-set (set list at (getD list s 0)) s (getD list at 0) ∙ length-set list at (getD list s 0) in
-          record {
-            vertices = n;
-            few = omega (arith, p .sound .few);
-            vertex = vertex;
-            bounded = omega (arith, vertex, p .sound .bounds-room);
-            rising = p .sound .rising u vertex;
-            within = p .sound .within (u + 1) (omega (arith, vertex));
-            heads = arc-inside (p .sound) vertex;
-            listed = listed-now;
-            dist-room = p .dist-room;
-            last-room = p .last-room;
-            list-room = omega (arith, size, k .list-size, p .sound .few);
-          }
-
-      -- So it is settled.
-      module _ {e m after : List ℕ} {r : ℕ} (x : AllRelaxed bounds arcs u dist last moved t e m after r) where
-        -- The first s are as they were, and then comes u.
-        old : (i : ℕ) → i < s → getD after i 0 ≡ getD list i 0
-        old i h =
-            x .begins i (omega (arith, first-waits))
-            ∙ swapped-other (k .listed) (near .to) first-waits room i (λ q. omega (arith, near .from)) (λ q. omega arith)
-
-        new : getD after s 0 ≡ u
-        new = x .begins s first-waits ∙ swapped-second (k .listed) (near .to) first-waits room ∙ sym is
-
-        was-open : (v : ℕ) → Open n after (s + 1) v → Open n list s v
-        was-open v (h, out) = (h, λ i l q. out i (omega arith) (old i l ∙ q))
-
-        still-open : (v : ℕ) → Open n list s v → (v ≡ u → ⊥) → Open n after (s + 1) v
-        still-open v (h, out) away =
-            (h, λ i l q. dite (ℕ-discrete i s) (λ e. away (sym q ∙ ap (λ j. getD after j 0) e ∙ new)) (λ off. out i (omega arith) (sym (old i (omega arith)) ∙ q)))
-
-        pub searching-more : length e ≡ length dist → length m ≡ length last → length after ≡ length list
-            → Searching n bounds arcs root dist₀ last₀ after (s + 1) r e m
-        searching-more dist-same last-same list-same =
+        pub searching-relaxable : Relaxable bounds arcs u dist last taken low-taken
+        searching-relaxable =
             let p = k .ready in
             record {
-              ready = record { sound = p .sound; root-inside = p .root-inside; dist-room = omega (arith, p .dist-room); last-room = omega (arith, p .last-room) };
-              few = omega (arith, first-waits, x .more);
-              fits = omega (arith, listed-few (x .listed n (arc-inside (p .sound) vertex) listed-now), p .sound .few);
-              listed = x .listed n (arc-inside (p .sound) vertex) listed-now;
-              state = settling-more (k .state) vertex open-now reached lowest was-open still-open (λ o. o .1 s (omega arith) new) (x .relaxed) (omega arith);
-              list-size = list-same ∙ k .list-size;
-              dist-size = dist-same ∙ k .dist-size;
-              last-size = last-same ∙ k .last-size;
-              dist-rest = dist-beyond (p .sound) vertex (x .relaxed) dist-same ∙ k .dist-rest;
-              last-rest = last-beyond (p .sound) vertex (x .relaxed) last-same ∙ k .last-rest;
+              vertices = n;
+              few = few;
+              vertex = near .inside;
+              bounded = omega (arith, near .inside, p .sound .bounds-room);
+              rising = p .sound .rising u (near .inside);
+              within = p .sound .within (u + 1) (omega (arith, near .inside));
+              heads = arc-inside (p .sound) (near .inside);
+              dist-room = p .dist-room;
+              last-room = p .last-room;
+              blocks = t .blocks;
+              no-lower = keyed-no-lower few keyed-now (k .state .bounded);
             }
+
+        -- So it is settled.
+        module _ {e m after low-after : List ℕ} (x : AllRelaxed bounds arcs u dist last taken e m after low-after) where
+          -- u is as it was, and has no key.
+          own : (getD e u 0 ≡ getD dist u 0) × (getD after u 0 ≡ nobody)
+          own = go (x .rekeyed u) (x .relaxed .each u)
+            where
+              go : Rekeyed u dist taken e after → Becomes arcs (getD bounds u 0) (getD bounds (u + 1) 0) u u dist last e m
+                  → (getD e u 0 ≡ getD dist u 0) × (getD after u 0 ≡ nobody)
+              go (key-kept a b) _ = (a, b ∙ taken-at wait (t .stored) (omega (arith, k .blocks .wait-size, few, near .inside)))
+              go (key-new less b) (same p q) = absurd (omega arith)
+              go (key-new less b) (nearer i head p lower q) = absurd (omega arith)
+
+          -- Whoever is nearer now was open.
+          was-far : (v : ℕ) → v < n → getD wait v 0 ≡ nobody → getD e v 0 < getD dist v 0 → unreached ≤ getD dist v 0
+          was-far v h q less = go (either (ltb (getD dist v 0) unreached)) (x .relaxed .each v)
+            where
+              go : (ltb (getD dist v 0) unreached ≡ true) ⊎ (ltb (getD dist v 0) unreached ≡ false)
+                  → Becomes arcs (getD bounds u 0) (getD bounds (u + 1) 0) u v dist last e m → unreached ≤ getD dist v 0
+              go (inr b) _ = ltb-false (getD dist v 0) unreached b
+              go (inl b) (same p r) = absurd (omega arith)
+              go (inl b) (nearer i head p lower r) =
+                  let low : getD dist v 0 < unreached = ltb-true (getD dist v 0) unreached b in
+                  absurd (omega (arith, k .state .settled-near v u h (λ o. omega (arith, o .1 q)) open-now))
+
+          was-open : (v : ℕ) → Open n e after v → Open n dist wait v
+          was-open v (h, out) = (h, λ q. go q (x .rekeyed v))
+            where
+              go : getD wait v 0 ≡ nobody → Rekeyed v dist taken e after → unreached ≤ getD dist v 0
+              go q (key-kept a b) = omega (arith, out (b ∙ taken-other wait (t .stored) (omega (arith, k .blocks .wait-size, few, near .inside)) v q))
+              go q (key-new less b) = was-far v h q less
+
+          -- Who keeps its distance keeps its key, unless it is u.
+          still : (v : ℕ) → (v ≡ u → ⊥) → getD after v 0 ≡ getD taken v 0 → getD after v 0 ≡ getD wait v 0
+          still v away q = q ∙ rw (t .stored) (getD-set-other wait u v nobody 0 away)
+
+          still-open : (v : ℕ) → Open n dist wait v → (v ≡ u → ⊥) → Open n e after v
+          still-open v (h, out) away = (h, λ q. go q (x .rekeyed v))
+            where
+              go : getD after v 0 ≡ nobody → Rekeyed v dist taken e after → unreached ≤ getD e v 0
+              go q (key-kept a b) = omega (arith, out (sym (still v away b) ∙ q))
+              go q (key-new less b) = absurd (omega (arith, key-low (getD e v 0) v (omega (arith, k .state .bounded v h)) (omega (arith, few))))
+
+          not-open : Open n e after u → ⊥
+          not-open o = omega (arith, o .1 (own .1), own .0, near .reached)
+
+          keyed-after : Keyed n e after
+          keyed-after = record { key = λ v h. go v h (x .rekeyed v); beyond = λ v h l. outside v h l (x .rekeyed v) }
+            where
+              go : (v : ℕ) → v < n → Rekeyed v dist taken e after
+                  → (getD after v 0 ≡ nobody) ⊎ ((getD after v 0 ≡ keyOf (getD e v 0) v) × (getD e v 0 < unreached))
+              go v h (key-kept a b) = rw (a, b) (keyed-now .key v h)
+              go v h (key-new less b) = inr (b, omega (arith, k .state .bounded v h))
+
+              outside : (v : ℕ) → n ≤ v → v < 256 → Rekeyed v dist taken e after → getD after v 0 ≡ nobody
+              outside v h l (key-kept a b) = b ∙ keyed-now .beyond v h l
+              outside v h l (key-new less b) = absurd (omega (arith, kept-outside (k .ready .sound) (near .inside) (x .relaxed) v h))
+
+          others : (v : ℕ) → v < n → (v ≡ u → ⊥) → settledAt e after v ≡ settledAt dist wait v
+          others v h away = go (x .rekeyed v)
+            where
+              go : Rekeyed v dist taken e after → settledAt e after v ≡ settledAt dist wait v
+              go (key-kept a b) = settled-same dist wait e after v a (still v away b)
+              go (key-new less b) =
+                  let waits : getD after v 0 ≡ nobody → unreached ≤ getD e v 0 =
+                  λ q. absurd (omega (arith, key-low (getD e v 0) v (omega (arith, k .state .bounded v h)) (omega (arith, few)))) in
+                  settled-not e after v waits ∙ sym (settled-not dist wait v (was-open v (h, waits) .1))
+
+          settled-more : settledCount n e after ≡ suc (settledCount n dist wait)
+          settled-more =
+              count-more dist wait e after (near .inside) (settled-not dist wait u (open-now .1)) (settled-yes e after u (omega (arith, own, near .reached)) (own .1)) others
+
+          -- Fewer are left.
+          pub searching-fewer : n - settledCount n e after < n - settledCount n dist wait
+          searching-fewer = omega (arith, settled-more, count-most n e after)
+
+          pub searching-more : {next : ℕ} → length e ≡ length dist → length m ≡ length last → LeastFrom low-after 0 16 next
+              → Searching n bounds arcs root dist₀ last₀ next e m after low-after
+          searching-more dist-same last-same nearest-now =
+              let p = k .ready in
+              record {
+                ready = record { sound = p .sound; root-inside = p .root-inside; dist-room = omega (arith, p .dist-room); last-room = omega (arith, p .last-room) };
+                blocks = x .blocks;
+                keyed = keyed-after;
+                state = settling-more (k .state) (near .inside) open-now (near .reached) (near .lowest) was-open still-open not-open (x .relaxed) (omega (arith, settled-more));
+                nearest = nearest-now;
+                dist-size = dist-same ∙ k .dist-size;
+                last-size = last-same ∙ k .last-size;
+                dist-rest = dist-beyond (p .sound) (near .inside) (x .relaxed) dist-same ∙ k .dist-rest;
+                last-rest = last-beyond (p .sound) (near .inside) (x .relaxed) last-same ∙ k .last-rest;
+              }

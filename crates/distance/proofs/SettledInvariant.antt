@@ -46,9 +46,9 @@ module _ {n : ℕ} {bounds arcs : List ℕ} {root : ℕ} where
   back-settled (over inside settled arc head edge sum b less) = over inside (λ x. x) arc head edge sum (back-settled b) less
 
   -- At the start all are open, and the root alone is reached.
-  pub settling-none : {W : ℕ → Type 0} {d l : List ℕ} → ((v : ℕ) → v < n → W v) → getD d root 0 ≡ 0 → ((v : ℕ) → v < n → (v ≡ root → ⊥) → getD d v 0 ≡ unreached)
-      → Settling n bounds arcs root W 0 d l
-  settling-none {W} {d} {l} all zero others = record {
+  pub settling-none : {W : ℕ → Type 0} {c : ℕ} {d l : List ℕ} → ((v : ℕ) → v < n → W v) → getD d root 0 ≡ 0 → ((v : ℕ) → v < n → (v ≡ root → ⊥) → getD d v 0 ≡ unreached)
+      → Settling n bounds arcs root W c d l
+  settling-none all zero others = record {
     root-zero = zero;
     bounded = λ v h. dite (ℕ-discrete v root) (λ e. rw (e, zero) (omega arith)) (λ away. omega (arith, others v h away));
     settled-near = λ x v h s w. absurd (s (all x h));

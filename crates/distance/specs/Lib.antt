@@ -3,7 +3,7 @@
 pub mod Trail
 -- what the two arrays say of a graph
 pub mod Shortest
--- the list of the vertices reached
-pub mod Reached
+-- who waits, by keys in blocks
+pub mod Waiting
 -- relaxing the arcs of a vertex
 pub mod Relaxing

@@ -8,7 +8,7 @@ use lib.ListN.{length, getD, set}
 use Rattle.forest.specs.Around.{arcEdge, arcHead, arcWeight}
 use Rattle.distance.specs.Trail.{lastOf}
 use Rattle.distance.specs.Shortest.{unreached}
-use Rattle.distance.specs.Reached.{Listed}
+use Rattle.distance.specs.Waiting.{keyOf, Blocks}
 
 -- a is one of the arcs at the places from lo up to hi.
 pub record ArcIn (arcs : List ℕ) (lo hi a : ℕ) : Type 0 where
@@ -29,12 +29,10 @@ pub record ArcRelaxable (a u d : ℕ) (dist last : List ℕ) : Type 0 where
   pub head-last : arcHead a < length last
 
 -- Relaxing one arc of u, which has distance d. Where its head is no nearer over the arc, all is as it was. Otherwise the head alone
--- changes, and the answer r says whether it is found: it was not reached before.
+-- changes, and the answer r says so.
 pub data ArcRelaxed (a u d : ℕ) (dist last dist-after last-after : List ℕ) (r : Bool) : Type 0 where
   kept : getD dist (arcHead a) 0 ≤ d + arcWeight a → dist-after ≡ dist → last-after ≡ last → r ≡ false → ArcRelaxed a u d dist last dist-after last-after r
-  lowered : d + arcWeight a < getD dist (arcHead a) 0 → getD dist (arcHead a) 0 < unreached → dist-after ≡ set dist (arcHead a) (d + arcWeight a)
-      → last-after ≡ set last (arcHead a) (lastOf (arcEdge a) u) → r ≡ false → ArcRelaxed a u d dist last dist-after last-after r
-  found : d + arcWeight a < getD dist (arcHead a) 0 → getD dist (arcHead a) 0 ≡ unreached → dist-after ≡ set dist (arcHead a) (d + arcWeight a)
+  lowered : d + arcWeight a < getD dist (arcHead a) 0 → dist-after ≡ set dist (arcHead a) (d + arcWeight a)
       → last-after ≡ set last (arcHead a) (lastOf (arcEdge a) u) → r ≡ true → ArcRelaxed a u d dist last dist-after last-after r
 
 -- What becomes of a vertex v when arcs of u are relaxed: it keeps its distance and its last edge, or is nearer than before over one of the arcs.
@@ -48,23 +46,27 @@ pub record Relaxed (arcs : List ℕ) (lo hi u : ℕ) (dist last dist-after last-
   pub each : (v : ℕ) → Becomes arcs lo hi u v dist last dist-after last-after
   pub lowest : (a : ℕ) → ArcIn arcs lo hi a → getD dist-after (arcHead a) 0 ≤ getD dist u 0 + arcWeight a
 
--- What relaxing all arcs of u asks: they lead to vertices, of which those reached are listed, and each vertex has a place in every array.
-pub record Relaxable (bounds arcs : List ℕ) (u : ℕ) (dist last list : List ℕ) (t : ℕ) : Type 0 where
+-- Whoever keeps its distance keeps its key, or has none as before; whoever is nearer has the key of its new distance.
+pub data Rekeyed (v : ℕ) (dist wait dist-after wait-after : List ℕ) : Type 0 where
+  key-kept : getD dist-after v 0 ≡ getD dist v 0 → getD wait-after v 0 ≡ getD wait v 0 → Rekeyed v dist wait dist-after wait-after
+  key-new : getD dist-after v 0 < getD dist v 0 → getD wait-after v 0 ≡ keyOf (getD dist-after v 0) v → Rekeyed v dist wait dist-after wait-after
+
+-- What relaxing all arcs of u asks: they lead to vertices, no vertex has a lower key than that of its distance, and each has a place in every array.
+pub record Relaxable (bounds arcs : List ℕ) (u : ℕ) (dist last wait low : List ℕ) : Type 0 where
   pub vertices : ℕ
-  pub few : vertices ≤ 65536
+  pub few : vertices ≤ 256
   pub vertex : u < vertices
   pub bounded : u + 1 < length bounds
   pub rising : getD bounds u 0 ≤ getD bounds (u + 1) 0
   pub within : getD bounds (u + 1) 0 ≤ length arcs
   pub heads : (a : ℕ) → ArcAt bounds arcs u a → arcHead a < vertices
-  pub listed : Listed vertices list t dist
   pub dist-room : vertices ≤ length dist
   pub last-room : vertices ≤ length last
-  pub list-room : vertices ≤ length list
+  pub blocks : Blocks wait low
+  pub no-lower : (v : ℕ) → v < vertices → keyOf (getD dist v 0) v ≤ getD wait v 0
 
--- All arcs of u are relaxed, and the list is that of the vertices reached, of whatever vertices it was.
-pub record AllRelaxed (bounds arcs : List ℕ) (u : ℕ) (dist last list : List ℕ) (t : ℕ) (dist-after last-after list-after : List ℕ) (r : ℕ) : Type 0 where
+-- All arcs of u are relaxed, and whoever is nearer by that waits.
+pub record AllRelaxed (bounds arcs : List ℕ) (u : ℕ) (dist last wait dist-after last-after wait-after low-after : List ℕ) : Type 0 where
   pub relaxed : Relaxed arcs (getD bounds u 0) (getD bounds (u + 1) 0) u dist last dist-after last-after
-  pub more : t ≤ r
-  pub begins : (i : ℕ) → i < t → getD list-after i 0 ≡ getD list i 0
-  pub listed : (n : ℕ) → ((a : ℕ) → ArcAt bounds arcs u a → arcHead a < n) → Listed n list t dist → Listed n list-after r dist-after
+  pub blocks : Blocks wait-after low-after
+  pub rekeyed : (v : ℕ) → Rekeyed v dist wait dist-after wait-after

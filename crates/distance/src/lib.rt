@@ -2,15 +2,20 @@
 // The method is Dijkstra's: of the vertices that are reached and wait, the nearest is settled, and its arcs are relaxed. No bytes are read.
 // The words of the contracts stand in specs/.
 mod last;
-mod list;
 mod relax;
+mod start;
+mod wait;
 
 use crate::last::last_edge;
 use crate::last::vertex_before;
-use crate::list::nearest;
-use crate::list::start;
 use crate::relax::relax_arcs;
-use forest::index::wide;
+use crate::start::start;
+use crate::wait::NOBODY;
+use crate::wait::key_of;
+use crate::wait::least_from;
+use crate::wait::put_key;
+use crate::wait::take_key;
+use crate::wait::vertex_of;
 ghost use lib.ListN.{length};
 ghost use Rattle.lists.specs.Put.{PutTo};
 ghost use Rattle.distance.specs.Trail.{trailOf, CanGoBack};
@@ -31,17 +36,16 @@ pub fn distances_from(
     requires { ⌜ Searchable n (now bounds) (now arcs) root (now dist) (now last) ⌝ }
     ensures { λ _. ⌜ Searched n (now (bounds .entry)) (now (arcs .entry)) root (now (dist .entry)) (now (last .entry)) (now (dist .exit)) (now (last .exit)) ⌝ }
 {
-    let mut list = [0u16; 256];
-    start(n, root, dist, &mut list);
-    let mut s = 0;
-    let mut t = 1;
-    while s < t {
-        let at = nearest(&list, s, t, dist);
-        let u = list[at];
-        list[at] = list[s];
-        list[s] = u;
-        s += 1;
-        t = relax_arcs(bounds, arcs, wide(u), dist, last, &mut list, t);
+    let mut wait = [NOBODY; 256];
+    let mut low = [NOBODY; 16];
+    start(n, root, dist);
+    put_key(root, key_of(0, root), &mut wait, &mut low);
+    let mut least = least_from(&low, 0);
+    while least != NOBODY {
+        let u = vertex_of(least);
+        take_key(u, &mut wait, &mut low);
+        relax_arcs(bounds, arcs, u, dist, last, &mut wait, &mut low);
+        least = least_from(&low, 0);
     }
 }
 

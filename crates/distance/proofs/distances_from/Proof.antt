@@ -1,101 +1,138 @@
--- `distance::distances_from` meets its contract. The loop's invariant: t vertices are reached and listed, and the first s of them are settled.
+-- `distance::distances_from` meets its contract. The loop's invariant: some vertices are settled, others wait, and `least` is the nearest's key.
 -- The measure is how many vertices are not settled. Assumes nothing.
 use Prim.Native.Nat.{_-_}
 use native.Mathlib.Omega.{arith}
+use lib.ListN.{length-replicate, getD-replicate}
 use borrow.Author.Needs.{needs}
-use Rattle.distance.proofs.SearchTurns.{Searching, searching-start, searched-since, searching-few, searching-seekable, searched-all, searching-relaxable, searching-more}
+use Rattle.distance.specs.Waiting.{nobody}
+use Rattle.distance.proofs.KeyBlocks.{blocks-none}
+use Rattle.distance.proofs.WhoWaits.{settledCount, key-low}
+use Rattle.distance.proofs.SearchTurns.{Searching, searching-start, searched-since, searched-all, searching-vertex, searching-relaxable, searching-fewer, searching-more}
 use Rattle.distance.proofs.distances_from.Statement.{statement}
 use Rattle.distance.proofs.distances_from.Tie as tie
 
 abbrev Inv-loop : tie.InvT-loop
-Inv-loop n bounds arcs root dist₀ last₀ list₀ s₀ t₀ dist last list s t = Searching n bounds arcs root dist₀ last₀ list s t dist last
+Inv-loop n bounds arcs root dist₀ last₀ wait₀ low₀ least₀ dist last wait low least = Searching n bounds arcs root dist₀ last₀ least dist last wait low
 
 abbrev μ-loop : tie.MeasureT-loop
-μ-loop n bounds arcs root dist₀ last₀ list₀ s₀ t₀ dist last list s t = n - s
+μ-loop n bounds arcs root dist₀ last₀ wait₀ low₀ least₀ dist last wait low least = n - settledCount n dist wait
 
--- Places, each from a later one: the function's entry, the call that starts the search, the loop's head, the nearest, and the call that relaxes.
-abbrev entered : tie.After-list Inv-loop μ-loop → tie.Start Inv-loop μ-loop
+-- Places, each from a later one: the function's entry, the call that starts the search, the root's key, the loop's head, the nearest taken,
+-- and the call that relaxes.
+abbrev entered : tie.After-start Inv-loop μ-loop → tie.Start Inv-loop μ-loop
 entered c = c .before .before .before .before .before .before
 
-abbrev started : tie.At-loop Inv-loop μ-loop → tie.After-start Inv-loop μ-loop
-started c = c .before .before .before .before
+abbrev started : tie.After-key-of Inv-loop μ-loop → tie.After-start Inv-loop μ-loop
+started c = c .before .before .before
 
-abbrev at-loop : tie.After-nearest Inv-loop μ-loop → tie.At-loop Inv-loop μ-loop
-at-loop c = c .before .before .before .before
+abbrev keyed : tie.After-least-from Inv-loop μ-loop → tie.After-put-key Inv-loop μ-loop
+keyed c = c .before .before .before .before
 
-abbrev found : tie.After-relax-arcs Inv-loop μ-loop → tie.After-wide Inv-loop μ-loop
-found c = c .before .before .before .before
+abbrev root-key : tie.After-put-key Inv-loop μ-loop → tie.After-key-of Inv-loop μ-loop
+root-key c = c .before .before .before
 
-abbrev relaxed : tie.After-list5 Inv-loop μ-loop → tie.After-relax-arcs Inv-loop μ-loop
-relaxed c = c .before .before .before .before .before
+abbrev nearest : tie.After-take-key Inv-loop μ-loop → tie.After-vertex-of Inv-loop μ-loop
+nearest c = c .before .before .before
 
-slice-aggregate-start : tie.Need-slice-aggregate-start Inv-loop μ-loop
-slice-aggregate-start c = search needs
+abbrev taken : tie.After-relax-arcs Inv-loop μ-loop → tie.After-take-key Inv-loop μ-loop
+taken c = c .before .before .before .before .before .before .before
+
+abbrev relaxed : tie.After-low8 Inv-loop μ-loop → tie.After-relax-arcs Inv-loop μ-loop
+relaxed c = c .before .before .before .before .before .before .before
 
 start-requires : tie.Need-start-requires Inv-loop μ-loop
 start-requires c κs =
-    let p = entered c .pre in
-    record { few = omega (arith, p .sound .few); root-inside = p .root-inside; dist-room = p .dist-room; list-room = omega (arith, p .sound .few) }
+    let p = c .before .before .before .before .before .pre in
+    record { root-inside = p .root-inside; dist-room = p .dist-room }
+
+key-of-requires : tie.Need-key-of-requires Inv-loop μ-loop
+key-of-requires c κs =
+    let p = entered (c .before .before) .pre in
+    omega (arith, p .root-inside, p .sound .few)
+
+slice-aggregate-put-key : tie.Need-slice-aggregate-put-key Inv-loop μ-loop
+slice-aggregate-put-key c = search needs
+
+slice-aggregate-put-key-2 : tie.Need-slice-aggregate-put-key-2 Inv-loop μ-loop
+slice-aggregate-put-key-2 c = search needs
+
+put-key-requires : tie.Need-put-key-requires Inv-loop μ-loop
+put-key-requires c κs =
+    let k = c .before .before in
+    let p = entered (started k) .pre in
+    record {
+      vertex = omega (arith, p .root-inside, p .sound .few);
+      blocks = blocks-none;
+      no-higher =
+          omega (
+            arith,
+            k .key-of .ensures,
+            key-low 0 (entered (started k) .args .root) (omega arith) (omega (arith, p .root-inside, p .sound .few)),
+            getD-replicate 256 (entered (started k) .args .root) nobody 0 (omega (arith, p .root-inside, p .sound .few)),
+          );
+    }
+
+slice-aggregate-least-from : tie.Need-slice-aggregate-least-from Inv-loop μ-loop
+slice-aggregate-least-from c = search needs
+
+least-from-requires : tie.Need-least-from-requires Inv-loop μ-loop
+least-from-requires c κs = omega (arith, c .before .before .before .put-key .ensures .blocks .low-size)
 
 loop-holds : tie.Need-loop-holds Inv-loop μ-loop
 loop-holds c =
-    let k = c .before .before .before in
-    searching-start (entered (k .before) .pre) (k .start .ensures) (search needs) (search needs)
+    let k = keyed c in
+    let j = root-key k in
+    let s = started j in
+    searching-start (entered s .pre) (s .start .ensures) (search needs) (length-replicate 256 nobody) (λ v h. getD-replicate 256 v nobody 0 h)
+    (j .key-of .ensures) (k .put-key .ensures) (c .least-from .ensures)
 
-slice-aggregate-nearest : tie.Need-slice-aggregate-nearest Inv-loop μ-loop
-slice-aggregate-nearest c = search needs
+vertex-of-requires : tie.Need-vertex-of-requires Inv-loop μ-loop
+vertex-of-requires c κs = search needs
 
-nearest-requires : tie.Need-nearest-requires Inv-loop μ-loop
-nearest-requires c κs = searching-seekable (c .before .before .before .loop .inv) (c .before .before .loop-test .taken)
+slice-aggregate-take-key : tie.Need-slice-aggregate-take-key Inv-loop μ-loop
+slice-aggregate-take-key c = search needs
 
-mul-u : tie.Need-mul-u Inv-loop μ-loop
-mul-u c = search needs
+slice-aggregate-take-key-2 : tie.Need-slice-aggregate-take-key-2 Inv-loop μ-loop
+slice-aggregate-take-key-2 c = search needs
 
-array-read-u : tie.Need-array-read-u Inv-loop μ-loop
-array-read-u c = search needs
-
-mul-list : tie.Need-mul-list Inv-loop μ-loop
-mul-list c = search needs
-
-array-read-list : tie.Need-array-read-list Inv-loop μ-loop
-array-read-list c = search needs
-
-mul-list-2 : tie.Need-mul-list-2 Inv-loop μ-loop
-mul-list-2 c = search needs
-
-array-write-list : tie.Need-array-write-list Inv-loop μ-loop
-array-write-list c = search needs
-
-mul-list-3 : tie.Need-mul-list-3 Inv-loop μ-loop
-mul-list-3 c = search needs
-
-array-write-list-2 : tie.Need-array-write-list-2 Inv-loop μ-loop
-array-write-list-2 c = search needs
-
-add-s : tie.Need-add-s Inv-loop μ-loop
-add-s c = search needs
-
-wide-requires : tie.Need-wide-requires Inv-loop μ-loop
-wide-requires c κs = search needs
+take-key-requires : tie.Need-take-key-requires Inv-loop μ-loop
+take-key-requires c κs =
+    let k = c .before .before in
+    let inv = k .before .before .loop .inv in (
+      omega (arith, searching-vertex inv (k .before .loop-test .taken) (k .vertex-of .ensures), inv .ready .sound .few),
+      inv .blocks,
+    )
 
 slice-aggregate-relax-arcs : tie.Need-slice-aggregate-relax-arcs Inv-loop μ-loop
 slice-aggregate-relax-arcs c = search needs
 
+slice-aggregate-relax-arcs-2 : tie.Need-slice-aggregate-relax-arcs-2 Inv-loop μ-loop
+slice-aggregate-relax-arcs-2 c = search needs
+
 relax-arcs-requires : tie.Need-relax-arcs-requires Inv-loop μ-loop
 relax-arcs-requires c κs =
-    let k = c .before .before .before in
-    searching-relaxable (at-loop (k .before) .loop .inv) (k .before .nearest .ensures) (k .wide .ensures .is)
+    let k = c .before .before .before .before .before .before in
+    let v = nearest k in
+    searching-relaxable (v .before .before .loop .inv) (v .before .loop-test .taken) (v .vertex-of .ensures) (k .take-key .ensures)
+
+slice-aggregate-least-from-2 : tie.Need-slice-aggregate-least-from-2 Inv-loop μ-loop
+slice-aggregate-least-from-2 c = search needs
+
+least-from-requires-2 : tie.Need-least-from-requires-2 Inv-loop μ-loop
+least-from-requires-2 c κs = omega (arith, relaxed c .relax-arcs .ensures .blocks .low-size)
 
 loop-less : tie.Need-loop-less Inv-loop μ-loop
 loop-less c =
-    let k = found (relaxed c) .before in
-    omega (arith, searching-few (at-loop k .loop .inv), k .before .before .before .loop-test .taken)
+    let r = relaxed (c .before) in
+    let v = nearest (taken r) in
+    searching-fewer (v .before .before .loop .inv) (v .before .loop-test .taken) (v .vertex-of .ensures) (taken r .take-key .ensures) (r .relax-arcs .ensures)
 
 loop-again : tie.Need-loop-again Inv-loop μ-loop
 loop-again c =
-    let k = found (relaxed c) in
-    searching-more (at-loop (k .before) .loop .inv) (k .before .nearest .ensures) (k .wide .ensures .is) (relaxed c .relax-arcs .ensures) (search needs)
-    (search needs) (search needs)
+    let r = relaxed (c .before) in
+    let v = nearest (taken r) in
+    searching-more (v .before .before .loop .inv) (v .before .loop-test .taken) (v .vertex-of .ensures) (taken r .take-key .ensures) (r .relax-arcs .ensures)
+    (search needs) (search needs) (c .least-from2 .ensures)
 
 same-length : tie.Need-same-length Inv-loop μ-loop
 same-length c = search needs
@@ -105,8 +142,8 @@ same-length-2 c = search needs
 
 returns : tie.Need-returns Inv-loop μ-loop
 returns c =
-    let k = started (c .before) in
-    searched-since (entered (k .before) .pre .dist-room) (k .start .ensures) (search needs) (searched-all (c .before .loop .inv) (omega arith))
+    let k = started (root-key (keyed (c .before .before))) in
+    searched-since (entered k .pre .dist-room) (k .start .ensures) (search needs) (searched-all (c .before .loop .inv) (search needs))
 
 pub distances-from-spec : {M : Type 1} → statement M
 distances-from-spec =
@@ -114,23 +151,23 @@ distances-from-spec =
     (tie.spec
     Inv-loop
     μ-loop
-    slice-aggregate-start
     start-requires
+    key-of-requires
+    slice-aggregate-put-key
+    slice-aggregate-put-key-2
+    put-key-requires
+    slice-aggregate-least-from
+    least-from-requires
     loop-holds
-    slice-aggregate-nearest
-    nearest-requires
-    mul-u
-    array-read-u
-    mul-list
-    array-read-list
-    mul-list-2
-    array-write-list
-    mul-list-3
-    array-write-list-2
-    add-s
-    wide-requires
+    vertex-of-requires
+    slice-aggregate-take-key
+    slice-aggregate-take-key-2
+    take-key-requires
     slice-aggregate-relax-arcs
+    slice-aggregate-relax-arcs-2
     relax-arcs-requires
+    slice-aggregate-least-from-2
+    least-from-requires-2
     loop-less
     loop-again
     same-length

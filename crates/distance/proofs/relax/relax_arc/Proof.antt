@@ -65,10 +65,8 @@ same-length-2 c = search needs
 
 returns-2 : tie.Need-returns-2
 returns-2 c =
-    let d = c .before .before .before in
-    let k = weighed d in
-    arc-changed (k .before .arc-head .ensures) (k .arc-weight .ensures) _ _ (omega (arith, leb-false))
-    (omega (arith, d .before .slice-known3 .given (k .before .arc-head .result))) (c .before .arc-edge .ensures) (c .last-of .ensures)
+    let k = weighed (c .before .before .before) in
+    arc-changed (k .before .arc-head .ensures) (k .arc-weight .ensures) _ _ (omega (arith, leb-false)) (c .before .arc-edge .ensures) (c .last-of .ensures)
 
 pub relax-arc-spec : {M : Type 1} → statement M
 relax-arc-spec =

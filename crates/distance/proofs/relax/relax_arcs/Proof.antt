@@ -1,36 +1,43 @@
--- `distance::relax::relax_arcs` meets its contract. The loop's invariant: the arcs before place i are relaxed, and whoever they found is listed.
+-- `distance::relax::relax_arcs` meets its contract. The loop's invariant: the arcs before place i are relaxed, and whoever is nearer by them has a new key.
 -- The measure is how many are left. Assumes nothing.
 use Prim.Native.Nat.{ℕ, _+_, _-_, _≤_, _<_}
 use mathlib.Core.Path.{_≡_, refl}
+use mathlib.Core.Bool.{true}
 use native.Mathlib.Omega.{arith}
 use lib.ListN.{getD, length, length-set}
 use borrow.Author.Tests.{not-true, not-false}
 use borrow.Author.Needs.{needs}
 use Rattle.forest.specs.Around.{arcHead}
-use Rattle.distance.specs.Relaxing.{ArcAt, Relaxed}
+use Rattle.distance.specs.Waiting.{Blocks}
+use Rattle.distance.specs.Relaxing.{ArcAt, Relaxed, key-kept}
 use Rattle.distance.proofs.ArcsRelaxed.{relaxed-none, relaxed-more}
-use Rattle.distance.proofs.FoundListed.{Finding, finding-none, finding-passed, finding-room, finding-more}
+use Rattle.distance.proofs.ArcsRekeyed.{Rekeying, rekeyed-passed, rekeyed-given, rekeyed-more}
 use Rattle.distance.proofs.relax.relax_arcs.Statement.{statement}
 use Rattle.distance.proofs.relax.relax_arcs.Tie as tie
 
 abbrev Inv-loop : tie.InvT-loop
-Inv-loop bounds arcs u dist₀ last₀ list₀ t d end i₀ r₀ dist last list i r =
+Inv-loop bounds arcs u dist₀ last₀ wait₀ low₀ d end i₀ dist last wait low i =
     record {
       from : getD bounds u 0 ≤ i;
       to : i ≤ getD bounds (u + 1) 0;
       done : Relaxed arcs (getD bounds u 0) i u dist₀ last₀ dist last;
-      finding : Finding (λ n. (a : ℕ) → ArcAt bounds arcs u a → arcHead a < n) list₀ t dist₀ list r dist;
+      rekeyed : Rekeying dist₀ wait₀ dist wait;
+      blocks : Blocks wait low;
       dist-size : length dist ≡ length dist₀;
       last-size : length last ≡ length last₀;
-      list-size : length list ≡ length list₀;
+      wait-size : length wait ≡ length wait₀;
+      low-size : length low ≡ length low₀;
     }
 
 abbrev μ-loop : tie.MeasureT-loop
-μ-loop bounds arcs u dist₀ last₀ list₀ t d end i₀ r₀ dist last list i r = end - i
+μ-loop bounds arcs u dist₀ last₀ wait₀ low₀ d end i₀ dist last wait low i = end - i
 
 -- From the loop's head back to the start, and to where the distance of u is known.
+abbrev entered : tie.After-wide2 Inv-loop μ-loop → tie.Start Inv-loop μ-loop
+entered c = c .before .before .before .before .before .before .before .before .before .before .before .before
+
 abbrev started : tie.At-loop Inv-loop μ-loop → tie.Start Inv-loop μ-loop
-started c = c .before .before .before .before .before .before .before .before .before .before .before .before
+started c = entered (c .before)
 
 abbrev known : tie.At-loop Inv-loop μ-loop → tie.After-wide-distance Inv-loop μ-loop
 known c = c .before .before .before .before .before
@@ -52,28 +59,35 @@ module _ (c : tie.In-loop Inv-loop μ-loop) where
   in-last : arcHead arc < length (c .before .loop .last)
   in-last = omega (arith, at-start .pre .heads arc next, at-start .pre .last-room, c .before .loop .inv .last-size)
 
+  in-wait : arcHead arc < length (c .before .loop .wait)
+  in-wait = omega (arith, at-start .pre .heads arc next, at-start .pre .few, c .before .loop .inv .blocks .wait-size)
+
   distance-read : known (c .before) .wide-distance .result ≡ getD (at-start .args .dist .now) (at-start .args .u) 0
   distance-read = known (c .before) .wide-distance .ensures .is
 
 -- From past the call back to it, and from the call to the loop's test.
-abbrev called : tie.After-slice-known6 Inv-loop μ-loop → tie.After-relax-arc Inv-loop μ-loop
+abbrev called : tie.After-slice-known7 Inv-loop μ-loop → tie.After-relax-arc Inv-loop μ-loop
 called c = c .before .before .before .before
 
 abbrev testing : tie.After-relax-arc Inv-loop μ-loop → tie.In-loop Inv-loop μ-loop
 testing c = c .before .before .before .before
 
--- Where a vertex is found, there is room for it in the list.
-module _ (c : tie.Else1 Inv-loop μ-loop) where
-  abbrev here : tie.In-loop Inv-loop μ-loop
-  here = testing (called (c .before))
+-- Where the head is nearer: v is the head, a vertex.
+module _ (c : tie.After-arc-head Inv-loop μ-loop) where
+  abbrev relaxed : tie.After-relax-arc Inv-loop μ-loop
+  relaxed = called (c .before .before)
 
-  room : here .before .loop .r < length (here .before .loop .list)
-  room =
-      let p = started (here .before) .pre in
-      let j = called (c .before) .relax-arc in
-      let inv = here .before .loop .inv in
-      let less = finding-room (inv .finding) (p .heads) (p .listed) (p .heads (arc here) (next here)) (not-false (j .result) (c .if1 .left)) (j .ensures) in
-      omega (arith, less, p .list-room, inv .list-size)
+  abbrev here : tie.In-loop Inv-loop μ-loop
+  here = testing relaxed
+
+  abbrev vertex : ℕ
+  vertex = c .arc-head .result
+
+  inside : vertex < started (here .before) .pre .vertices
+  inside = omega (arith, c .arc-head .ensures, started (here .before) .pre .heads (arc here) (next here))
+
+  lowered-now : relaxed .relax-arc .result ≡ true
+  lowered-now = not-false (relaxed .relax-arc .result) (c .before .if1 .left)
 
 mul-wide-distance : tie.Need-mul-wide-distance Inv-loop μ-loop
 mul-wide-distance c = search needs
@@ -106,7 +120,18 @@ wide-requires-2 : tie.Need-wide-requires-2 Inv-loop μ-loop
 wide-requires-2 c κs = search needs
 
 loop-holds : tie.Need-loop-holds Inv-loop μ-loop
-loop-holds c = record { from = omega arith; to = omega arith; done = rw (c .wide2 .ensures .is) relaxed-none; finding = finding-none; dist-size = refl; last-size = refl; list-size = refl }
+loop-holds c =
+    record {
+      from = omega arith;
+      to = omega arith;
+      done = rw (c .wide2 .ensures .is) relaxed-none;
+      rekeyed = λ v. key-kept refl refl;
+      blocks = entered c .pre .blocks;
+      dist-size = refl;
+      last-size = refl;
+      wait-size = refl;
+      low-size = refl;
+    }
 
 mul-a : tie.Need-mul-a Inv-loop μ-loop
 mul-a c = search needs
@@ -134,48 +159,60 @@ loop-again c =
       from = omega arith;
       to = omega arith;
       done = relaxed-more (inv .done) (inv .from) (in-dist k) (in-last k) (distance-read k) (j .ensures);
-      finding = finding-passed (inv .finding) (in-dist k) (not-true (j .result) (c .if1 .taken)) (j .ensures);
+      rekeyed = rekeyed-passed (inv .rekeyed) (not-true (j .result) (c .if1 .taken)) (j .ensures);
+      blocks = inv .blocks;
       dist-size = omega (arith, inv .dist-size);
       last-size = omega (arith, inv .last-size);
-      list-size = inv .list-size;
+      wait-size = inv .wait-size;
+      low-size = inv .low-size;
     }
 
 arc-head-requires : tie.Need-arc-head-requires Inv-loop μ-loop
 arc-head-requires c κs = search needs
 
-cast-list : tie.Need-cast-list Inv-loop μ-loop
-cast-list c =
-    let k = testing (called (c .before .before)) in
+mul-key-of : tie.Need-mul-key-of Inv-loop μ-loop
+mul-key-of c = omega (arith, inside c, started (here c .before) .pre .few)
+
+slice-read-key-of : tie.Need-slice-read-key-of Inv-loop μ-loop
+slice-read-key-of c =
+    let k = here (c .before) .before in
+    omega (arith, inside (c .before), started k .pre .dist-room, k .loop .inv .dist-size)
+
+key-of-requires : tie.Need-key-of-requires Inv-loop μ-loop
+key-of-requires c κs = omega (arith, inside (c .before), started (here (c .before) .before) .pre .few)
+
+put-key-requires : tie.Need-put-key-requires Inv-loop μ-loop
+put-key-requires c κs =
+    let h = c .before .before in
+    let j = h .before .before in
+    let k = here j in
     let p = started (k .before) .pre in
-    record { fits = omega (arith, c .arc-head .ensures, p .heads (arc k) (next k), p .few) }
-
-mul-list : tie.Need-mul-list Inv-loop μ-loop
-mul-list c = omega (arith, room (c .before))
-
-slice-write-list : tie.Need-slice-write-list Inv-loop μ-loop
-slice-write-list c = room (c .before)
-
-add-r : tie.Need-add-r Inv-loop μ-loop
-add-r c = omega (arith, room (c .before))
+    let inv = k .before .loop .inv in
+    rekeyed-given (inv .rekeyed) (in-dist k) (j .arc-head .ensures) (h .key-of .ensures) (omega (arith, inside j, p .few)) (inv .blocks)
+    (p .no-lower (vertex j) (inside j)) (lowered-now j) (relaxed j .relax-arc .ensures)
 
 loop-less-2 : tie.Need-loop-less-2 Inv-loop μ-loop
 loop-less-2 c = search needs
 
 loop-again-2 : tie.Need-loop-again-2 Inv-loop μ-loop
 loop-again-2 c =
-    let k = testing (called (c .before .before)) in
-    let j = called (c .before .before) .relax-arc in
+    let put = c .before .before .before .before in
+    let h = put .before .before .before in
+    let j = h .before .before in
+    let k = here j in
     let inv = k .before .loop .inv in
     record {
       from = omega arith;
       to = omega arith;
-      done = relaxed-more (inv .done) (inv .from) (in-dist k) (in-last k) (distance-read k) (j .ensures);
-      finding =
-          finding-more (inv .finding) (in-dist k) (room (c .before)) (λ n may. may (arc k) (next k)) (not-false (j .result) (c .before .if1 .left)) (j .ensures)
-          (c .arc-head .ensures);
+      done = relaxed-more (inv .done) (inv .from) (in-dist k) (in-last k) (distance-read k) (relaxed j .relax-arc .ensures);
+      rekeyed =
+          rekeyed-more (inv .rekeyed) (in-dist k) (j .arc-head .ensures) (h .key-of .ensures) (in-wait k) (put .put-key .ensures .stored) (lowered-now j)
+          (relaxed j .relax-arc .ensures);
+      blocks = put .put-key .ensures .blocks;
       dist-size = omega (arith, inv .dist-size);
       last-size = omega (arith, inv .last-size);
-      list-size = simp length-set (inv .list-size);
+      wait-size = omega (arith, inv .wait-size);
+      low-size = omega (arith, inv .low-size);
     }
 
 same-length : tie.Need-same-length Inv-loop μ-loop
@@ -187,11 +224,14 @@ same-length-2 c = search needs
 same-length-3 : tie.Need-same-length-3 Inv-loop μ-loop
 same-length-3 c = search needs
 
+same-length-4 : tie.Need-same-length-4 Inv-loop μ-loop
+same-length-4 c = search needs
+
 returns : tie.Need-returns Inv-loop μ-loop
 returns c =
     let end : c .before .loop .i ≡ getD (started (c .before) .args .bounds .now) (started (c .before) .args .u + 1) 0 = omega arith in
     let inv = c .before .loop .inv in
-    record { relaxed = rw end at (inv .done); more = inv .finding .more; begins = inv .finding .begins; listed = inv .finding .listed }
+    record { relaxed = rw end at (inv .done); blocks = inv .blocks; rekeyed = inv .rekeyed }
 
 pub relax-arcs-spec : {M : Type 1} → statement M
 relax-arcs-spec =
@@ -217,13 +257,14 @@ relax-arcs-spec =
     loop-less
     loop-again
     arc-head-requires
-    cast-list
-    mul-list
-    slice-write-list
-    add-r
+    mul-key-of
+    slice-read-key-of
+    key-of-requires
+    put-key-requires
     loop-less-2
     loop-again-2
     same-length
     same-length-2
     same-length-3
+    same-length-4
     returns)

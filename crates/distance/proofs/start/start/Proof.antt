@@ -1,20 +1,19 @@
--- `distance::list::start` meets its contract. The loop's invariant: the vertices below v are not reached.
+-- `distance::start::start` meets its contract. The loop's invariant: the vertices below v are not reached.
 -- The measure is how many are left. Assumes nothing.
 use Prim.Native.Nat.{_-_, _≤_}
 use mathlib.Core.Path.{_≡_, refl}
 use native.Mathlib.Omega.{arith}
 use lib.ListN.{length}
-use lib.Seq.{getD-set-same}
 use borrow.Author.Needs.{needs}
-use Rattle.distance.proofs.NearestWaiting.{Starting, starting-none, starting-more, starting-all}
-use Rattle.distance.proofs.list.start.Statement.{statement}
-use Rattle.distance.proofs.list.start.Tie as tie
+use Rattle.distance.proofs.SearchStart.{Starting, starting-none, starting-more, starting-all}
+use Rattle.distance.proofs.start.start.Statement.{statement}
+use Rattle.distance.proofs.start.start.Tie as tie
 
 abbrev Inv-loop : tie.InvT-loop
-Inv-loop n root dist₀ list v₀ dist v = (v ≤ n) × (length dist ≡ length dist₀) × Starting n v dist₀ dist
+Inv-loop n root dist₀ v₀ dist v = (v ≤ n) × (length dist ≡ length dist₀) × Starting n v dist₀ dist
 
 abbrev μ-loop : tie.MeasureT-loop
-μ-loop n root dist₀ list v₀ dist v = n - v
+μ-loop n root dist₀ v₀ dist v = n - v
 
 loop-holds : tie.Need-loop-holds Inv-loop μ-loop
 loop-holds c = (omega arith, refl, starting-none)
@@ -40,20 +39,11 @@ mul-dist-2 c = search needs
 slice-write-dist-2 : tie.Need-slice-write-dist-2 Inv-loop μ-loop
 slice-write-dist-2 c = search needs
 
-cast-list : tie.Need-cast-list Inv-loop μ-loop
-cast-list c = search needs
-
-slice-write-list : tie.Need-slice-write-list Inv-loop μ-loop
-slice-write-list c = search needs
-
 same-length : tie.Need-same-length Inv-loop μ-loop
 same-length c = search needs
 
-same-length-2 : tie.Need-same-length-2 Inv-loop μ-loop
-same-length-2 c = search needs
-
 returns : tie.Need-returns Inv-loop μ-loop
-returns c = let inv = c .before .loop .inv in starting-all (inv .2) (omega arith) (search needs) (omega arith) (getD-set-same (c .before .before .args .list .now) 0 _ 0 (search needs))
+returns c = starting-all (c .before .loop .inv .2) (omega arith) (search needs) (omega arith)
 
 pub start-spec : {M : Type 1} → statement M
 start-spec =
@@ -69,8 +59,5 @@ start-spec =
     loop-again
     mul-dist-2
     slice-write-dist-2
-    cast-list
-    slice-write-list
     same-length
-    same-length-2
     returns)
