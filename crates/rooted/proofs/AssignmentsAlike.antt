@@ -10,6 +10,7 @@ use lib.ListN.{length, getD}
 use Rattle.lists.specs.Count.{below, count, anyBelow}
 use Rattle.lists.proofs.Fewer.{count-no-more}
 use Rattle.lists.proofs.Member.{either}
+use Rattle.lists.proofs.Pigeonhole.{count-all, count-into}
 use Rattle.lists.proofs.SameTests.{any-below-same}
 use Rattle.matching.specs.Assignment.{IsAssignment, IsDeficient, marked, allowedRoots}
 use Rattle.matching.specs.Assignable.{assignable}
@@ -60,3 +61,13 @@ assignable-same {p} {k} f h same = go (either (assignable f (below p) (below k))
     go (inl t) _ = t ∙ sym (assignable-to f h same t)
     go (inr t) (inl u) = assignable-to h f (λ i j l m. sym (same i j l m)) u ∙ sym u
     go (inr t) (inr u) = t ∙ sym u
+
+-- More parts than roots have no assignment.
+pub too-many : (f : ℕ → ℕ → Bool) {p k : ℕ} → k < p → assignable f (below p) (below k) ≡ false
+too-many f {p} {k} more = go (either (assignable f (below p) (below k)))
+  where
+    go : (assignable f (below p) (below k) ≡ true) ⊎ (assignable f (below p) (below k) ≡ false) → assignable f (below p) (below k) ≡ false
+    go (inr t) = t
+    go (inl t) =
+        let (roots, a) = assignable-some f p k t in
+        absurd (omega (arith, count-all p, count-all k, count-into (λ _. true) (λ i. getD roots i 0) p k (λ _. true) (λ i h _. (a .is-root i h, refl)) (λ i j h l _ _ e. a .apart i j h l e)))

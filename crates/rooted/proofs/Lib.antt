@@ -31,7 +31,7 @@ pub mod TreesPut
 pub mod CoverLaid
 -- what the whole forest says of a limit
 pub mod LimitDecided
--- seven arrays of zeros have room for the parts of every trial
+-- arrays of zeros have room for the parts of every trial
 pub mod PartsReady
 -- the three answers of a rooted trial
 pub mod RootedAnswers

@@ -1,7 +1,8 @@
--- Seven arrays of zeros have room for the parts of every trial: at most 256 vertices and 32 roots.
+-- Arrays of zeros have room for the parts of every trial: at most 256 vertices and 32 roots. A decision needs rows for no more parts than roots.
 -- Assumes nothing.
-use Prim.Native.Nat.{ℕ}
-use mathlib.Core.Path.{_≡_}
+use Prim.Native.Nat.{ℕ, _≤_, _<_}
+use mathlib.Core.Path.{_≡_, sym}
+use mathlib.Core.Bool.{false}
 use mathlib.Core.List.{List}
 use mathlib.Core.Option.{none}
 use native.Mathlib.Nat.{mul-le-mul-right}
@@ -9,9 +10,10 @@ use native.Mathlib.Omega.{arith}
 use lib.ListN.{length, replicate, length-replicate}
 use Rattle.lists.proofs.Zeros.{zeros-at}
 use Rattle.graph.specs.Bytes.{graphOf}
-use Rattle.rules.specs.RootedTrial.{unjoinedAt}
+use Rattle.rules.specs.RootedTrial.{unjoinedAt, mayGo, isAssignable}
 use Rattle.rooted.specs.Decide.{TrialAsked, PartsReady}
-use Rattle.rooted.specs.Parts.{PieceArrays, arraysOf, PartsAsked}
+use Rattle.rooted.specs.Parts.{PieceArrays, arraysOf, PiecesAsked, PiecesPlaced, FewHeld, RowsAsked, PartsAsked}
+use Rattle.rooted.proofs.AssignmentsAlike.{too-many}
 
 -- Where every vertex is joined to a root within the limit, a trial may place its parts.
 pub parts-ready : {b roots : List ℕ} {limit : ℕ} {kept bounds arcs table : List ℕ} → TrialAsked b roots limit kept bounds arcs table
@@ -22,30 +24,73 @@ parts-ready a joined = record { asked = rw (a .decidable .forest) at a; joined =
 abbrev pub emptyArrays : PieceArrays
 emptyArrays = arraysOf (replicate 288 0) (replicate 289 0) (replicate 256 0) (replicate 32 0) (replicate 256 0)
 
-pub parts-asked : {b roots : List ℕ} {limit : ℕ} {bounds arcs table : List ℕ} → PartsReady b roots limit bounds arcs table
-    → PartsAsked (graphOf b) b roots limit bounds arcs table emptyArrays (replicate 8192 0) (replicate 256 0)
-parts-asked {b} {roots} r =
+pub pieces-asked : {b roots : List ℕ} {limit : ℕ} {bounds arcs table : List ℕ} → PartsReady b roots limit bounds arcs table
+    → PiecesAsked (graphOf b) b roots limit bounds arcs emptyArrays
+pieces-asked r =
     let d = r .asked .decidable in
     let most = d .graph .valid .vertices-most in
     let few = d .roots-few in
     record {
-      pieces =
-          record {
-            graph = d .graph;
-            around = d .around;
-            joined = r .joined;
-            roots-inside = d .roots-inside;
-            roots-some = r .asked .roots-some;
-            roots-few = few;
-            starts-room = omega (arith, most, few, length-replicate {A = ℕ} 288 0);
-            cuts-room = omega (arith, most, few, length-replicate {A = ℕ} 289 0);
-            flat-room = omega (arith, most, length-replicate {A = ℕ} 256 0);
-            lefts-room = omega (arith, few, length-replicate {A = ℕ} 32 0);
-            places-room = omega (arith, most, length-replicate {A = ℕ} 256 0);
-          };
+      graph = d .graph;
+      around = d .around;
+      joined = r .joined;
+      roots-inside = d .roots-inside;
+      roots-some = r .asked .roots-some;
+      roots-few = few;
+      starts-room = omega (arith, most, few, length-replicate {A = ℕ} 288 0);
+      cuts-room = omega (arith, most, few, length-replicate {A = ℕ} 289 0);
+      flat-room = omega (arith, most, length-replicate {A = ℕ} 256 0);
+      lefts-room = omega (arith, few, length-replicate {A = ℕ} 32 0);
+      places-room = omega (arith, most, length-replicate {A = ℕ} 256 0);
+    }
+
+pub parts-asked : {b roots : List ℕ} {limit : ℕ} {bounds arcs table : List ℕ} → PartsReady b roots limit bounds arcs table
+    → PartsAsked (graphOf b) b roots limit bounds arcs table emptyArrays (replicate 8192 0) (replicate 256 0)
+parts-asked {roots = roots} r =
+    let d = r .asked .decidable in
+    let most = d .graph .valid .vertices-most in
+    record {
+      pieces = pieces-asked r;
       tabled = d .distances;
       limit-most = r .asked .limit-most;
-      rows-room = omega (arith, mul-le-mul-right (length roots) most, few, length-replicate {A = ℕ} 8192 0);
+      rows-room = omega (arith, mul-le-mul-right (length roots) most, d .roots-few, length-replicate {A = ℕ} 8192 0);
       rows-zero = λ x _. zeros-at 8192 x;
       out-room = omega (arith, most, length-replicate {A = ℕ} 256 0);
+    }
+
+-- Where the pieces of a trial are placed, more parts than roots have no assignment,
+module _ {b roots : List ℕ} {limit : ℕ} {bounds arcs table : List ℕ} (r : PartsReady b roots limit bounds arcs table) {starts cuts flat lefts places : List ℕ} {p : ℕ}
+    (placed : PiecesPlaced (graphOf b) roots limit (arraysOf starts cuts flat lefts places) p) where
+  pub many-refused : length roots < p → false ≡ isAssignable (graphOf b) roots limit
+  unfolding isAssignable
+  many-refused more = sym (too-many (mayGo (graphOf b) roots limit) (omega (arith, placed .parts-count)))
+
+  -- and no more than those may be assigned,
+  pub few-held : p ≤ length roots → FewHeld b roots limit table starts cuts flat places p
+  few-held few =
+      let d = r .asked .decidable in
+      record {
+        held =
+            record {
+              graph = d .graph;
+              roots-some = r .asked .roots-some;
+              roots-few = d .roots-few;
+              tabled = d .distances;
+              limit-most = r .asked .limit-most;
+              lefts = lefts;
+              placed = placed;
+            };
+        few = few;
+      }
+
+-- for which 32 times 32 marks are enough.
+pub few-asked : {b roots : List ℕ} {limit : ℕ} {table starts cuts flat places : List ℕ} {p : ℕ} → FewHeld b roots limit table starts cuts flat places p
+    → RowsAsked b roots limit table starts cuts flat places p (replicate 1024 0) (replicate 32 0)
+few-asked {roots = roots} {p = p} h =
+    let small : p ≤ 32 = omega (arith, h .few, h .held .roots-few) in
+    record {
+      held = h .held;
+      rows-room = omega (arith, mul-le-mul-right (length roots) small, h .held .roots-few, length-replicate {A = ℕ} 1024 0);
+      rows-zero = λ x _. zeros-at 1024 x;
+      out-room = omega (arith, small, length-replicate {A = ℕ} 32 0);
     }

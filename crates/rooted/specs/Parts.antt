@@ -10,6 +10,7 @@ use Rattle.lists.specs.Count.{below}
 use Rattle.lists.specs.Segments.{segment}
 use Rattle.lists.specs.Sort.{rise}
 use Rattle.graph.specs.Graph.{Graph}
+use Rattle.graph.specs.Bytes.{graphOf}
 use Rattle.graph.specs.Valid.{IsGraph}
 use Rattle.matching.specs.Assignment.{IsAssignment, IsDeficient}
 use Rattle.matching.specs.Assignable.{assignable}
@@ -18,7 +19,7 @@ use Rattle.rules.specs.Order.{ordered}
 use Rattle.rules.specs.Labels.{together}
 use Rattle.rules.specs.Forest.{keep}
 use Rattle.rules.specs.Held.{treeAt, treesAt, risen}
-use Rattle.rules.specs.RootedTrial.{unjoinedAt, rootedPieces, rootedParts, partOf, leftAt}
+use Rattle.rules.specs.RootedTrial.{unjoinedAt, rootedPieces, rootedParts, partOf, leftAt, mayGo, isAssignable}
 use Rattle.forest.specs.Around.{Around}
 use Rattle.cover.specs.Chosen.{IsHeld}
 use Rattle.marks.specs.Near.{TreeHeld}
@@ -74,6 +75,35 @@ pub record AssignDone (p k : ℕ) (rows out : List ℕ) (r : Bool) : Type 0 wher
   pub is : r ≡ assignable (allowedAt rows k) (below p) (below k)
   pub assignment : r ≡ true → IsAssignment p k (allowedAt rows k) (take p out)
   pub deficient : r ≡ false → IsDeficient p k (allowedAt rows k) (take p out)
+
+-- The parts of a trial stand in the arrays, beside the distances from all roots; the limit is no larger than document 01 has it.
+pub record PartsHeld (b roots : List ℕ) (limit : ℕ) (table starts cuts flat places : List ℕ) (parts : ℕ) : Type 0 where
+  pub graph : IsGraph b
+  pub roots-some : 1 ≤ length roots
+  pub roots-few : length roots ≤ 32
+  pub tabled : DistancesTabled (graphOf b) roots table
+  pub limit-most : limit ≤ 2048000000
+  pub lefts : List ℕ
+  pub placed : PiecesPlaced (graphOf b) roots limit (arraysOf starts cuts flat lefts places) parts
+
+-- They are no more than the roots.
+pub record FewHeld (b roots : List ℕ) (limit : ℕ) (table starts cuts flat places : List ℕ) (parts : ℕ) : Type 0 where
+  pub held : PartsHeld b roots limit table starts cuts flat places parts
+  pub few : parts ≤ length roots
+
+-- What marking their rows and assigning them asks besides: a row of zeros for each part, and a byte for each.
+pub record RowsAsked (b roots : List ℕ) (limit : ℕ) (table starts cuts flat places : List ℕ) (parts : ℕ) (rows out : List ℕ) : Type 0 where
+  pub held : PartsHeld b roots limit table starts cuts flat places parts
+  pub rows-room : parts * length roots ≤ length rows
+  pub rows-zero : (x : ℕ) → x < length rows → getD rows x 0 ≡ 0
+  pub out-room : parts ≤ length out
+
+-- The rows say which roots are near each part, and an assignment was found or else a deficient set.
+pub record RowsAssigned (g : Graph) (roots : List ℕ) (limit parts : ℕ) (rows out : List ℕ) (assigned : Bool) : Type 0 where
+  pub near : (i j : ℕ) → i < parts → j < length roots → allowedAt rows (length roots) i j ≡ mayGo g roots limit i j
+  pub assigned-is : assigned ≡ isAssignable g roots limit
+  pub assignment : assigned ≡ true → IsAssignment parts (length roots) (mayGo g roots limit) (take parts out)
+  pub deficient : assigned ≡ false → IsDeficient parts (length roots) (mayGo g roots limit) (take parts out)
 
 -- What placing the parts asks besides: the distances from all roots, a limit no larger than document 01 has it, a row of zeros for each part,
 -- and a byte for each.

@@ -1,6 +1,7 @@
 // Whether there is a cover at all, and whether a limit is accepted (document 01, a "yard" trial, steps 2 to 5), over what is prepared once a
 // question. A vertex is joined to a root within the limit exactly where no edge of the whole forest is above the limit.
-use crate::parts::place_parts;
+use crate::parts::assign_parts;
+use crate::parts::place_pieces;
 use forest::lowest::Found;
 use pieces::whole::light_forest;
 use pieces::whole::stop_at;
@@ -10,6 +11,7 @@ ghost use Rattle.rules.specs.Cover.{rooted};
 ghost use Rattle.rules.specs.RootedTrial.{isAssignable};
 ghost use Rattle.rules.specs.Search.{accepts, noCover};
 ghost use Rattle.rooted.specs.Decide.{NoCoverAsked, DecisionAsked, PartsReady};
+ghost use Rattle.rooted.specs.Parts.{FewHeld};
 
 // Whether some vertex is joined to no root by any edge ("no cover"). The whole forest joins what all edges join.
 pub fn no_cover_rooted(b: &[u8], roots: &[u16], kept: &[u16]) -> bool
@@ -24,7 +26,40 @@ pub fn no_cover_rooted(b: &[u8], roots: &[u16], kept: &[u16]) -> bool
     }
 }
 
-// Whether each part of the trial gets a root of its own, where every vertex is joined to a root.
+// Whether each of no more parts than roots gets a root of its own. So few parts have rows of at most 32 times 32 marks.
+fn few_assigned(
+    b: &[u8],
+    roots: &[u16],
+    limit: u64,
+    table: &[u32],
+    starts: &[u16],
+    cuts: &[u16],
+    flat: &[u16],
+    places: &[u16],
+    parts: usize,
+) -> bool
+    requires { ⌜ FewHeld (now b) (now roots) limit (now table) (now starts) (now cuts) (now flat) (now places) parts ⌝ }
+    ensures { λ r. ⌜ r ≡ isAssignable (graphOf (now (b .entry))) (now (roots .entry)) limit ⌝ }
+{
+    let mut rows = [0u8; 1024];
+    let mut out = [0u8; 32];
+    assign_parts(
+        b,
+        roots,
+        limit,
+        table,
+        starts,
+        cuts,
+        flat,
+        places,
+        parts,
+        &mut rows,
+        &mut out,
+    )
+}
+
+// Whether each part of the trial gets a root of its own, where every vertex is joined to a root. More parts than roots never do, so that no
+// distance is looked at for them.
 fn parts_assigned(
     b: &[u8],
     roots: &[u16],
@@ -41,24 +76,32 @@ fn parts_assigned(
     let mut flat = [0u16; 256];
     let mut lefts = [0u16; 32];
     let mut places = [0u16; 256];
-    let mut rows = [0u8; 8192];
-    let mut out = [0u8; 256];
-    let placed = place_parts(
+    let parts = place_pieces(
         b,
         roots,
         limit,
         bounds,
         arcs,
-        table,
         &mut starts,
         &mut cuts,
         &mut flat,
         &mut lefts,
         &mut places,
-        &mut rows,
-        &mut out,
     );
-    placed.assigned
+    if roots.len() < parts {
+        return false;
+    }
+    few_assigned(
+        b,
+        roots,
+        limit,
+        table,
+        &starts,
+        &cuts,
+        &flat,
+        &places,
+        parts,
+    )
 }
 
 // Whether the limit is accepted, where the whole graph joins every vertex to a root.

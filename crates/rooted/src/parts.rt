@@ -5,9 +5,8 @@ use marks::places::part_places;
 use matching::Answer;
 use matching::assign;
 use split::split_forest;
-ghost use mathlib.Core.Path.{_≡_};
 ghost use Rattle.graph.specs.Bytes.{graphOf};
-ghost use Rattle.rooted.specs.Parts.{arraysOf, PiecesAsked, PiecesPlaced, AssignAsked, AssignDone, PartsAsked};
+ghost use Rattle.rooted.specs.Parts.{arraysOf, PiecesAsked, PiecesPlaced, AssignAsked, AssignDone, RowsAsked, RowsAssigned, PartsAsked};
 ghost use Rattle.rooted.specs.Placed.{trialArrays, PartsPlaced};
 
 // How many parts there are, and whether each has a root of its own.
@@ -17,7 +16,7 @@ pub struct Placed {
 }
 
 // Splits the trees of the forest, and finds the places of the parts. Says how many.
-fn place_pieces(
+pub fn place_pieces(
     b: &[u8],
     roots: &[u16],
     limit: u64,
@@ -51,6 +50,39 @@ fn is_assigned(p: usize, k: usize, rows: &[u8], out: &mut [u8]) -> bool
     }
 }
 
+// Marks the roots near each part in its row, and gives each part a root of its own, or else marks a deficient set. The rows come as zeros.
+pub fn assign_parts(
+    b: &[u8],
+    roots: &[u16],
+    limit: u64,
+    table: &[u32],
+    starts: &[u16],
+    cuts: &[u16],
+    flat: &[u16],
+    places: &[u16],
+    parts: usize,
+    rows: &mut [u8],
+    out: &mut [u8],
+) -> bool
+    requires { ⌜ RowsAsked (now b) (now roots) limit (now table) (now starts) (now cuts) (now flat) (now places) parts (now rows) (now out) ⌝ }
+    ensures { λ r. ⌜ RowsAssigned (graphOf (now (b .entry))) (now (roots .entry)) limit parts (now (rows .exit)) (now (out .exit)) r ⌝ }
+{
+    let k = roots.len();
+    let size = parts * k;
+    mark_parts(
+        b,
+        table,
+        limit as u32,
+        k,
+        starts,
+        cuts,
+        flat,
+        &places[..parts],
+        rows,
+    );
+    is_assigned(parts, k, &rows[..size], out)
+}
+
 // The parts of a rooted trial where the edges within the limit join every vertex to a root, by the arcs of the whole forest and the distances
 // from all roots. The rows come as zeros.
 pub fn place_parts(
@@ -74,7 +106,6 @@ pub fn place_parts(
         (trialArrays (now (starts .exit)) (now (cuts .exit)) (now (flat .exit)) (now (lefts .exit)) (now (places .exit)) (now (rows .exit)) (now (out .exit)))
         (r .parts) (r .assigned) ⌝ }
 {
-    let k = roots.len();
     let parts = place_pieces(
         b,
         roots,
@@ -87,18 +118,18 @@ pub fn place_parts(
         lefts,
         places,
     );
-    let size = parts * k;
-    mark_parts(
+    let assigned = assign_parts(
         b,
+        roots,
+        limit,
         table,
-        limit as u32,
-        k,
         starts,
         cuts,
         flat,
-        &places[..parts],
+        places,
+        parts,
         rows,
+        out,
     );
-    let assigned = is_assigned(parts, k, &rows[..size], out);
     Placed { parts, assigned }
 }

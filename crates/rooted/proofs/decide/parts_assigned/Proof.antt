@@ -1,53 +1,76 @@
--- `rooted::decide::parts_assigned` meets its contract: arrays of zeros have room for the parts. Assumes nothing.
+-- `rooted::decide::parts_assigned` meets its contract: arrays of zeros have room for the pieces. Assumes nothing.
+use native.Mathlib.Omega.{arith}
+use Rattle.rooted.proofs.PartsReady.{pieces-asked, many-refused, few-held}
 use borrow.Author.Needs.{needs}
-use Rattle.rooted.proofs.PartsReady.{parts-asked}
 use Rattle.rooted.proofs.decide.parts_assigned.Statement.{statement}
 use Rattle.rooted.proofs.decide.parts_assigned.Tie as tie
 
--- Where the arrays are: what came.
-abbrev start : tie.After-out → tie.Start
+-- Where the arrays are: what came; and where the pieces were placed, seen from the test behind it.
+abbrev start : tie.After-places → tie.Start
 start c =
-    let a = c .before .before .before .before in
-    let k = a .before .before .before in
-    k .before .before .before .before .before
+    let x = c .before .before .before .before in
+    let y = x .before .before .before .before in
+    y .before .before
 
-slice-aggregate-place-parts : tie.Need-slice-aggregate-place-parts
-slice-aggregate-place-parts c = search needs
+abbrev placed : tie.After-places2 → tie.After-place-pieces
+placed c = c .before .before .before .before .before
 
-slice-aggregate-place-parts-2 : tie.Need-slice-aggregate-place-parts-2
-slice-aggregate-place-parts-2 c = search needs
+slice-aggregate-place-pieces : tie.Need-slice-aggregate-place-pieces
+slice-aggregate-place-pieces c = search needs
 
-slice-aggregate-place-parts-3 : tie.Need-slice-aggregate-place-parts-3
-slice-aggregate-place-parts-3 c = search needs
+slice-aggregate-place-pieces-2 : tie.Need-slice-aggregate-place-pieces-2
+slice-aggregate-place-pieces-2 c = search needs
 
-slice-aggregate-place-parts-4 : tie.Need-slice-aggregate-place-parts-4
-slice-aggregate-place-parts-4 c = search needs
+slice-aggregate-place-pieces-3 : tie.Need-slice-aggregate-place-pieces-3
+slice-aggregate-place-pieces-3 c = search needs
 
-slice-aggregate-place-parts-5 : tie.Need-slice-aggregate-place-parts-5
-slice-aggregate-place-parts-5 c = search needs
+slice-aggregate-place-pieces-4 : tie.Need-slice-aggregate-place-pieces-4
+slice-aggregate-place-pieces-4 c = search needs
 
-slice-aggregate-place-parts-6 : tie.Need-slice-aggregate-place-parts-6
-slice-aggregate-place-parts-6 c = search needs
+slice-aggregate-place-pieces-5 : tie.Need-slice-aggregate-place-pieces-5
+slice-aggregate-place-pieces-5 c = search needs
 
-slice-aggregate-place-parts-7 : tie.Need-slice-aggregate-place-parts-7
-slice-aggregate-place-parts-7 c = search needs
-
-place-parts-requires : tie.Need-place-parts-requires
-place-parts-requires c κs = parts-asked (start c .pre)
+place-pieces-requires : tie.Need-place-pieces-requires
+place-pieces-requires c κs = pieces-asked (start c .pre)
 
 returns : tie.Need-returns
-returns c = search needs
+returns c = let q = placed (c .before) in many-refused (start (q .before) .pre) (q .place-pieces .ensures) (c .if1 .taken)
+
+slice-aggregate-few-assigned : tie.Need-slice-aggregate-few-assigned
+slice-aggregate-few-assigned c = search needs
+
+slice-aggregate-few-assigned-2 : tie.Need-slice-aggregate-few-assigned-2
+slice-aggregate-few-assigned-2 c = search needs
+
+slice-aggregate-few-assigned-3 : tie.Need-slice-aggregate-few-assigned-3
+slice-aggregate-few-assigned-3 c = search needs
+
+slice-aggregate-few-assigned-4 : tie.Need-slice-aggregate-few-assigned-4
+slice-aggregate-few-assigned-4 c = search needs
+
+few-assigned-requires : tie.Need-few-assigned-requires
+few-assigned-requires c κs =
+    let k = c .before .before .before .before in
+    let q = placed (k .before) in
+    few-held (start (q .before) .pre) (q .place-pieces .ensures) (omega (arith, k .if1 .left))
+
+returns-2 : tie.Need-returns-2
+returns-2 c = search needs
 
 pub parts-assigned-spec : {M : Type 1} → statement M
 parts-assigned-spec =
     tie.close
     (tie.spec
-    slice-aggregate-place-parts
-    slice-aggregate-place-parts-2
-    slice-aggregate-place-parts-3
-    slice-aggregate-place-parts-4
-    slice-aggregate-place-parts-5
-    slice-aggregate-place-parts-6
-    slice-aggregate-place-parts-7
-    place-parts-requires
-    returns)
+    slice-aggregate-place-pieces
+    slice-aggregate-place-pieces-2
+    slice-aggregate-place-pieces-3
+    slice-aggregate-place-pieces-4
+    slice-aggregate-place-pieces-5
+    place-pieces-requires
+    returns
+    slice-aggregate-few-assigned
+    slice-aggregate-few-assigned-2
+    slice-aggregate-few-assigned-3
+    slice-aggregate-few-assigned-4
+    few-assigned-requires
+    returns-2)
