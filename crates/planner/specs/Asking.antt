@@ -24,7 +24,7 @@ use Rattle.pieces.specs.Replies.{Replied}
 use Rattle.rooted.specs.Prepared.{Prepared}
 use Rattle.planner.specs.declared.ask.Asked.{Asked}
 use Rattle.planner.specs.declared.ask.Asked.the-variants.{At, Best}
-use Rattle.planner.specs.Crews.{RootsFit}
+use Rattle.planner.specs.Crews.{RootsFit, HistoryFor}
 
 -- The limit at which the answer is written.
 abbrev pub limitOf : Asked → Graph → cover.Crews → ℕ
@@ -55,20 +55,21 @@ pub record ForestReady (kind : Kind) (b roots kept : List ℕ) : Type 0 where
   pub forest : kept ≡ keep (graphOf b) (together roots) (ordered (graphOf b))
 
 -- Everything that was prepared, at most 32 crews, and a buffer that is large enough.
-pub record AnswerAsked (kind : Kind) (k : ℕ) (b roots order kept bounds arcs table lasts : List ℕ) (room : ℕ) : Type 0 where
+pub record AnswerAsked (kind : Kind) (k : ℕ) (b roots order kept bounds arcs table lasts total until : List ℕ) (room : ℕ) : Type 0 where
   pub prepared : Prepared b roots order kept bounds arcs table lasts
+  pub history : HistoryFor kind (graphOf b) kept total until
   pub roots-fit : RootsFit kind roots
   pub crews-few : k ≤ 32
   pub room-most : 32708 ≤ room
 
 -- The same at a limit.
-pub record LimitAsked (kind : Kind) (k : ℕ) (b roots : List ℕ) (limit : ℕ) (order kept bounds arcs table lasts : List ℕ) (room : ℕ) : Type 0 where
-  pub answer : AnswerAsked kind k b roots order kept bounds arcs table lasts room
+pub record LimitAsked (kind : Kind) (k : ℕ) (b roots : List ℕ) (limit : ℕ) (order kept bounds arcs table lasts total until : List ℕ) (room : ℕ) : Type 0 where
+  pub answer : AnswerAsked kind k b roots order kept bounds arcs table lasts total until room
   pub limit-most : limit ≤ 2048000000
 
 -- The same for what is asked.
-pub record AskedReady (kind : Kind) (k : ℕ) (b roots : List ℕ) (asked : Asked) (order kept bounds arcs table lasts : List ℕ) (room : ℕ) : Type 0 where
-  pub answer : AnswerAsked kind k b roots order kept bounds arcs table lasts room
+pub record AskedReady (kind : Kind) (k : ℕ) (b roots : List ℕ) (asked : Asked) (order kept bounds arcs table lasts total until : List ℕ) (room : ℕ) : Type 0 where
+  pub answer : AnswerAsked kind k b roots order kept bounds arcs table lasts total until room
   pub limit-fits : LimitFits asked
 
 -- Nothing is prepared yet.

@@ -12,7 +12,10 @@ use Rattle.rules.specs.Order.{ordered}
 use Rattle.rules.specs.Labels.{together}
 use Rattle.rules.specs.Forest.{keep}
 use Rattle.forest.specs.Around.{Around}
+use Rattle.cover.specs.declared.crews.Kind.{Kind}
+use Rattle.cover.specs.declared.crews.Kind.the-variants.{Unrooted}
 use Rattle.rooted.specs.Prepared.{Prepared}
+use Rattle.unrooted.specs.Needs.{ForestKept}
 use Rattle.planner.specs.declared.prepare.Ready.{Ready}
 
 -- A graph's bytes, and room for the order and the forest of any.
@@ -49,3 +52,9 @@ pub record PreparedTo (b roots order kept bounds arcs table lasts : List ℕ) (r
   pub edges-room : r .edges ≤ length order
   pub forest-room : r .forest ≤ length kept
   pub prepared : Prepared b roots (take (r .edges) order) (take (r .forest) kept) bounds arcs table lasts
+
+-- What the history of merges asks: where the crews have no roots, a graph's bytes and its whole forest, and room for 256 numbers.
+pub record MergesAsked (kind : Kind) (b kept total until : List ℕ) : Type 0 where
+  pub without-roots : kind ≡ Unrooted → ForestKept b kept
+  pub total-room : 256 ≤ length total
+  pub until-room : 256 ≤ length until

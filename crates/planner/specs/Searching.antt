@@ -21,11 +21,11 @@ abbrev pub searchEnd : Graph → cover.Crews → ℕ → ℕ → ℕ
 searchEnd g crews sum budget = searched (accepts g crews) budget (between 0 sum) .high
 
 -- What the search asks: prepared crews, and a sum within document 01's range.
-pub record SearchAsked (kind : Kind) (k : ℕ) (b roots kept bounds arcs table : List ℕ) (sum : ℕ) : Type 0 where
-  pub crews : CrewsPrepared kind k b roots kept bounds arcs table
+pub record SearchAsked (kind : Kind) (k : ℕ) (b roots kept bounds arcs table total until : List ℕ) (sum : ℕ) : Type 0 where
+  pub crews : CrewsPrepared kind k b roots kept bounds arcs table total until
   pub sum-most : sum ≤ 2048000000
 
 -- What the best limit asks besides: the edges in order.
-pub record BestAsked (kind : Kind) (k : ℕ) (b roots order kept bounds arcs table : List ℕ) : Type 0 where
-  pub crews : CrewsPrepared kind k b roots kept bounds arcs table
+pub record BestAsked (kind : Kind) (k : ℕ) (b roots order kept bounds arcs table total until : List ℕ) : Type 0 where
+  pub crews : CrewsPrepared kind k b roots kept bounds arcs table total until
   pub in-order : order ≡ ordered (graphOf b)

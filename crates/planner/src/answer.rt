@@ -37,9 +37,11 @@ pub fn answer_at(
     arcs: &[u64],
     table: &[u32],
     lasts: &[u32],
+    total: &[u64],
+    until: &[u16],
     buf: &mut [u8],
 ) -> Reply
-    requires { ⌜ LimitAsked kind k (now b) (now roots) limit (now order) (now kept) (now bounds) (now arcs) (now table) (now lasts) (length (now buf)) ⌝ }
+    requires { ⌜ LimitAsked kind k (now b) (now roots) limit (now order) (now kept) (now bounds) (now arcs) (now table) (now lasts) (now total) (now until) (length (now buf)) ⌝ }
     ensures { λ r. ⌜ Answers (graphOf (now (b .entry))) (crewsWith kind k (now (roots .entry))) limit (now (buf .entry)) (now (buf .exit)) r ⌝ }
 {
     match kind {
@@ -55,6 +57,6 @@ pub fn answer_at(
             lasts,
             buf,
         ),
-        Kind::Unrooted => answer_unrooted(b, k, limit, kept, buf),
+        Kind::Unrooted => answer_unrooted(b, k, limit, kept, total, until, buf),
     }
 }

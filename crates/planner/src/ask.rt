@@ -2,6 +2,7 @@
 use crate::answer::answer_at;
 use crate::answer::no_cover;
 use crate::prepare::prepare;
+use crate::prepare::record_history;
 use crate::search::best_limit;
 use cover::crews::Kind;
 use pieces::pieces::number_up;
@@ -33,15 +34,29 @@ fn answer_best(
     arcs: &[u64],
     table: &[u32],
     lasts: &[u32],
+    total: &[u64],
+    until: &[u16],
     buf: &mut [u8],
 ) -> Reply
-    requires { ⌜ AnswerAsked kind k (now b) (now roots) (now order) (now kept) (now bounds) (now arcs) (now table) (now lasts) (length (now buf)) ⌝ }
+    requires { ⌜ AnswerAsked kind k (now b) (now roots) (now order) (now kept) (now bounds) (now arcs) (now table) (now lasts) (now total) (now until) (length (now buf)) ⌝ }
     ensures { λ r. ⌜ Answered Best (graphOf (now (b .entry))) (crewsWith kind k (now (roots .entry))) (now (buf .entry)) (now (buf .exit)) r ⌝ }
 {
     if no_cover(kind, k, b, roots, kept) {
         return Reply::NoCover;
     }
-    let limit = best_limit(kind, k, b, roots, order, kept, bounds, arcs, table);
+    let limit = best_limit(
+        kind,
+        k,
+        b,
+        roots,
+        order,
+        kept,
+        bounds,
+        arcs,
+        table,
+        total,
+        until,
+    );
     answer_at(
         kind,
         k,
@@ -54,6 +69,8 @@ fn answer_best(
         arcs,
         table,
         lasts,
+        total,
+        until,
         buf,
     )
 }
@@ -71,9 +88,11 @@ fn answer_asked(
     arcs: &[u64],
     table: &[u32],
     lasts: &[u32],
+    total: &[u64],
+    until: &[u16],
     buf: &mut [u8],
 ) -> Reply
-    requires { ⌜ AskedReady kind k (now b) (now roots) asked (now order) (now kept) (now bounds) (now arcs) (now table) (now lasts) (length (now buf)) ⌝ }
+    requires { ⌜ AskedReady kind k (now b) (now roots) asked (now order) (now kept) (now bounds) (now arcs) (now table) (now lasts) (now total) (now until) (length (now buf)) ⌝ }
     ensures { λ r. ⌜ Answered asked (graphOf (now (b .entry))) (crewsWith kind k (now (roots .entry))) (now (buf .entry)) (now (buf .exit)) r ⌝ }
 {
     match asked {
@@ -89,6 +108,8 @@ fn answer_asked(
             arcs,
             table,
             lasts,
+            total,
+            until,
             buf,
         ),
         Asked::Best => answer_best(
@@ -102,6 +123,8 @@ fn answer_asked(
             arcs,
             table,
             lasts,
+            total,
+            until,
             buf,
         ),
     }
@@ -118,6 +141,8 @@ fn ask(kind: Kind, k: usize, b: &[u8], roots: &[u16], asked: Asked, buf: &mut [u
     let mut arcs = [0u64; 512];
     let mut table = [0u32; 8192];
     let mut lasts = [0u32; 8192];
+    let mut total = [0u64; 256];
+    let mut until = [0u16; 256];
     let ready = prepare(
         b,
         roots,
@@ -128,6 +153,8 @@ fn ask(kind: Kind, k: usize, b: &[u8], roots: &[u16], asked: Asked, buf: &mut [u
         &mut table,
         &mut lasts,
     );
+    let forest = &kept[..ready.forest];
+    record_history(kind, b, forest, &mut total, &mut until);
     answer_asked(
         kind,
         k,
@@ -135,11 +162,13 @@ fn ask(kind: Kind, k: usize, b: &[u8], roots: &[u16], asked: Asked, buf: &mut [u
         roots,
         asked,
         &order[..ready.edges],
-        &kept[..ready.forest],
+        forest,
         &bounds,
         &arcs,
         &table,
         &lasts,
+        &total,
+        &until,
         buf,
     )
 }

@@ -18,12 +18,14 @@ pub fn accepts_at(
     bounds: &[u16],
     arcs: &[u64],
     table: &[u32],
+    total: &[u64],
+    until: &[u16],
 ) -> bool
-    requires { ⌜ DecisionAsked kind k (now b) (now roots) limit (now kept) (now bounds) (now arcs) (now table) ⌝ }
+    requires { ⌜ DecisionAsked kind k (now b) (now roots) limit (now kept) (now bounds) (now arcs) (now table) (now total) (now until) ⌝ }
     ensures { λ r. ⌜ r ≡ accepts (graphOf (now (b .entry))) (crewsWith kind k (now (roots .entry))) limit ⌝ }
 {
     match kind {
         Kind::Rooted => accepts_rooted(b, roots, limit, kept, bounds, arcs, table),
-        Kind::Unrooted => accepts_unrooted(b, k, limit, kept),
+        Kind::Unrooted => accepts_unrooted(b, k, limit, kept, total, until),
     }
 }

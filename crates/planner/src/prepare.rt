@@ -1,15 +1,18 @@
 // What depends on the graph and the roots alone, prepared once a question: the edges in order, the whole forest with the edges around each vertex,
-// and the distances from all roots. Crews without roots are prepared with an empty list of them.
+// and the distances from all roots. Crews without roots are prepared with an empty list of them, and with the history of the forest's merges.
+use cover::crews::Kind;
 use forest::around::put_around;
 use forest::order::order_edges;
 use marks::table::fill_table;
 use pieces::arcs::put_arcs;
 use pieces::pieces::number_up;
 use pieces::whole::keep_whole;
+use unrooted::history::record_merges;
 ghost use lib.ListN.{length};
 ghost use Rattle.graph.specs.Bytes.{graphOf};
 ghost use Rattle.marks.specs.Table.{Tabled};
-ghost use Rattle.planner.specs.Preparing.{ForestAsked, ForestPrepared, DistancesAsked, PrepareAsked, PreparedTo};
+ghost use Rattle.planner.specs.Preparing.{ForestAsked, ForestPrepared, DistancesAsked, PrepareAsked, PreparedTo, MergesAsked};
+ghost use Rattle.planner.specs.Crews.{HistoryFor};
 
 // How many edges there are, and how many of them the whole forest has.
 pub struct Ready {
@@ -69,4 +72,15 @@ pub fn prepare(
     let ready = prepare_forest(b, roots, order, kept, bounds, arcs);
     prepare_distances(b, roots, table, lasts);
     ready
+}
+
+// The history of the whole forest's merges, for crews without roots. Crews with roots read none.
+pub fn record_history(kind: Kind, b: &[u8], kept: &[u16], total: &mut [u64], until: &mut [u16])
+    requires { ⌜ MergesAsked kind (now b) (now kept) (now total) (now until) ⌝ }
+    ensures { λ _. ⌜ HistoryFor kind (graphOf (now (b .entry))) (now (kept .entry)) (now (total .exit)) (now (until .exit)) ⌝ }
+{
+    match kind {
+        Kind::Rooted => {}
+        Kind::Unrooted => record_merges(b, kept, total, until),
+    }
 }

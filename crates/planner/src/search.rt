@@ -35,10 +35,12 @@ fn search(
     bounds: &[u16],
     arcs: &[u64],
     table: &[u32],
+    total: &[u64],
+    until: &[u16],
     sum: u64,
     budget: usize,
 ) -> u64
-    requires { ⌜ SearchAsked kind k (now b) (now roots) (now kept) (now bounds) (now arcs) (now table) sum ⌝ }
+    requires { ⌜ SearchAsked kind k (now b) (now roots) (now kept) (now bounds) (now arcs) (now table) (now total) (now until) sum ⌝ }
     ensures { λ r. ⌜ r ≡ searchEnd (graphOf (now (b .entry))) (crewsWith kind k (now (roots .entry))) sum budget ⌝ }
 {
     let mut low = 0;
@@ -50,7 +52,19 @@ fn search(
         }
         left -= 1;
         let middle = (low + high) / 2;
-        if accepts_at(kind, k, b, roots, middle, kept, bounds, arcs, table) {
+        if accepts_at(
+            kind,
+            k,
+            b,
+            roots,
+            middle,
+            kept,
+            bounds,
+            arcs,
+            table,
+            total,
+            until,
+        ) {
             high = middle;
             continue;
         }
@@ -70,13 +84,40 @@ pub fn best_limit(
     bounds: &[u16],
     arcs: &[u64],
     table: &[u32],
+    total: &[u64],
+    until: &[u16],
 ) -> u64
-    requires { ⌜ BestAsked kind k (now b) (now roots) (now order) (now kept) (now bounds) (now arcs) (now table) ⌝ }
+    requires { ⌜ BestAsked kind k (now b) (now roots) (now order) (now kept) (now bounds) (now arcs) (now table) (now total) (now until) ⌝ }
     ensures { λ r. ⌜ r ≡ bestLimit (graphOf (now (b .entry))) (crewsWith kind k (now (roots .entry))) ⌝ }
 {
-    if accepts_at(kind, k, b, roots, 0, kept, bounds, arcs, table) {
+    if accepts_at(
+        kind,
+        k,
+        b,
+        roots,
+        0,
+        kept,
+        bounds,
+        arcs,
+        table,
+        total,
+        until,
+    ) {
         return 0;
     }
     let sum = sum_weights(b, order);
-    search(kind, k, b, roots, kept, bounds, arcs, table, sum, 31)
+    search(
+        kind,
+        k,
+        b,
+        roots,
+        kept,
+        bounds,
+        arcs,
+        table,
+        total,
+        until,
+        sum,
+        31,
+    )
 }

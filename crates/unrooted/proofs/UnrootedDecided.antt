@@ -1,11 +1,10 @@
--- The answer and the decisions of a trial without roots, from the whole forest: its front is the forest at the limit, "the sum C" decides, and it
--- joins what all edges join.
+-- The answer and the decisions of a trial without roots, from the whole forest: "the sum C" decides, and it joins what all edges join.
 -- Assumes nothing.
 use Prim.Native.Nat.{ℕ, _≤_, _<_}
 use mathlib.Core.Path.{_≡_, refl, sym, ap, ap₂, _∙_}
 use mathlib.Core.List.{List, [], _∷_, _++_}
 use native.Mathlib.Nat.{zero-add}
-use lib.ListN.{length, take, drop}
+use lib.ListN.{length, drop}
 use lib.Dec.{leb, ltb}
 use borrow.Author.Tests.{le-leb, lt-leb}
 use Rattle.lists.proofs.Put.{put-count}
@@ -15,44 +14,27 @@ use Rattle.rules.specs.Cover.{unrooted, heaviest}
 use Rattle.rules.specs.CoverBytes.{encode}
 use Rattle.rules.specs.Order.{ordered}
 use Rattle.rules.specs.Labels.{apart, mergeAll}
-use Rattle.rules.specs.Forest.{keep, forest, lowest}
+use Rattle.rules.specs.Forest.{lowest}
 use Rattle.rules.specs.Reply as rules
 use Rattle.rules.specs.RootedTrial.{Choices}
 use Rattle.rules.specs.UnrootedTrial.{needed, unrootedTrees, unrootedTrial}
 use Rattle.rules.specs.Search.{accepts, trial, noCover}
 use Rattle.rules.specs.Questions.{written, bufferAfter}
-use Rattle.forest_laws.proofs.Roots.{together-none}
 use Rattle.forest_laws.proofs.Keeping.{kept-merges}
 use Rattle.pieces.specs.Replies.{said, Answers}
-use Rattle.pieces.specs.Whole.{WholeKept, LightForest}
 use Rattle.pieces.specs.declared.reply.Reply.the-variants.{Cover, Needs}
-use Rattle.unrooted.specs.Needs.{ForestGiven, RootsWritten}
+use Rattle.unrooted.specs.Needs.{ForestKept, RootsWritten}
 use Rattle.unrooted.specs.Unrooted.{TreesWritten}
-use Rattle.unrooted.specs.Answer.{ForestKept}
 use Rattle.unrooted.specs.declared.unrooted.Written.{Written}
+use Rattle.unrooted.proofs.WholeForest.{kept-apart}
 
 module _ {b kept : List ℕ} (f : ForestKept b kept) where
-  -- Without roots all vertices begin apart.
-  kept-apart : kept ≡ keep (graphOf b) apart (ordered (graphOf b))
-  kept-apart = rw together-none at (f .forest-is)
-
-  pub whole-kept : WholeKept (graphOf b) kept
-  whole-kept = record { label = apart; are = kept-apart }
-
-  -- The front within the limit is the forest there.
-  module _ {limit r : ℕ} (l : LightForest (graphOf b) kept limit r) where
-    pub front-is : take r kept ≡ forest (graphOf b) apart limit
-    front-is = l .front apart kept-apart
-
-    pub front-given : ForestGiven b (take r kept) limit
-    front-given = record { graph = f .graph; are = front-is }
-
   -- The components that the whole forest makes are those of all edges, so their number tells whether there is a cover.
   pub none-at-all : {before after : List ℕ} {r : ℕ} (k : ℕ) → RootsWritten (graphOf b) kept before after r → ltb k r ≡ noCover (graphOf b) (unrooted k)
   unfolding noCover
   none-at-all k w =
       let g = graphOf b in
-      let same : mergeAll g apart kept ≡ mergeAll g apart (ordered g) = ap (mergeAll g apart) kept-apart ∙ kept-merges g apart (ordered g) in
+      let same : mergeAll g apart kept ≡ mergeAll g apart (ordered g) = ap (mergeAll g apart) (kept-apart f) ∙ kept-merges g apart (ordered g) in
       ap (ltb k) (put-count (w .are) ∙ ap (λ label. length (lowest g label)) same)
 
 -- "The sum C" decides.

@@ -3,21 +3,21 @@
 -- Assumes nothing.
 use Prim.Native.Nat.{ℕ, _≤_}
 use mathlib.Core.Path.{_≡_}
-use mathlib.Core.List.{List, []}
+use mathlib.Core.List.{List}
 use lib.ListN.{length, take}
 use Rattle.graph.specs.Graph.{Graph}
 use Rattle.graph.specs.Bytes.{graphOf}
-use Rattle.graph.specs.Valid.{IsGraph}
-use Rattle.rules.specs.Order.{ordered}
-use Rattle.rules.specs.Labels.{apart, together}
-use Rattle.rules.specs.Forest.{keep, forest}
+use Rattle.rules.specs.Labels.{apart}
+use Rattle.rules.specs.Forest.{forest}
 use Rattle.rules.specs.UnrootedTrial.{needed}
+use Rattle.unrooted.specs.Needs.{ForestKept}
+use Rattle.unrooted.specs.History.{HistoryKept}
 use Rattle.unrooted.specs.declared.answer.AtLimit.{AtLimit}
 
--- A graph's bytes and its whole forest, where no vertex is a root.
-pub record ForestKept (b kept : List ℕ) : Type 0 where
-  pub graph : IsGraph b
-  pub forest-is : kept ≡ keep (graphOf b) (together []) (ordered (graphOf b))
+-- A graph's bytes, its whole forest, and the history of its merges.
+pub record HistoryReady (b kept total until : List ℕ) : Type 0 where
+  pub forest-kept : ForestKept b kept
+  pub history : HistoryKept (graphOf b) kept total until
 
 -- The front of the whole forest that is the forest at the limit, and "the sum C" there.
 pub record LimitKnown (g : Graph) (kept : List ℕ) (limit : ℕ) (r : AtLimit) : Type 0 where
@@ -25,9 +25,9 @@ pub record LimitKnown (g : Graph) (kept : List ℕ) (limit : ℕ) (r : AtLimit) 
   pub front : take (r .edges) kept ≡ forest g apart limit
   pub needs : r .trees ≡ needed g limit
 
--- The whole forest, crews and a limit that 21 and 22 do not refuse, and room for the bytes of any cover.
-pub record UnrootedAsked (b : List ℕ) (k limit : ℕ) (kept : List ℕ) (room : ℕ) : Type 0 where
-  pub forest-kept : ForestKept b kept
+-- The same, crews and a limit that 21 and 22 do not refuse, and room for the bytes of any cover.
+pub record UnrootedAsked (b : List ℕ) (k limit : ℕ) (kept total until : List ℕ) (room : ℕ) : Type 0 where
+  pub ready : HistoryReady b kept total until
   pub crews-few : k ≤ 32
   pub small : limit ≤ 2048000000
   pub enough : 32708 ≤ room

@@ -1,6 +1,8 @@
 -- What the contracts of `unrooted` say, in reading order.
--- what the components need, and their lowest vertices
+-- the components by their labels, and their lowest vertices
 pub mod Needs
+-- what the components need at any limit, from the history of merges
+pub mod History
 -- the pieces of the components as trees
 pub mod Components
 -- the numbers of an answer's trees among the pieces

@@ -1,7 +1,7 @@
 // The answer of a trial by crews without roots (document 01, a "roving" trial, step 7), and the decisions that the best limit asks: all from the
-// whole forest, which is prepared once a question.
+// whole forest and the history of its merges, which are prepared once a question.
+use crate::history::needed_by_history;
 use crate::needs::component_roots;
-use crate::needs::needed_at;
 use crate::unrooted::unrooted_trees;
 use pieces::reply::Reply;
 use pieces::whole::light_forest;
@@ -11,7 +11,8 @@ ghost use Rattle.graph.specs.Bytes.{graphOf};
 ghost use Rattle.rules.specs.Cover.{unrooted};
 ghost use Rattle.rules.specs.Search.{accepts, noCover};
 ghost use Rattle.pieces.specs.Replies.{Answers};
-ghost use Rattle.unrooted.specs.Answer.{ForestKept, LimitKnown, UnrootedAsked};
+ghost use Rattle.unrooted.specs.Needs.{ForestKept};
+ghost use Rattle.unrooted.specs.Answer.{HistoryReady, LimitKnown, UnrootedAsked};
 
 // What a limit makes of the whole forest: how many of its edges are within the limit, and how many trees the components there need.
 pub struct AtLimit {
@@ -20,21 +21,29 @@ pub struct AtLimit {
 }
 
 // How many trees the components at the limit need ("the sum C"), and the edges of their forest: so many of the first.
-fn at_limit(b: &[u8], limit: u64, kept: &[u16]) -> AtLimit
-    requires { ⌜ ForestKept (now b) (now kept) ⌝ }
+fn at_limit(b: &[u8], limit: u64, kept: &[u16], total: &[u64], until: &[u16]) -> AtLimit
+    requires { ⌜ HistoryReady (now b) (now kept) (now total) (now until) ⌝ }
     ensures { λ r. ⌜ LimitKnown (graphOf (now (b .entry))) (now (kept .entry)) limit r ⌝ }
 {
     let edges = light_forest(b, kept, limit);
-    let trees = needed_at(b, &kept[..edges], limit);
+    let trees = needed_by_history(graph::vertex_count(b), total, until, edges, limit);
     AtLimit { edges, trees }
 }
 
 // The answer: "if the sum C exceeds k: too low, needs C"; otherwise the trees, as the buffer's first bytes.
-pub fn answer_unrooted(b: &[u8], k: usize, limit: u64, kept: &[u16], buf: &mut [u8]) -> Reply
-    requires { ⌜ UnrootedAsked (now b) k limit (now kept) (length (now buf)) ⌝ }
+pub fn answer_unrooted(
+    b: &[u8],
+    k: usize,
+    limit: u64,
+    kept: &[u16],
+    total: &[u64],
+    until: &[u16],
+    buf: &mut [u8],
+) -> Reply
+    requires { ⌜ UnrootedAsked (now b) k limit (now kept) (now total) (now until) (length (now buf)) ⌝ }
     ensures { λ r. ⌜ Answers (graphOf (now (b .entry))) (unrooted k) limit (now (buf .entry)) (now (buf .exit)) r ⌝ }
 {
-    let at = at_limit(b, limit, kept);
+    let at = at_limit(b, limit, kept, total, until);
     if (k as u64) < at.trees {
         return Reply::Needs(at.trees);
     }
@@ -43,11 +52,18 @@ pub fn answer_unrooted(b: &[u8], k: usize, limit: u64, kept: &[u16], buf: &mut [
 }
 
 // Whether the limit is accepted. Nothing is split or written for this.
-pub fn accepts_unrooted(b: &[u8], k: usize, limit: u64, kept: &[u16]) -> bool
-    requires { ⌜ ForestKept (now b) (now kept) ⌝ }
+pub fn accepts_unrooted(
+    b: &[u8],
+    k: usize,
+    limit: u64,
+    kept: &[u16],
+    total: &[u64],
+    until: &[u16],
+) -> bool
+    requires { ⌜ HistoryReady (now b) (now kept) (now total) (now until) ⌝ }
     ensures { λ r. ⌜ r ≡ accepts (graphOf (now (b .entry))) (unrooted k) limit ⌝ }
 {
-    at_limit(b, limit, kept).trees <= k as u64
+    at_limit(b, limit, kept, total, until).trees <= k as u64
 }
 
 // Whether no cover exists at all: there are "more components than k". The whole forest's edges join what all edges do.

@@ -2,6 +2,7 @@
 // The words of the contracts stand in specs/ and in the definitions of the crate `rules`.
 pub mod answer;
 pub mod components;
+pub mod history;
 pub mod needs;
 pub mod tree_places;
 pub mod unrooted;

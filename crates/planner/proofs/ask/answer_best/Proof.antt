@@ -16,7 +16,7 @@ use Rattle.planner.proofs.ask.answer_best.Tie as tie
 -- Where it is known whether a cover exists.
 module _ (n : tie.After-no-cover) where
   abbrev s : tie.Start
-  s = let d = n .before .before .before .before in let e = d .before .before .before .before in e .before .before
+  s = let d = n .before .before .before .before in let e = d .before .before .before .before in e .before .before .before .before
 
   abbrev crews : Crews
   crews = crewsWith (s .args .kind) (s .args .k) (s .args .roots .now)
@@ -35,7 +35,7 @@ best-limit-requires c κs =
     let n = c .before in
     let p = s n .pre in
     record {
-      crews = record { decidable = p .prepared .decidable; roots-fit = p .roots-fit; some-cover = sym (n .no-cover .ensures) ∙ c .if1 .left };
+      crews = record { decidable = p .prepared .decidable; history = p .history; roots-fit = p .roots-fit; some-cover = sym (n .no-cover .ensures) ∙ c .if1 .left };
       in-order = p .prepared .in-order;
     }
 

@@ -19,7 +19,7 @@ use Rattle.planner.proofs.search.best_limit.Tie as tie
 -- Where 0 is tried: the graph, and the crews.
 module _ (a : tie.After-accepts-at) where
   abbrev s : tie.Start
-  s = let d = a .before .before .before .before in d .before .before .before .before
+  s = let d = a .before .before .before .before in d .before .before .before .before .before .before
 
   abbrev g : Graph
   g = graphOf (s .args .b .now)

@@ -11,7 +11,7 @@ at-limit-requires c κs = search needs
 returns : tie.Need-returns
 returns c =
     let known = c .before in
-    let a = known .before .before .before .args in
+    let a = known .before .before .before .before .before .args in
     decided (graphOf (a .b .now)) (a .k) (a .limit) (known .at-limit .ensures .needs)
 
 pub accepts-unrooted-spec : {M : Type 1} → statement M

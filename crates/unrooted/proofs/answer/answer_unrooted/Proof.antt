@@ -9,7 +9,7 @@ use Rattle.unrooted.proofs.answer.answer_unrooted.Tie as tie
 
 -- Where the limit is known: what was given.
 abbrev start : tie.After-at-limit → tie.Start
-start l = l .before .before .before .before
+start l = l .before .before .before .before .before .before
 
 -- Where there are crews enough: the limit is known.
 abbrev known : tie.Else1 → tie.After-at-limit

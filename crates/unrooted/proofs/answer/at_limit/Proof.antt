@@ -1,28 +1,38 @@
--- `unrooted::answer::at_limit` meets its contract: the front of the whole forest is the forest at the limit. Assumes nothing.
-use mathlib.Core.Path.{sym}
-use lib.Seq.{length-take-le}
-use Rattle.unrooted.proofs.UnrootedDecided.{whole-kept, front-is, front-given}
+-- `unrooted::answer::at_limit` meets its contract: the front of the whole forest is the forest at the limit, and the history tells what its components
+-- need. Assumes nothing.
+use borrow.Author.Needs.{needs}
+use Rattle.unrooted.proofs.WholeForest.{whole-kept, front-is, read-asked, history-tells}
 use Rattle.unrooted.proofs.answer.at_limit.Statement.{statement}
 use Rattle.unrooted.proofs.answer.at_limit.Tie as tie
 
 -- Where the edges within the limit are counted: what was given.
 abbrev start : tie.After-light-forest → tie.Start
-start l = l .before .before .before
+start l = l .before .before .before .before .before
 
 light-forest-requires : tie.Need-light-forest-requires
-light-forest-requires c κs = whole-kept (c .before .before .pre)
+light-forest-requires c κs = whole-kept (c .before .before .before .before .pre .forest-kept)
 
-slice-aggregate-needed-at : tie.Need-slice-aggregate-needed-at
-slice-aggregate-needed-at c = sym (length-take-le _ _ (c .before .light-forest .ensures .few))
+vertex-count-requires : tie.Need-vertex-count-requires
+vertex-count-requires c κs = search needs
 
-needed-at-requires : tie.Need-needed-at-requires
-needed-at-requires c κs = let l = c .before in front-given (start l .pre) (l .light-forest .ensures)
+needed-by-history-requires : tie.Need-needed-by-history-requires
+needed-by-history-requires c κs =
+    let l = c .before in
+    let given = start l .pre in
+    read-asked (given .forest-kept) (l .light-forest .ensures) (given .history) (c .vertex-count .ensures .is)
 
 returns : tie.Need-returns
 returns c =
-    let l = c .before .before in
+    let v = c .before in
+    let l = v .before in
+    let given = start l .pre in
     let front = l .light-forest .ensures in
-    record { few = front .few; front = front-is (start l .pre) front; needs = c .needed-at .ensures }
+    record {
+      few = front .few;
+      front = front-is (given .forest-kept) front;
+      needs = history-tells (given .forest-kept) front (given .history) (v .vertex-count .ensures .is) (c .needed-by-history .ensures);
+    }
 
 pub at-limit-spec : {M : Type 1} → statement M
-at-limit-spec = tie.close (tie.spec light-forest-requires slice-aggregate-needed-at needed-at-requires returns)
+at-limit-spec =
+    tie.close (tie.spec light-forest-requires vertex-count-requires needed-by-history-requires returns)
