@@ -52,7 +52,14 @@ fn mark_ends(b: &[u8], table: &[u32], e: usize, limit: u32, row: &mut [u8])
 }
 
 // Marks each root that is near the part with this start and these edges.
-pub fn mark_part(b: &[u8], table: &[u32], start: usize, edges: &[u16], limit: u32, row: &mut [u8])
+pub(crate) fn mark_part(
+    b: &[u8],
+    table: &[u32],
+    start: usize,
+    edges: &[u16],
+    limit: u32,
+    row: &mut [u8],
+)
     requires { ⌜ PartGiven (now b) (now table) start (length (now row)) ⌝ }
     ensures { λ _. ⌜ Marked (nearOne (now (table .entry)) (length (now (row .entry))) limit (treeVertices (graphOf (now (b .entry))) (treeOf start (now (edges .entry)))))
         (now (row .entry)) (now (row .exit)) ⌝ }

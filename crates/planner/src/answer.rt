@@ -14,7 +14,7 @@ ghost use Rattle.planner.specs.Crews.{crewsWith};
 ghost use Rattle.planner.specs.Asking.{ForestReady, LimitAsked};
 
 // Whether no cover by the crews exists at all.
-pub fn no_cover(kind: Kind, k: usize, b: &[u8], roots: &[u16], kept: &[u16]) -> bool
+pub(crate) fn no_cover(kind: Kind, k: usize, b: &[u8], roots: &[u16], kept: &[u16]) -> bool
     requires { ⌜ ForestReady kind (now b) (now roots) (now kept) ⌝ }
     ensures { λ r. ⌜ r ≡ noCover (graphOf (now (b .entry))) (crewsWith kind k (now (roots .entry))) ⌝ }
 {
@@ -25,7 +25,7 @@ pub fn no_cover(kind: Kind, k: usize, b: &[u8], roots: &[u16], kept: &[u16]) -> 
 }
 
 // The answer of the crews' trial at the limit.
-pub fn answer_at(
+pub(crate) fn answer_at(
     kind: Kind,
     k: usize,
     b: &[u8],

@@ -174,7 +174,7 @@ fn ask(kind: Kind, k: usize, b: &[u8], roots: &[u16], asked: Asked, buf: &mut [u
 }
 
 // The same for crews of a question: "the yards are stops 0 to k - 1". Only here is that known.
-pub fn ask_crews(kind: Kind, k: usize, b: &[u8], asked: Asked, buf: &mut [u8]) -> Reply
+pub(crate) fn ask_crews(kind: Kind, k: usize, b: &[u8], asked: Asked, buf: &mut [u8]) -> Reply
     requires { ⌜ CrewsAsked kind k (now b) asked (length (now buf)) ⌝ }
     ensures { λ r. ⌜ Answered asked (graphOf (now (b .entry))) (crewsOf kind k) (now (buf .entry)) (now (buf .exit)) r ⌝ }
 {

@@ -8,7 +8,7 @@ ghost use Rattle.rules.specs.Search.{accepts};
 ghost use Rattle.planner.specs.Crews.{crewsWith, DecisionAsked};
 
 // Whether the crews' trial at the limit accepts.
-pub fn accepts_at(
+pub(crate) fn accepts_at(
     kind: Kind,
     k: usize,
     b: &[u8],

@@ -55,7 +55,7 @@ fn prepare_distances(b: &[u8], roots: &[u16], table: &mut [u32], lasts: &mut [u3
 }
 
 // Everything that a question's trials share.
-pub fn prepare(
+pub(crate) fn prepare(
     b: &[u8],
     roots: &[u16],
     order: &mut [u16],
@@ -75,7 +75,13 @@ pub fn prepare(
 }
 
 // The history of the whole forest's merges, for crews without roots. Crews with roots read none.
-pub fn record_history(kind: Kind, b: &[u8], kept: &[u16], total: &mut [u64], until: &mut [u16])
+pub(crate) fn record_history(
+    kind: Kind,
+    b: &[u8],
+    kept: &[u16],
+    total: &mut [u64],
+    until: &mut [u16],
+)
     requires { ⌜ MergesAsked kind (now b) (now kept) (now total) (now until) ⌝ }
     ensures { λ _. ⌜ HistoryFor kind (graphOf (now (b .entry))) (now (kept .entry)) (now (total .exit)) (now (until .exit)) ⌝ }
 {

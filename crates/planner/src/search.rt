@@ -74,7 +74,7 @@ fn search(
 }
 
 // The best limit: 0 where that is accepted, and otherwise where the search ends. 31 trials are enough for any sum of weights.
-pub fn best_limit(
+pub(crate) fn best_limit(
     kind: Kind,
     k: usize,
     b: &[u8],

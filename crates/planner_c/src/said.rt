@@ -8,7 +8,7 @@ ghost use Rattle.pieces.specs.Replies.{says};
 ghost use Rattle.planner_c.specs.Numbers.{kindOf, sayingOf, Puts};
 
 // The kind that a number names: 0 rooted, every other unrooted.
-pub fn kind_of(kind: u32) -> Kind
+pub(crate) fn kind_of(kind: u32) -> Kind
     ensures { λ r. ⌜ r ≡ kindOf kind ⌝ }
 {
     match kind {
@@ -18,7 +18,7 @@ pub fn kind_of(kind: u32) -> Kind
 }
 
 // The number of a reply's case.
-pub fn number_of(reply: Reply) -> u32
+pub(crate) fn number_of(reply: Reply) -> u32
     ensures { λ r. ⌜ r ≡ says reply .number ⌝ }
 {
     match reply {
@@ -35,7 +35,7 @@ pub fn number_of(reply: Reply) -> u32
 }
 
 // Writes the values of a reply's case, from the first on.
-pub fn put_values(reply: Reply, values: &mut [u64])
+pub(crate) fn put_values(reply: Reply, values: &mut [u64])
     requires { ⌜ length (now values) ≡ 3 ⌝ }
     ensures { λ _. ⌜ Puts (says reply) (now (values .entry)) (now (values .exit)) ⌝ }
 {
@@ -60,7 +60,7 @@ pub fn put_values(reply: Reply, values: &mut [u64])
 }
 
 // The number of a verdict: 0 for yes.
-pub fn verdict_number(verdict: Verdict) -> u32
+pub(crate) fn verdict_number(verdict: Verdict) -> u32
     ensures { λ r. ⌜ r ≡ sayingOf verdict .number ⌝ }
 {
     match verdict {
@@ -76,7 +76,7 @@ pub fn verdict_number(verdict: Verdict) -> u32
 }
 
 // Writes the heaviest weight as the first value, where the verdict is yes.
-pub fn put_heaviest(verdict: Verdict, values: &mut [u64])
+pub(crate) fn put_heaviest(verdict: Verdict, values: &mut [u64])
     requires { ⌜ length (now values) ≡ 3 ⌝ }
     ensures { λ _. ⌜ Puts (sayingOf verdict) (now (values .entry)) (now (values .exit)) ⌝ }
 {

@@ -105,7 +105,7 @@ fn lay_trees(
 
 // The cover of an accepted trial, one tree for each root, as the buffer's first bytes. Everything behind the bytes stays. Says the weight of
 // the heaviest tree.
-pub fn write_rooted(
+pub(crate) fn write_rooted(
     b: &[u8],
     order: &[u16],
     table: &[u32],

@@ -16,7 +16,7 @@ pub struct Placed {
 }
 
 // Splits the trees of the forest, and finds the places of the parts. Says how many.
-pub fn place_pieces(
+pub(crate) fn place_pieces(
     b: &[u8],
     roots: &[u16],
     limit: u64,
@@ -51,7 +51,7 @@ fn is_assigned(p: usize, k: usize, rows: &[u8], out: &mut [u8]) -> bool
 }
 
 // Marks the roots near each part in its row, and gives each part a root of its own, or else marks a deficient set. The rows come as zeros.
-pub fn assign_parts(
+pub(crate) fn assign_parts(
     b: &[u8],
     roots: &[u16],
     limit: u64,
@@ -85,7 +85,7 @@ pub fn assign_parts(
 
 // The parts of a rooted trial where the edges within the limit join every vertex to a root, by the arcs of the whole forest and the distances
 // from all roots. The rows come as zeros.
-pub fn place_parts(
+pub(crate) fn place_parts(
     b: &[u8],
     roots: &[u16],
     limit: u64,

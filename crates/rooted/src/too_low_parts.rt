@@ -103,7 +103,7 @@ fn write_parts(starts: &[u16], cuts: &[u16], flat: &[u16], chosen: &[u16], buf: 
 }
 
 // The parts of the set, written as the buffer's first bytes, with the numbers of the answer.
-pub fn write_deficient(
+pub(crate) fn write_deficient(
     starts: &[u16],
     cuts: &[u16],
     flat: &[u16],

@@ -122,7 +122,7 @@ fn mark_assigned(
 
 // The edges of root j's tree, written by rising number to the front of the array: of its part if it has one, a shortest path to it, and the
 // piece left at the root. Says how many.
-pub fn rooted_tree(
+pub(crate) fn rooted_tree(
     b: &[u8],
     order: &[u16],
     table: &[u32],

@@ -45,7 +45,7 @@ fn rise_segment(cuts: &[u16], i: usize, flat: &mut [u16])
 }
 
 // The edges of each of the first k pieces, rising.
-pub fn rise_segments(cuts: &[u16], k: usize, flat: &mut [u16])
+pub(crate) fn rise_segments(cuts: &[u16], k: usize, flat: &mut [u16])
     requires { ⌜ PiecesHeld (now cuts) (now flat) k ⌝ }
     ensures { λ _. ⌜ SegmentsRisen (now (cuts .entry)) k (now (flat .entry)) (now (flat .exit)) ⌝ }
 {
@@ -67,7 +67,7 @@ fn piece_lowest(b: &[u8], start: u16, cuts: &[u16], flat: &[u16], i: usize) -> u
 }
 
 // Each of the first k pieces starts at its lowest vertex now.
-pub fn set_lowest(b: &[u8], starts: &mut [u16], cuts: &[u16], flat: &[u16], k: usize)
+pub(crate) fn set_lowest(b: &[u8], starts: &mut [u16], cuts: &[u16], flat: &[u16], k: usize)
     requires { ⌜ PiecesGiven (now starts) (now cuts) (now flat) k ⌝ }
     ensures { λ _. ⌜ LowestSet (graphOf (now (b .entry))) (now (cuts .entry)) (now (flat .entry)) k (now (starts .entry)) (now (starts .exit)) ⌝ }
 {
@@ -93,7 +93,7 @@ fn piece_key(start: u16, cuts: &[u16], flat: &[u16], i: usize) -> u32
 }
 
 // The keys of the first k pieces.
-pub fn write_keys(starts: &[u16], cuts: &[u16], flat: &[u16], k: usize, keys: &mut [u32])
+pub(crate) fn write_keys(starts: &[u16], cuts: &[u16], flat: &[u16], k: usize, keys: &mut [u32])
     requires { ⌜ KeysAsked (now starts) (now cuts) (now flat) k (now keys) ⌝ }
     ensures { λ _. ⌜ KeysWritten (now (starts .entry)) (now (cuts .entry)) (now (flat .entry)) k (now (keys .exit)) ⌝ }
 {

@@ -100,7 +100,13 @@ fn more_needs(weight: u64, until: u16, light: usize, limit: u64) -> u64
 }
 
 // "The sum C" at a limit within which the first `light` edges of the whole forest are: each of them left one component fewer.
-pub fn needed_by_history(n: usize, total: &[u64], until: &[u16], light: usize, limit: u64) -> u64
+pub(crate) fn needed_by_history(
+    n: usize,
+    total: &[u64],
+    until: &[u16],
+    light: usize,
+    limit: u64,
+) -> u64
     requires { ⌜ ReadAsked n (now total) (now until) light ⌝ }
     ensures { λ r. ⌜ r ≡ neededBy n (now (total .entry)) (now (until .entry)) light limit ⌝ }
 {

@@ -37,7 +37,7 @@ fn tree_end(first: usize, left: usize, cuts: &[u16]) -> usize
 }
 
 // The numbers of the trees, rising, written to the front of the array. Says how many.
-pub fn tree_places(lefts: &[u16], cuts: &[u16], out: &mut [u16]) -> usize
+pub(crate) fn tree_places(lefts: &[u16], cuts: &[u16], out: &mut [u16]) -> usize
     requires { ⌜ PlacesAsked (now lefts) (now cuts) (now out) ⌝ }
     ensures { λ r. ⌜ PutTo 0 (treePlaces (now (cuts .entry)) 0 (now (lefts .entry))) (now (out .entry)) (now (out .exit)) r ⌝ }
 {

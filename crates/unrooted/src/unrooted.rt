@@ -83,7 +83,7 @@ fn order_trees(
 
 // The trees of the answer at a limit, as the buffer's first bytes: the components at the limit, from the edges of the forest there, split
 // into at most 32 trees. Everything behind the bytes stays.
-pub fn unrooted_trees(b: &[u8], edges: &[u16], limit: u64, buf: &mut [u8]) -> Written
+pub(crate) fn unrooted_trees(b: &[u8], edges: &[u16], limit: u64, buf: &mut [u8]) -> Written
     requires { ⌜ TrialAsked (now b) (now edges) limit (now buf) ⌝ }
     ensures { λ r. ⌜ TreesWritten (graphOf (now (b .entry))) limit (now (buf .entry)) (now (buf .exit)) r ⌝ }
 {
