@@ -3,12 +3,15 @@
 use Prim.Native.Nat.{ℕ, _+_, _*_, _/_, _≤_, _<_}
 use mathlib.Core.Path.{_≡_, refl, sym, ap, _∙_}
 use mathlib.Core.List.{List}
-use mathlib.Core.Logic.{_⊎_, inl, inr, dite}
+use mathlib.Core.Logic.{_⊎_, inl, inr, ⊎-elim, dite}
 use native.Mathlib.Decide.{ℕ-discrete}
 use native.Mathlib.Omega.{arith}
 use lib.ListN.{length, getD, set, replicate, length-set, length-replicate, getD-replicate}
 use lib.Seq.{getD-set-same, getD-set-other}
+use lib.Dec.{ltb}
+use borrow.Author.Tests.{ltb-true, ltb-false}
 use Rattle.lists.proofs.AfterStore.{at-or-not}
+use Rattle.lists.proofs.Member.{either}
 use Rattle.distance.specs.Waiting.{nobody, Lower, LeastFrom, InBlock, Blocks}
 
 -- The least of one key, and of one key more.
@@ -31,6 +34,22 @@ least-more {keys} {from} {many} {r} {x} {q} k is l = go (l .one-of)
     go : (q ≡ r) ⊎ (q ≡ x) → LeastFrom keys from (many + 1) q
     go (inl e) = record { lowest = lowest-now; place = k .place; after = k .after; before = omega (arith, k .before); is = k .is ∙ sym e }
     go (inr e) = record { lowest = lowest-now; place = from + many; after = omega arith; before = omega arith; is = sym is ∙ sym e }
+
+-- The lower of the least of two halves is the least of all.
+pub least-joined : {keys : List ℕ} {from half many more p q r : ℕ} → half ≡ from + many → LeastFrom keys from many p → LeastFrom keys half more q → Lower p q r
+    → LeastFrom keys from (many + more) r
+least-joined {keys} {from} {half} {many} {more} {p} {q} {r} next k j l = go (l .one-of)
+  where
+    below-half : (i : ℕ) → from ≤ i → (i < half) ⊎ (half ≤ i) → i < from + (many + more) → r ≤ getD keys i 0
+    below-half i h (inl b) m = omega (arith, l .first, k .lowest i h (omega arith))
+    below-half i h (inr b) m = omega (arith, l .second, j .lowest i b (omega arith))
+
+    all : (i : ℕ) → from ≤ i → i < from + (many + more) → r ≤ getD keys i 0
+    all i h m = below-half i h (⊎-elim (λ t. inl (ltb-true i half t)) (λ t. inr (ltb-false i half t)) (either (ltb i half))) m
+
+    go : (r ≡ p) ⊎ (r ≡ q) → LeastFrom keys from (many + more) r
+    go (inl e) = record { lowest = all; place = k .place; after = k .after; before = omega (arith, k .before); is = k .is ∙ sym e }
+    go (inr e) = record { lowest = all; place = j .place; after = omega (arith, j .after); before = omega (arith, j .before); is = j .is ∙ sym e }
 
 -- A key is stored for v, and m for its block.
 module _ {wait low : List ℕ} (b : Blocks wait low) {v : ℕ} (vertex : v < 256) where

@@ -31,18 +31,21 @@ fn lower(one: u64, other: u64) -> u64
     if other < one { other } else { one }
 }
 
-// The least of sixteen keys from a place on.
+// The least of sixteen keys from a place on. The two halves are looked through side by side, so that neither waits for the other.
 pub(crate) fn least_from(keys: &[u64], from: usize) -> u64
     requires { ⌜ from + 16 ≤ length (now keys) ⌝ }
     ensures { λ r. ⌜ LeastFrom (now (keys .entry)) from 16 r ⌝ }
 {
-    let mut least = keys[from];
+    let half = from + 8;
+    let mut one = keys[from];
+    let mut other = keys[half];
     let mut i = 1;
-    while i < 16 {
-        least = lower(least, keys[from + i]);
+    while i < 8 {
+        one = lower(one, keys[from + i]);
+        other = lower(other, keys[half + i]);
         i += 1;
     }
-    least
+    lower(one, other)
 }
 
 // Vertex v waits with this key, lower than what stood for it.
