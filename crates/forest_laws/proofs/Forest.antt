@@ -6,38 +6,26 @@ use mathlib.Core.Path.{_≡_}
 use mathlib.Core.Bool.{Bool, not}
 use mathlib.Core.List.{List, _++_}
 use mathlib.Core.Logic.{inl, _↔_}
-use native.Mathlib.Omega.{arith}
-use lib.Dec.{leb}
-use borrow.Author.Tests.{leb-true, le-leb}
 use Rattle.lists.specs.Lists.{filter, member, without}
 use Rattle.lists.specs.Member.{_∈_}
-use Rattle.lists.proofs.Member.{in-filter, of-filter}
-use Rattle.lists.proofs.InOrder.{InOrder, Once}
+use Rattle.lists.proofs.InOrder.{Once}
 use Rattle.graph.specs.Graph.{Graph, edgeCount, oneEnd, otherEnd, weightOf}
 use Rattle.rules.specs.Walk.{Linked, totalWeight}
 use Rattle.rules.specs.Labels.{Labels, apart, together, mergeAll}
-use Rattle.rules.specs.Order.{ordered, light}
-use Rattle.rules.specs.Forest.{keep, forest, labelsAt}
+use Rattle.rules.specs.Order.{light}
+use Rattle.rules.specs.Forest.{forest, labelsAt}
 use Rattle.forest_laws.proofs.Merging.{JoinsEnds, _⊑_, JoinsAll}
 use Rattle.forest_laws.proofs.Walks.{merged-is-linked}
 use Rattle.forest_laws.proofs.Roots.{Reached, LinkedOrReached, together-is-linked, root-is-reached}
-use Rattle.forest_laws.proofs.Keeping.{kept-subset, kept-once, kept-in-order, kept-merges}
+use Rattle.forest_laws.proofs.Keeping.{kept-subset, kept-once, kept-merges}
 use Rattle.forest_laws.proofs.Lightest.{kept-lightest}
 use Rattle.forest_laws.proofs.Replacing.{kept-replaced, kept-replaced-by}
-use Rattle.forest_laws.proofs.Loops.{kept-apart, kept-no-loop, kept-whole}
-use Rattle.forest_laws.proofs.Ordering.{Precedes}
-use Rattle.forest_laws.proofs.Limit.{in-light, of-light, light-in-order, light-by-weight, forest-within}
+use Rattle.forest_laws.proofs.Loops.{kept-apart, kept-no-loop}
+use Rattle.forest_laws.proofs.Limit.{in-light, of-light, light-by-weight}
 
 -- each edge of the list is an edge of the graph and weighs at most the limit
 abbrev pub Within : Graph → ℕ → List ℕ → Type 0
 Within g limit E = (e : ℕ) → e ∈ E → (e < edgeCount g) × (weightOf g e ≤ limit)
-
--- a larger limit keeps the forest's edges
-pub forest-grows : (g : Graph) (P : Labels) {limit more e : ℕ} → limit ≤ more → e ∈ forest g P limit → e ∈ forest g P more
-forest-grows g P {limit} {more} {e} h m =
-    let r = of-filter (λ f. leb (weightOf g f) limit) (keep g P (ordered g)) (rw (forest-within g P limit) at m) in
-    let w = leb-true (weightOf g e) limit (r .1) in
-    rw (forest-within g P more) (in-filter (λ f. leb (weightOf g f) more) (r .0) (le-leb (weightOf g e) more (omega arith)))
 
 module _ (g : Graph) (P : Labels) (limit : ℕ) where
   -- its edges are light
@@ -50,19 +38,10 @@ module _ (g : Graph) (P : Labels) (limit : ℕ) where
   unfolding forest
   forest-once = kept-once g P (light g limit)
 
-  pub forest-in-order : InOrder (Precedes g) (forest g P limit)
-  unfolding forest
-  forest-in-order = kept-in-order g P (light g limit) (light-in-order g limit)
-
   -- it makes the labels of all light edges
   pub forest-merges : mergeAll g P (forest g P limit) ≡ labelsAt g P limit
   unfolding forest labelsAt
   forest-merges = kept-merges g P (light g limit)
-
-  -- its edges, taken again, are all kept
-  pub forest-whole : keep g P (forest g P limit) ≡ forest g P limit
-  unfolding forest
-  forest-whole = kept-whole g P (light g limit)
 
   -- its other edges neither join nor link the ends of one of them
   pub forest-apart : {e : ℕ} → e ∈ forest g P limit → JoinsEnds g (mergeAll g P (without e (forest g P limit))) e → ⊥

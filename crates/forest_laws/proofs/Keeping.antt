@@ -83,10 +83,6 @@ module _ (g : Graph) (P : Labels) (E : List ℕ) where
   pub kept-subset : {e : ℕ} → e ∈ keep g P E → e ∈ E
   kept-subset m = kept-in (kept g P E) m
 
-  -- their ends are apart at the start
-  pub kept-fresh : {e : ℕ} → e ∈ keep g P E → JoinsEnds g P e → ⊥
-  kept-fresh m = fresh (kept g P E) m
-
   -- each is kept once
   pub kept-once : Once (keep g P E)
   kept-once = once (kept g P E)

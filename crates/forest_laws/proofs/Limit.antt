@@ -12,14 +12,14 @@ use borrow.Author.Tests.{leb-true, le-leb}
 use Rattle.lists.specs.Lists.{filter}
 use Rattle.lists.specs.Member.{_∈_}
 use Rattle.lists.proofs.Member.{either, in-filter, of-filter}
-use Rattle.lists.proofs.InOrder.{InOrder, Once, first-before, rest-in-order, filter-in-order, in-order-weaken}
+use Rattle.lists.proofs.InOrder.{InOrder, first-before, rest-in-order, filter-in-order, in-order-weaken}
 use Rattle.lists.proofs.Filters.{filter-none}
 use Rattle.graph.specs.Graph.{Graph, edgeCount, weightOf}
 use Rattle.rules.specs.Labels.{Labels, mergeEdge}
 use Rattle.rules.specs.Order.{ordered, ByWeight, light}
 use Rattle.rules.specs.Forest.{keep, forest}
 use Rattle.forest_laws.proofs.Keeping.{Kept, nothing, skipped, taken, kept, is-kept, kept-in}
-use Rattle.forest_laws.proofs.Ordering.{Precedes, in-ordered, of-ordered, ordered-once, ordered-in-order, ordered-by-weight}
+use Rattle.forest_laws.proofs.Ordering.{in-ordered, of-ordered, ordered-by-weight}
 
 module _ (g : Graph) (limit : ℕ) where
   -- an edge of the graph is light exactly where its weight is at most the limit
@@ -30,15 +30,6 @@ module _ (g : Graph) (limit : ℕ) where
   pub of-light : {e : ℕ} → e ∈ light g limit → (e < edgeCount g) × (weightOf g e ≤ limit)
   unfolding light
   of-light {e} m = let r = of-filter (λ f. leb (weightOf g f) limit) (ordered g) m in (of-ordered g (r .0), leb-true (weightOf g e) limit (r .1))
-
-  -- the light edges stand there once each, by weight, then number
-  pub light-once : Once (light g limit)
-  unfolding light
-  light-once = filter-in-order (λ f. leb (weightOf g f) limit) (ordered-once g)
-
-  pub light-in-order : InOrder (Precedes g) (light g limit)
-  unfolding light
-  light-in-order = filter-in-order (λ f. leb (weightOf g f) limit) (ordered-in-order g)
 
   pub light-by-weight : ByWeight g (light g limit)
   unfolding light

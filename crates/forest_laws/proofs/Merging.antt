@@ -5,7 +5,7 @@ use Prim.Native.Nat.{ℕ}
 use mathlib.Core.Path.{_≡_, refl, sym, ap, _∙_, fun-ext}
 use mathlib.Core.Bool.{Bool, true, false, cond}
 use mathlib.Core.List.{List, [], _∷_, _++_, List·Memᴰ·head, List·Memᴰ·tail}
-use mathlib.Core.Logic.{_⊎_, inl, inr, Equivalence, _↔_}
+use mathlib.Core.Logic.{_⊎_, inl, inr, Equivalence}
 use lib.Dec.{eqb}
 use borrow.Author.Tests.{eqb-true, eq-eqb}
 use Rattle.lists.specs.Member.{_∈_}
@@ -140,8 +140,3 @@ module _ (g : Graph) where
   pub merged-monotone : (P Q : Labels) (E F : List ℕ) → P ⊑ Q → ((e : ℕ) → e ∈ E → e ∈ F) → mergeAll g P E ⊑ mergeAll g Q F
   merged-monotone P Q E F before sub =
       merged-finest P (mergeAll g Q F) E (⊑-trans before (merged-coarser Q F)) (λ e m. merged-joins Q F e (sub e m))
-
-  -- the order of the edges, and how often each is listed, makes no difference to what is joined
-  pub merged-any-order : (P : Labels) {E F : List ℕ} → ((e : ℕ) → e ∈ E → e ∈ F) → ((e : ℕ) → e ∈ F → e ∈ E) → (u v : ℕ)
-      → (mergeAll g P E u ≡ mergeAll g P E v) ↔ (mergeAll g P F u ≡ mergeAll g P F v)
-  merged-any-order P {E} {F} sub back u v = (merged-monotone P P E F (λ x y p. p) sub u v, merged-monotone P P F E (λ x y p. p) back u v)

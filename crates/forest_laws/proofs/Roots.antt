@@ -104,7 +104,3 @@ module _ (g : Graph) (roots E : List ℕ) where
       go : LinkedOrReached g roots E r v → Reached g roots E v
       go (inl l) = (r, m, l)
       go (inr (p, q)) = q
-
-  -- so it is with the label of the first root
-  pub head-is-reached : 1 ≤ length roots → (v : ℕ) → (mergeAll g (together roots) E (headD roots 0) ≡ mergeAll g (together roots) E v) ↔ Reached g roots E v
-  head-is-reached h v = root-is-reached (some-head roots h) v

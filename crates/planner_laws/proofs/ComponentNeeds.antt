@@ -3,20 +3,16 @@
 -- Assumes nothing.
 use Prim.Native.Nat.{ℕ, _+_, _*_, _/_}
 use mathlib.Core.Path.{_≡_, sym, ap, _∙_}
-use mathlib.Core.List.{List}
 use Rattle.lists.specs.Lists.{filter, sumOf}
 use Rattle.lists.specs.Member.{_∈_}
 use Rattle.lists.proofs.SumsAlike.{sum-same, sum-of-map}
 use Rattle.graph.specs.Graph.{Graph, oneEnd}
 use Rattle.rules.specs.Walk.{totalWeight}
-use Rattle.rules.specs.Labels.{apart, joined, mergeAll}
+use Rattle.rules.specs.Labels.{apart, joined}
 use Rattle.rules.specs.Forest.{forest, labelsAt, lowest}
 use Rattle.rules.specs.Grow.{Rooted}
 use Rattle.rules.specs.UnrootedTrial.{components, needs, needed}
-use Rattle.forest_laws.proofs.Merging.{merged-any-order}
-use Rattle.forest_laws.proofs.Forest.{forest-merges}
 use Rattle.split_laws.proofs.Whole.{EndsInside}
-use Rattle.split_laws.proofs.LowestSame.{joined-same, lowest-same}
 use Rattle.planner_laws.proofs.ComponentEdges.{labelEdges, component-roots, component-weight}
 
 -- What the component of the lowest vertex r needs: 1, and 1 for each 2 B that the forest's edges with its label weigh.
@@ -24,18 +20,6 @@ abbrev pub needsAt : Graph → ℕ → ℕ → ℕ
 needsAt g limit r = 1 + totalWeight g (labelEdges g limit r) / (2 * limit)
 
 module _ (g : Graph) (limit : ℕ) where
-  -- Merging along edges that are the forest's, in whatever order, joins what the labels at the limit join,
-  pub forest-joined : {E : List ℕ} → ((e : ℕ) → e ∈ E → e ∈ forest g apart limit) → ((e : ℕ) → e ∈ forest g apart limit → e ∈ E)
-      → (u v : ℕ) → joined (mergeAll g apart E) u v ≡ joined (labelsAt g apart limit) u v
-  forest-joined {E} sub back u v =
-      joined-same (mergeAll g apart E) (mergeAll g apart (forest g apart limit)) u v (merged-any-order g apart sub back u v)
-      ∙ ap (λ label. joined label u v) (forest-merges g apart limit)
-
-  -- so that the lowest vertices are the same.
-  pub forest-lowest : {E : List ℕ} → ((e : ℕ) → e ∈ E → e ∈ forest g apart limit) → ((e : ℕ) → e ∈ forest g apart limit → e ∈ E)
-      → lowest g (mergeAll g apart E) ≡ lowest g (labelsAt g apart limit)
-  forest-lowest {E} sub back = lowest-same g (mergeAll g apart E) (labelsAt g apart limit) (λ u v _ _. forest-joined sub back u v)
-
   module _ (ends : EndsInside g) where
     -- A component needs what the forest's edges with its root's label ask for.
     pub component-needs : {t : Rooted} → t ∈ components g limit → needs g limit t ≡ needsAt g limit (t .root)

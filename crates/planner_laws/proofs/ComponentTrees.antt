@@ -5,21 +5,14 @@ use Prim.Native.Nat.{ℕ, _*_}
 use mathlib.Core.Path.{_≡_, refl}
 use mathlib.Core.List.{List, [], _∷_, _++_, List·Memᴰ·head, List·Memᴰ·not-nil, List·Memᴰ·eq-of-singleton, Memᴰ·append-left, Memᴰ·append-right, List·Memᴰ·append-cases}
 use mathlib.Core.Logic.{_⊎_, inl, inr}
-use native.Mathlib.Omega.{arith}
-use Rattle.lists.specs.Lists.{sumOf}
 use Rattle.lists.specs.Member.{_∈_}
 use Rattle.lists.specs.Sort.{rise}
 use Rattle.lists.proofs.Member.{in-map, of-map}
-use Rattle.lists.proofs.Sums.{sum-append}
-use Rattle.lists.proofs.SumsAlike.{sum-of-map, sum-flat-map}
-use Rattle.lists.proofs.Sorting.{sum-rise}
 use Rattle.graph.specs.Graph.{Graph}
 use Rattle.rules.specs.Cover.{Tree}
-use Rattle.rules.specs.Grow.{Rooted, branchEdges}
+use Rattle.rules.specs.Grow.{Rooted}
 use Rattle.rules.specs.Split.{split}
 use Rattle.rules.specs.UnrootedTrial.{leftovers, fromLowest, componentTrees}
-use Rattle.rules.specs.CoverBytes.{entryEdges}
-use Rattle.split_laws.proofs.Exact.{split-sum}
 
 -- What is left at the root, as a tree.
 abbrev pub leftoverAt : ℕ → List ℕ → Tree
@@ -39,13 +32,6 @@ module _ (root : ℕ) where
   in-leftovers [] left = inl (List·Memᴰ·head refl)
   in-leftovers (p ∷ ps) [] = inr ((p, List·Memᴰ·head refl), refl)
   in-leftovers (p ∷ ps) (e ∷ es) = inl (List·Memᴰ·head refl)
-
-  -- The leftovers hold the edges that are left.
-  leftovers-sum : (f : ℕ → ℕ) (parts : List Tree) (left : List ℕ) → sumOf (λ (u : Tree). sumOf f (u .edges)) (leftovers root parts left) ≡ sumOf f left
-  unfolding leftovers sumOf
-  leftovers-sum f [] left = omega (arith, sum-rise f left)
-  leftovers-sum f (p ∷ ps) [] = refl
-  leftovers-sum f (p ∷ ps) (e ∷ es) = omega (arith, sum-rise f (e ∷ es))
 
 -- The parts of a component's tree, and the tree of what is left at its root.
 abbrev pub componentParts : Graph → ℕ → Rooted → List Tree
@@ -85,18 +71,3 @@ module _ (g : Graph) (limit : ℕ) (t : Rooted) where
       go : {p : Tree} → (p ∈ componentParts g limit t) ⊎ (p ∈ rest) → (p ∈ componentParts g limit t) ⊎ (p ≡ componentLeftover g limit t)
       go (inl i) = inl i
       go (inr i) = inr (of-leftovers (t .root) (componentParts g limit t) (split g (2 * limit) t .left) i)
-
-  -- Together they hold the edges of the component's tree.
-  pub component-trees-sum : (f : ℕ → ℕ) → sumOf (λ (u : Tree). sumOf f (u .edges)) (componentTrees g limit t) ≡ sumOf f (branchEdges (t .branches))
-  unfolding componentTrees split fromLowest entryEdges rest sumOf
-  component-trees-sum f =
-      let value : Tree → ℕ = λ u. sumOf f (u .edges) in
-      let parts = componentParts g limit t in
-      omega (
-        arith,
-        sum-of-map value (fromLowest g) (parts ++ rest),
-        sum-append value parts rest,
-        leftovers-sum (t .root) f parts (split g (2 * limit) t .left),
-        sum-flat-map f (λ (u : Tree). u .edges) parts,
-        split-sum g (2 * limit) (t .root) [] (t .branches) f,
-      )

@@ -35,7 +35,7 @@ pub mod UnrootedTooLow
 -- Unrooted, accepted:
 -- the trees of a component, and that they hold its edges
 pub mod ComponentTrees
--- how many trees and edges the answer has
+-- how many trees the answer has
 pub mod UnrootedNumber
 -- a tree may start at its lowest vertex
 pub mod UnrootedStart

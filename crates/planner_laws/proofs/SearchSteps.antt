@@ -38,10 +38,6 @@ module _ (accepted : ℕ → Bool) where
   pub step-halves : (b : Bounds) (half : ℕ) → 1 < width b → width b ≤ half + half → width (narrowed accepted b) ≤ half
   step-halves b half more most = step-cases (λ c. width c ≤ half) b (λ _. omega arith) (λ _. omega arith)
 
-  -- So it leaves less.
-  pub step-narrows : (b : Bounds) → 1 < width b → width (narrowed accepted b) < width b
-  step-narrows b more = step-cases (λ c. width c < width b) b (λ _. omega arith) (λ _. omega arith)
-
   -- It keeps low refused and high accepted.
   pub step-between : {b : Bounds} → 1 < width b → Between accepted b → Between accepted (narrowed accepted b)
   step-between {b} more s =
@@ -93,13 +89,6 @@ module _ (accepted : ℕ → Bool) where
       (λ few. search-stops (suc more) b few ∙ sym (search-stops (suc fuel) b few))
       (λ wide. let half = step-halves b (2 ^ fuel) wide (omega (arith, two-pow-succ fuel)) in
       search-steps more b wide ∙ search-same fuel more (narrowed accepted b) half (omega arith) ∙ sym (search-steps fuel b wide))
-
-  -- So with steps enough a search that has taken one step ends where it would have ended: what a loop keeps.
-  pub search-on : (fuel : ℕ) (b : Bounds) → width b ≤ 2 ^ fuel → 1 < width b → searched accepted fuel (narrowed accepted b) ≡ searched accepted fuel b
-  search-on zero b most more = absurd (omega arith)
-  search-on (suc fuel) b most more =
-      let half = step-halves b (2 ^ fuel) more (omega (arith, two-pow-succ fuel)) in
-      search-same fuel (suc fuel) (narrowed accepted b) half (omega arith) ∙ sym (search-steps fuel b more)
 
   -- So any two numbers of steps that are enough give the same bounds.
   pub search-any : (fuel other : ℕ) (b : Bounds) → width b ≤ 2 ^ fuel → width b ≤ 2 ^ other → searched accepted fuel b ≡ searched accepted other b

@@ -37,11 +37,6 @@ unfolding u16List u16Bytes flat
 fields-append [] ys = refl
 fields-append (x ∷ xs) ys = ap (λ l. x % 256 ∷ x / 256 % 256 ∷ l) (fields-append xs ys)
 
--- One field more behind fields.
-pub fields-more : (xs : List ℕ) (x : ℕ) → u16List (xs ++ (x ∷ [])) ≡ u16List xs ++ u16Bytes x
-unfolding u16List u16Bytes flat
-fields-more xs x = fields-append xs (x ∷ [])
-
 -- Fields are two bytes each.
 pub fields-length : (xs : List ℕ) → length (u16List xs) ≡ 2 * length xs
 unfolding u16List u16Bytes flat
