@@ -1,35 +1,40 @@
 //! Min-max tree covers of a graph, from the proved static library `planner_c`: trials at a limit, the best limit, and the
 //! check of a filed cover. `include/planner.h` says what the bytes of a graph and of a cover are.
 
-extern "C" {
-    fn planner_trial(
-        kind: u32,
-        k: usize,
-        limit: u64,
-        graph: *const u8,
-        graph_length: usize,
-        values: *mut u64,
-        buffer: *mut u8,
-        buffer_length: usize,
-    ) -> u32;
-    fn planner_best(
-        kind: u32,
-        k: usize,
-        graph: *const u8,
-        graph_length: usize,
-        values: *mut u64,
-        buffer: *mut u8,
-        buffer_length: usize,
-    ) -> u32;
-    fn planner_check(
-        kind: u32,
-        k: usize,
-        graph: *const u8,
-        graph_length: usize,
-        cover: *const u8,
-        cover_length: usize,
-        values: *mut u64,
-    ) -> u32;
+use exported::{planner_best, planner_check, planner_trial};
+
+/// The functions of `include/planner.h` as they are, for callers that lend the memory themselves.
+pub mod exported {
+    extern "C" {
+        pub fn planner_trial(
+            kind: u32,
+            k: usize,
+            limit: u64,
+            graph: *const u8,
+            graph_length: usize,
+            values: *mut u64,
+            buffer: *mut u8,
+            buffer_length: usize,
+        ) -> u32;
+        pub fn planner_best(
+            kind: u32,
+            k: usize,
+            graph: *const u8,
+            graph_length: usize,
+            values: *mut u64,
+            buffer: *mut u8,
+            buffer_length: usize,
+        ) -> u32;
+        pub fn planner_check(
+            kind: u32,
+            k: usize,
+            graph: *const u8,
+            graph_length: usize,
+            cover: *const u8,
+            cover_length: usize,
+            values: *mut u64,
+        ) -> u32;
+    }
 }
 
 /// The least length of a buffer in bytes: room for any cover.

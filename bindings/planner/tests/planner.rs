@@ -1,6 +1,7 @@
 //! The linked library against `reference/`, an implementation that shares no code with it, on some thousand made questions,
 //! damaged ones included: every answer, every value, every byte of the buffer and around it.
 
+use planner::exported::{planner_best, planner_check, planner_trial};
 use planner::{best, check, trial, Kind, Reply, BUFFER};
 use reference::districts::{self, Asked};
 use reference::graph::sheet;
@@ -9,37 +10,6 @@ use reference::made_filings::filings;
 use reference::made_trials;
 use reference::question::{Answer, Kind as Crews};
 use reference::random::Random;
-
-extern "C" {
-    fn planner_trial(
-        kind: u32,
-        k: usize,
-        limit: u64,
-        graph: *const u8,
-        graph_length: usize,
-        values: *mut u64,
-        buffer: *mut u8,
-        buffer_length: usize,
-    ) -> u32;
-    fn planner_best(
-        kind: u32,
-        k: usize,
-        graph: *const u8,
-        graph_length: usize,
-        values: *mut u64,
-        buffer: *mut u8,
-        buffer_length: usize,
-    ) -> u32;
-    fn planner_check(
-        kind: u32,
-        k: usize,
-        graph: *const u8,
-        graph_length: usize,
-        cover: *const u8,
-        cover_length: usize,
-        values: *mut u64,
-    ) -> u32;
-}
 
 /// How many bytes, or numbers, stand on either side of what is lent.
 const GUARD: usize = 64;
