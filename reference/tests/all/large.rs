@@ -1,8 +1,6 @@
 //! Graphs of the largest size: covers within four times the limit, judged, and damage found.
 
-mod common;
-
-use common::{buffer, BOTH};
+use crate::common::{buffer, BOTH};
 use reference::best::best;
 use reference::check::check;
 use reference::cover::{decode, encode, filed_length, gather, heaviest};

@@ -1,8 +1,6 @@
 //! Every row of the list of small districts, and the printed example of sheet N.
 
-mod common;
-
-use common::{buffer, buffer_of, filing, graph_n, input, question, sheet_n, BOTH, N};
+use crate::common::{buffer, buffer_of, filing, graph_n, input, question, sheet_n, BOTH, N};
 use reference::best::best;
 use reference::check::check;
 use reference::cover::{encode, Tree};

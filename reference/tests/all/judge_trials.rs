@@ -1,11 +1,9 @@
 //! Replies in full to the made trials: this package's own and another planner's pass, wrong ones do not.
 
-mod common;
-
 use std::sync::OnceLock;
 
-use common::other::other_reply;
-use common::sheet_n;
+use crate::common::other::other_reply;
+use crate::common::sheet_n;
 use reference::judge_trials::{decode, encode, judge_all, judge_reply, own_reply, Full};
 use reference::made_graphs::Record;
 use reference::made_trials::records;

@@ -1,12 +1,10 @@
 //! The made trials and the text of their replies, against the files of the program `made_trials`, and how much they meet.
 
-mod common;
-
 use std::collections::{BTreeMap, HashSet};
 use std::path::PathBuf;
 use std::sync::OnceLock;
 
-use common::{sheet_n, BOTH};
+use crate::common::{sheet_n, BOTH};
 use reference::assignment::{assign, Assigned};
 use reference::distance::{closest, from_roots};
 use reference::forest::{rooted, unrooted};

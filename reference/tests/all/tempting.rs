@@ -1,8 +1,6 @@
 //! Graphs on which a tempting mistake would show, worked out by hand.
 
-mod common;
-
-use common::{input, N};
+use crate::common::{input, N};
 use reference::graph::sheet;
 use reference::judge_text::{judge, Verdict};
 use reference::made_shapes::{CHAIN, CROWD, HALVES, LOOP};

@@ -1,9 +1,7 @@
 //! The judge says yes to every allowed reply and no to every other: all choices tried one by one.
 
-mod common;
-
-use common::replies::{all_replies, Written};
-use common::{buffer, input, sheet_n};
+use crate::common::replies::{all_replies, Written};
+use crate::common::{buffer, input, sheet_n};
 use reference::cover::{decode, encode, gather, heaviest, Tree};
 use reference::graph::Graph;
 use reference::judge::{self, Reply};

@@ -1,8 +1,6 @@
 //! Every refusal number at each of its causes, the order among them, and lent bytes left alone.
 
-mod common;
-
-use common::{buffer, buffer_of, filing, input, question, sheet_n, BOTH, N};
+use crate::common::{buffer, buffer_of, filing, input, question, sheet_n, BOTH, N};
 use reference::assignment::{assign, judge, Assigned};
 use reference::best::best;
 use reference::check::check;

@@ -1,15 +1,13 @@
 //! The records of the program `districts` and their text, against its files and against every allowed reply; and the
 //! judging of its replies in full: right ones pass, wrong ones do not.
 
-mod common;
-
 use std::collections::{BTreeMap, BTreeSet};
 use std::path::PathBuf;
 use std::sync::OnceLock;
 
-use common::other::other_reply;
-use common::replies::all_replies;
-use common::{sheet_n, BOTH};
+use crate::common::other::other_reply;
+use crate::common::replies::all_replies;
+use crate::common::{sheet_n, BOTH};
 use reference::best;
 use reference::districts::{encode, records, small_districts, text, Asked, Record};
 use reference::fixed::is_fixed;

@@ -1,8 +1,6 @@
 //! The assignment alone against a search of all assignments, and its judge against wrong replies.
 
-mod common;
-
-use common::buffer_of;
+use crate::common::buffer_of;
 use reference::assignment::{assign, exists_by_trying_all, judge, Assigned};
 use reference::random::Random;
 

@@ -1,8 +1,6 @@
 //! Trials and best limits against a search of every cover, on small random graphs.
 
-mod common;
-
-use common::{buffer, filing, is_too_low, BOTH};
+use crate::common::{buffer, filing, is_too_low, BOTH};
 use reference::best::best;
 use reference::check::check;
 use reference::cover::filed_length;

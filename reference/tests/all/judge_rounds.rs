@@ -1,12 +1,10 @@
 //! Judging a program by its answers to made questions: right programs pass, wrong ones do not.
 
-mod common;
-
 use std::io::Result;
 use std::path::Path;
 
-use common::other::other_rounds;
-use common::{input, sheet_n};
+use crate::common::other::other_rounds;
+use crate::common::{input, sheet_n};
 use reference::best::search;
 use reference::bytes::{put_two, two};
 use reference::graph::{read, Graph};
@@ -126,7 +124,7 @@ fn searched(input: &[u8], other: Search) -> String {
     let graph = read(asked.sheet).expect("an answered sheet");
     let k = asked.k as usize;
     let number = if asked.kind == Kind::Rooted { 1 } else { 2 };
-    rounds(&common::input(number, k, other(asked.kind, &graph, k), asked.sheet))
+    rounds(&crate::common::input(number, k, other(asked.kind, &graph, k), asked.sheet))
 }
 
 /// The search, with another middle between two limits.

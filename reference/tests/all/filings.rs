@@ -1,8 +1,6 @@
 //! The check of filed covers against a second reading of its rules, on thousands of random filings.
 
-mod common;
-
-use common::{filing, BOTH};
+use crate::common::{filing, BOTH};
 use reference::check::check;
 use reference::graph::Graph;
 use reference::question::Kind;

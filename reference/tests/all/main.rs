@@ -1,0 +1,20 @@
+//! All tests in one program, so that they are built once.
+
+mod assignments;
+mod common;
+mod districts;
+mod filings;
+mod forests;
+mod judge_rounds;
+mod judge_trials;
+mod judging;
+mod large;
+mod made_filings;
+mod made_forests;
+mod made_questions;
+mod made_trials;
+mod optimum;
+mod refusals;
+mod small_districts;
+mod tempting;
+mod written;
