@@ -1,7 +1,6 @@
 // The answer of a trial by crews without roots (document 01, a "roving" trial, step 7), and the decisions that the best limit asks: all from the
 // whole forest and the history of its merges, which are prepared once a question.
 use crate::history::needed_by_history;
-use crate::needs::component_roots;
 use crate::unrooted::unrooted_trees;
 use pieces::reply::Reply;
 use pieces::whole::light_forest;
@@ -66,11 +65,10 @@ pub fn accepts_unrooted(
     at_limit(b, limit, kept, total, until).trees <= k as u64
 }
 
-// Whether no cover exists at all: there are "more components than k". The whole forest's edges join what all edges do.
+// Whether no cover exists at all: there are "more components than k". Each edge of the whole forest leaves one component fewer than the vertices are.
 pub fn no_cover_unrooted(b: &[u8], k: usize, kept: &[u16]) -> bool
     requires { ⌜ ForestKept (now b) (now kept) ⌝ }
     ensures { λ r. ⌜ r ≡ noCover (graphOf (now (b .entry))) (unrooted k) ⌝ }
 {
-    let mut roots = [0u16; 256];
-    k < component_roots(b, kept, &mut roots)
+    k < graph::vertex_count(b) - kept.len()
 }
