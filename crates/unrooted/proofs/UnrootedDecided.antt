@@ -2,6 +2,7 @@
 -- Assumes nothing.
 use Prim.Native.Nat.{ℕ, _-_, _≤_, _<_}
 use mathlib.Core.Path.{_≡_, refl, sym, ap, ap₂, _∙_}
+use mathlib.Core.Bool.{false}
 use mathlib.Core.List.{List, [], _∷_, _++_}
 use native.Mathlib.Nat.{zero-add}
 use lib.ListN.{length, drop}
@@ -43,6 +44,9 @@ module _ (g : Graph) (k limit : ℕ) {C : ℕ} (sum : C ≡ needed g limit) wher
   pub decided : leb C k ≡ accepts g (unrooted k) limit
   unfolding accepts
   decided = ap (λ n. leb n k) sum
+
+  pub refused : k < C → false ≡ accepts g (unrooted k) limit
+  refused h = sym (lt-leb C k h) ∙ decided
 
   -- There is nothing to choose.
   nothing : Choices

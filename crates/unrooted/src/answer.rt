@@ -50,7 +50,8 @@ pub fn answer_unrooted(
     Reply::Cover(limit, w.heaviest, w.trees)
 }
 
-// Whether the limit is accepted. Nothing is split or written for this.
+// Whether the limit is accepted. Nothing is split or written for this. Each component needs a tree, so the history is not read where there are more
+// components than crews.
 pub fn accepts_unrooted(
     b: &[u8],
     k: usize,
@@ -62,7 +63,12 @@ pub fn accepts_unrooted(
     requires { ⌜ HistoryReady (now b) (now kept) (now total) (now until) ⌝ }
     ensures { λ r. ⌜ r ≡ accepts (graphOf (now (b .entry))) (unrooted k) limit ⌝ }
 {
-    at_limit(b, limit, kept, total, until).trees <= k as u64
+    let n = graph::vertex_count(b);
+    let light = light_forest(b, kept, limit);
+    if k < n - light {
+        return false;
+    }
+    needed_by_history(n, total, until, light, limit) <= k as u64
 }
 
 // Whether no cover exists at all: there are "more components than k". Each edge of the whole forest leaves one component fewer than the vertices are.
