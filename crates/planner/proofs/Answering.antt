@@ -35,13 +35,13 @@ use Rattle.pieces.specs.Replies.{Answers}
 use Rattle.planner.specs.declared.ask.Asked.{Asked}
 use Rattle.planner.specs.declared.ask.Asked.the-variants.{At, Best}
 use Rattle.planner.specs.Crews.{crewsWith}
-use Rattle.planner.specs.Asking.{Answered, QuestionAsked, CrewsAsked}
+use Rattle.planner.specs.Asking.{Answered, RootedAsked, UnrootedAsked, CrewsAsked}
 
 -- Good choices exist for crews of either kind.
-pub choices-for : {g : Graph} → Valid g → (kind : Kind) (k : ℕ) (roots : List ℕ) → ((j : ℕ) → j < length roots → getD roots j 0 < g .vertices) → (limit : ℕ)
-    → (c : Choices) × GoodFor g (crewsWith kind k roots) limit c
+pub choices-for : {g : Graph} → Valid g → (kind : Kind) (k : ℕ) (roots : List ℕ) → (kind ≡ Rooted → (j : ℕ) → j < length roots → getD roots j 0 < g .vertices)
+    → (limit : ℕ) → (c : Choices) × GoodFor g (crewsWith kind k roots) limit c
 choices-for {g} valid Rooted k roots inside limit =
-    some-choices valid roots (λ r m. let (j, h, q) = place-of 0 m in rw (sym q) (inside j h)) limit
+    some-choices valid roots (λ r m. let (j, h, q) = place-of 0 m in rw (sym q) (inside refl j h)) limit
 choices-for valid Unrooted k roots inside limit = (record { assignment = []; paths = []; marks = [] }, tt)
 
 -- A trial's answer is that of the question which asks for it.
@@ -73,49 +73,34 @@ crews-few Rooted k n e = omega (arith, length-below k, few-of (length (below k))
 crews-few Unrooted k n e = ltb-false 32 k (first-false (ltb 32 k) false (second-false (ltb k 1) (ltb 32 k || false) (quiet-if (ltb k 1 || (ltb 32 k || false)) 21 e)))
 
 -- with the roots 0 to k - 1, all of them vertices,
-with-roots : {k room : ℕ} {b : List ℕ} {asked : Asked} → CrewsAsked Rooted k b asked room → QuestionAsked Rooted k b (below k) asked room
-with-roots {k} {room} {b} a =
-    let few = crews-few Rooted k (graphOf b .vertices) (a .crews-right) in
-    let (some, inside) = rooted-fit (graphOf b) k (a .crews-right) in
-    record {
-      graph = a .graph;
-      roots-inside = λ j h. inside (getD (below k) j 0) (at-place 0 (below k) j h);
-      roots-few = omega (arith, length-below k);
-      roots-fit = some;
-      crews-few = few;
-      limit-fits = a .limit-fits;
-      room-most = a .room-most;
-    }
+module _ {kind : Kind} {k room : ℕ} {b : List ℕ} {asked : Asked} (a : CrewsAsked kind k b asked room) where
+  pub rooted-asked : {roots : List ℕ} → kind ≡ Rooted → roots ≡ below k → RootedAsked b roots asked room
+  rooted-asked {roots} q r =
+      let (same, are) : (kind ≡ Rooted) × (roots ≡ below k) = (q, r) in
+      let right : crewFault (crewsOf Rooted k) (graphOf b .vertices) ≡ none = rw same at (a .crews-right) in
+      let (some, inside) = rooted-fit (graphOf b) k right in
+      record {
+        given =
+            record {
+              graph = a .graph;
+              inside = rw are (λ j h. inside (getD (below k) j 0) (at-place 0 (below k) j h));
+              some = rw are some;
+              few = rw are (omega (arith, length-below k, crews-few Rooted k (graphOf b .vertices) right));
+            };
+        limit-fits = a .limit-fits;
+        room-most = a .room-most;
+      }
 
--- or without.
-without-roots : {k room : ℕ} {b : List ℕ} {asked : Asked} → CrewsAsked Unrooted k b asked room → QuestionAsked Unrooted k b [] asked room
-without-roots {k} {room} {b} a =
-    record {
-      graph = a .graph;
-      roots-inside = λ j h. absurd (omega arith);
-      roots-few = omega arith;
-      roots-fit = refl;
-      crews-few = crews-few Unrooted k (graphOf b .vertices) (a .crews-right);
-      limit-fits = a .limit-fits;
-      room-most = a .room-most;
-    }
-
--- The same where the kind is known by an equation.
-module _ {kind : Kind} {k room : ℕ} {b roots : List ℕ} {asked : Asked} (a : CrewsAsked kind k b asked room) where
-  pub rooted-asked : kind ≡ Rooted → roots ≡ below k → QuestionAsked kind k b roots asked room
-  rooted-asked q r = let (same, are) : (kind ≡ Rooted) × (roots ≡ below k) = (q, r) in rw (same, are) (with-roots (rw same at a))
-
-  pub unrooted-asked : kind ≡ Unrooted → roots ≡ [] → QuestionAsked kind k b roots asked room
-  unrooted-asked q r = let (same, are) : (kind ≡ Unrooted) × (roots ≡ []) = (q, r) in rw (same, are) (without-roots (rw same at a))
+  -- or without.
+  pub unrooted-asked : UnrootedAsked k b asked room
+  unrooted-asked =
+      record { graph = a .graph; crews-few = crews-few kind k (graphOf b .vertices) (a .crews-right); limit-fits = a .limit-fits; room-most = a .room-most }
 
 -- The crews of the question are those of the rules.
-pub rooted-crews : (kind : Kind) (k : ℕ) {roots : List ℕ} → kind ≡ Rooted → roots ≡ below k → crewsWith kind k roots ≡ crewsOf kind k
-rooted-crews Rooted k q r = ap cover.rooted r
-rooted-crews Unrooted k q r = refl
+module _ {kind : Kind} (k : ℕ) {asked : Asked} {g : Graph} {before after : List ℕ} {r : Reply} where
+  pub rooted-answered : {roots : List ℕ} → kind ≡ Rooted → roots ≡ below k → Answered asked g (cover.rooted roots) before after r
+      → Answered asked g (crewsOf kind k) before after r
+  rooted-answered {roots} q are a = let (same, is) : (kind ≡ Rooted) × (roots ≡ below k) = (q, are) in rw same (rw is at a)
 
-pub unrooted-crews : (kind : Kind) (k : ℕ) (roots : List ℕ) → kind ≡ Unrooted → crewsWith kind k roots ≡ crewsOf kind k
-unrooted-crews kind k roots q = let same : kind ≡ Unrooted = q in rw same refl
-
-pub answered-by : {asked : Asked} {g : Graph} {crews others : cover.Crews} {before after : List ℕ} {r : Reply} → crews ≡ others → Answered asked g crews before after r
-    → Answered asked g others before after r
-answered-by {crews = crews} {others = others} q a = let same : crews ≡ others = q in rw same at a
+  pub unrooted-answered : kind ≡ Unrooted → Answered asked g (cover.unrooted k) before after r → Answered asked g (crewsOf kind k) before after r
+  unrooted-answered q a = let same : kind ≡ Unrooted = q in rw same a

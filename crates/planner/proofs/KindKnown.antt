@@ -1,68 +1,73 @@
 -- What is asked of crews of either kind, where the kind is known.
 -- Assumes nothing.
 use Prim.Native.Nat.{ℕ, _≤_}
-use mathlib.Core.Path.{_≡_, _∙_, ap}
+use mathlib.Core.Path.{_≡_, refl}
 use mathlib.Core.List.{List, []}
 use native.Mathlib.Omega.{arith}
 use lib.ListN.{length}
-use Rattle.graph.specs.Graph.{Graph}
 use Rattle.graph.specs.Bytes.{graphOf}
 use Rattle.rules.specs.Order.{ordered}
-use Rattle.rules.specs.Labels.{together}
-use Rattle.rules.specs.Forest.{keep}
 use Rattle.cover.specs.declared.crews.Kind.{Kind}
 use Rattle.cover.specs.declared.crews.Kind.the-variants.{Rooted, Unrooted}
+use Rattle.rooted.specs.Prepared.{Decidable, Prepared}
 use Rattle.rooted.specs.Decide as rooted
 use Rattle.rooted.specs.Answer as rooted-answer
-use Rattle.unrooted.specs.Needs.{ForestKept}
 use Rattle.unrooted.specs.Answer as unrooted
-use Rattle.planner.specs.Crews.{RootsFit, HistoryFor, DecisionAsked}
-use Rattle.planner.specs.Asking.{ForestReady, LimitAsked}
+use Rattle.planner.specs.Crews.{RootsGiven, CrewsReady, DecisionAsked}
+use Rattle.planner.specs.Asking.{ForestReady, AnswerAsked, LimitAsked}
 
-module _ {kind : Kind} (roots : List ℕ) (fit : RootsFit kind roots) where
-  roots-some : kind ≡ Rooted → 1 ≤ length roots
-  roots-some q = let same : kind ≡ Rooted = q in rw same at fit
+-- Crews are of one kind only.
+one-kind : {kind : Kind} → kind ≡ Rooted → kind ≡ Unrooted → ⊥
+one-kind {kind} p q = let z : _≡_ {A = ℕ} 0 1 = cc in omega arith
 
-  -- The whole forest is that without roots.
-  without-roots : (b : List ℕ) {kept : List ℕ} → kind ≡ Unrooted → kept ≡ keep (graphOf b) (together roots) (ordered (graphOf b))
-      → kept ≡ keep (graphOf b) (together []) (ordered (graphOf b))
-  without-roots b q forest =
-      let same : kind ≡ Unrooted = q in
-      let none : roots ≡ [] = rw same at fit in
-      forest ∙ ap (λ r. keep (graphOf b) (together r) (ordered (graphOf b))) none
+-- Everything is ready, for crews with roots,
+pub rooted-ready : {k room : ℕ} {b roots order kept bounds arcs table lasts : List ℕ} → RootsGiven b roots → Prepared b roots order kept bounds arcs table lasts
+    → k ≤ 32 → 32708 ≤ room → AnswerAsked Rooted k b roots order kept bounds arcs table lasts [] [] room
+rooted-ready given p few most =
+    record {
+      ready = record { graph = given .graph; roots-some = λ _. given .some; decidable = λ _. p .decidable; history = λ q. absurd (one-kind refl q) };
+      in-order = p .in-order;
+      last-edges = λ _. p .last-edges;
+      crews-few = few;
+      room-most = most;
+    }
+
+-- and for crews without.
+pub unrooted-ready : {k room : ℕ} {b order kept total until : List ℕ} → order ≡ ordered (graphOf b) → unrooted.HistoryReady b kept total until → k ≤ 32 → 32708 ≤ room
+    → AnswerAsked Unrooted k b [] order kept [] [] [] [] total until room
+unrooted-ready in-order h few most =
+    record {
+      ready =
+          record {
+            graph = h .forest-kept .graph;
+            roots-some = λ q. absurd (one-kind q refl);
+            decidable = λ q. absurd (one-kind q refl);
+            history = λ _. h;
+          };
+      in-order = in-order;
+      last-edges = λ q. absurd (one-kind q refl);
+      crews-few = few;
+      room-most = most;
+    }
 
 -- Whether no cover exists.
-module _ {kind : Kind} {b roots kept : List ℕ} (a : ForestReady kind b roots kept) where
-  pub rooted-forest : kind ≡ Rooted → rooted.NoCoverAsked b roots kept
-  rooted-forest q = record { graph = a .graph; roots-inside = a .roots-inside; roots-some = roots-some roots (a .roots-fit) q; forest = a .forest }
-
-  pub unrooted-forest : kind ≡ Unrooted → ForestKept b kept
-  unrooted-forest q = record { graph = a .graph; forest-is = without-roots roots (a .roots-fit) b q (a .forest) }
-
--- The history of merges, which crews with roots do not read.
-pub rooted-history : {kind : Kind} {g : Graph} {kept total until : List ℕ} → kind ≡ Rooted → HistoryFor kind g kept total until
-rooted-history {kind} r = record { is = λ u. absurd (both r u) }
-  where
-    both : kind ≡ Rooted → kind ≡ Unrooted → ⊥
-    both p q = let z : _≡_ {A = ℕ} 0 1 = cc in omega arith
+pub forest-ready : {kind : Kind} {b roots kept bounds arcs table total until : List ℕ} → CrewsReady kind b roots kept bounds arcs table total until
+    → ForestReady kind b roots kept
+forest-ready r =
+    record {
+      with-roots = λ q. let d = r .decidable q in record { graph = d .graph; roots-inside = d .roots-inside; roots-some = r .roots-some q; forest = d .forest };
+      without = λ q. r .history q .forest-kept;
+    }
 
 -- A decision at a limit.
-module _ {kind : Kind} {k limit : ℕ} {b roots kept bounds arcs table total until : List ℕ}
-    (a : DecisionAsked kind k b roots limit kept bounds arcs table total until) where
-  pub rooted-decision : kind ≡ Rooted → rooted.DecisionAsked b roots limit kept bounds arcs table
-  rooted-decision q =
-      let same : kind ≡ Rooted = q in
-      record {
-        asked = record { decidable = a .crews .decidable; roots-some = roots-some roots (a .crews .roots-fit) q; limit-most = a .limit-most };
-        some-cover = rw same at (a .crews .some-cover);
-      }
-
-  pub unrooted-decision : kind ≡ Unrooted → unrooted.HistoryReady b kept total until
-  unrooted-decision q =
-      record {
-        forest-kept = record { graph = a .crews .decidable .graph; forest-is = without-roots roots (a .crews .roots-fit) b q (a .crews .decidable .forest) };
-        history = a .crews .history .is q;
-      }
+pub rooted-decision : {kind : Kind} {k limit : ℕ} {b roots kept bounds arcs table total until : List ℕ}
+    → DecisionAsked kind k b roots limit kept bounds arcs table total until → kind ≡ Rooted → rooted.DecisionAsked b roots limit kept bounds arcs table
+rooted-decision {kind} a q =
+    let same : kind ≡ Rooted = q in
+    record {
+      asked = record { decidable = a .crews .ready .decidable q; roots-some = a .crews .ready .roots-some q; limit-most = a .limit-most };
+      some-cover = rw same at (a .crews .some-cover);
+    }
 
 -- An answer at a limit.
 module _ {kind : Kind} {k limit room : ℕ} {b roots order kept bounds arcs table lasts total until : List ℕ}
@@ -70,22 +75,12 @@ module _ {kind : Kind} {k limit room : ℕ} {b roots order kept bounds arcs tabl
   pub rooted-answer-asked : kind ≡ Rooted → rooted-answer.AnswerAsked b roots limit order kept bounds arcs table lasts room
   rooted-answer-asked q =
       record {
-        prepared = a .answer .prepared;
-        roots-some = roots-some roots (a .answer .roots-fit) q;
+        prepared = record { decidable = a .answer .ready .decidable q; in-order = a .answer .in-order; last-edges = a .answer .last-edges q };
+        roots-some = a .answer .ready .roots-some q;
         limit-most = a .limit-most;
         most = a .answer .room-most;
       }
 
   pub unrooted-answer-asked : kind ≡ Unrooted → unrooted.UnrootedAsked b k limit kept total until room
   unrooted-answer-asked q =
-      let d = a .answer .prepared .decidable in
-      record {
-        ready =
-            record {
-              forest-kept = record { graph = d .graph; forest-is = without-roots roots (a .answer .roots-fit) b q (d .forest) };
-              history = a .answer .history .is q;
-            };
-        crews-few = a .answer .crews-few;
-        small = a .limit-most;
-        enough = a .answer .room-most;
-      }
+      record { ready = a .answer .ready .history q; crews-few = a .answer .crews-few; small = a .limit-most; enough = a .answer .room-most }

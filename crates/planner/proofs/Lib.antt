@@ -1,6 +1,4 @@
 -- Laws that belong to no one function, in reading order.
--- what was prepared is what the trials stand on
-pub mod Ready
 -- the search, trial by trial, and the sum at which it begins
 pub mod SearchLoop
 -- what is asked of crews of either kind, where the kind is known

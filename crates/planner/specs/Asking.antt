@@ -1,17 +1,15 @@
 -- A question about a graph that passed its check: a trial at a limit, or the best limit; and what is asked of each step that answers it.
 -- Assumes nothing.
-use Prim.Native.Nat.{ℕ, _≤_, _<_}
+use Prim.Native.Nat.{ℕ, _≤_}
 use mathlib.Core.Path.{_≡_}
 use mathlib.Core.List.{List}
 use mathlib.Core.Option.{none}
-use lib.ListN.{length, getD}
-use Rattle.graph.specs.Graph.{Graph}
+use lib.ListN.{length}
+use Rattle.graph.specs.Graph.{Graph, edgeCount}
 use Rattle.graph.specs.Bytes.{graphOf}
 use Rattle.graph.specs.Valid.{IsGraph}
 use Rattle.rules.specs.Cover as cover
 use Rattle.rules.specs.Order.{ordered}
-use Rattle.rules.specs.Labels.{together}
-use Rattle.rules.specs.Forest.{keep}
 use Rattle.rules.specs.Reply as rules
 use Rattle.rules.specs.RootedTrial.{Choices}
 use Rattle.rules.specs.Search.{trial, bestLimit, best}
@@ -19,12 +17,16 @@ use Rattle.rules.specs.Fit.{GoodFor}
 use Rattle.rules.specs.Questions.{crewFault}
 use Rattle.cover.specs.Crews.{crewsOf}
 use Rattle.cover.specs.declared.crews.Kind.{Kind}
+use Rattle.cover.specs.declared.crews.Kind.the-variants.{Rooted, Unrooted}
 use Rattle.pieces.specs.declared.reply.Reply.{Reply}
 use Rattle.pieces.specs.Replies.{Replied}
-use Rattle.rooted.specs.Prepared.{Prepared}
+use Rattle.marks.specs.Tabled.{LastsTabled}
+use Rattle.rooted.specs.Decide.{NoCoverAsked}
+use Rattle.unrooted.specs.Needs.{ForestKept}
 use Rattle.planner.specs.declared.ask.Asked.{Asked}
 use Rattle.planner.specs.declared.ask.Asked.the-variants.{At, Best}
-use Rattle.planner.specs.Crews.{RootsFit, HistoryFor}
+use Rattle.planner.specs.Crews.{RootsGiven, CrewsReady}
+use Rattle.planner.specs.Preparing.{RootedRoom}
 
 -- The limit at which the answer is written.
 abbrev pub limitOf : Asked → Graph → cover.Crews → ℕ
@@ -47,18 +49,16 @@ pub record Answered (asked : Asked) (g : Graph) (crews : cover.Crews) (before af
   pub good : GoodFor g crews (limitOf asked g crews) choices
   pub replied : Replied (replyTo asked g crews choices) before after r
 
--- A graph's bytes, its crews, and the whole forest.
+-- The whole forest, for crews of each kind from where they begin.
 pub record ForestReady (kind : Kind) (b roots kept : List ℕ) : Type 0 where
-  pub graph : IsGraph b
-  pub roots-inside : (j : ℕ) → j < length roots → getD roots j 0 < graphOf b .vertices
-  pub roots-fit : RootsFit kind roots
-  pub forest : kept ≡ keep (graphOf b) (together roots) (ordered (graphOf b))
+  pub with-roots : kind ≡ Rooted → NoCoverAsked b roots kept
+  pub without : kind ≡ Unrooted → ForestKept b kept
 
--- Everything that was prepared, at most 32 crews, and a buffer that is large enough.
+-- Everything that the crews read, at most 32 of them, and a buffer that is large enough.
 pub record AnswerAsked (kind : Kind) (k : ℕ) (b roots order kept bounds arcs table lasts total until : List ℕ) (room : ℕ) : Type 0 where
-  pub prepared : Prepared b roots order kept bounds arcs table lasts
-  pub history : HistoryFor kind (graphOf b) kept total until
-  pub roots-fit : RootsFit kind roots
+  pub ready : CrewsReady kind b roots kept bounds arcs table total until
+  pub in-order : order ≡ ordered (graphOf b)
+  pub last-edges : kind ≡ Rooted → LastsTabled (graphOf b) roots table lasts
   pub crews-few : k ≤ 32
   pub room-most : 32708 ≤ room
 
@@ -72,12 +72,21 @@ pub record AskedReady (kind : Kind) (k : ℕ) (b roots : List ℕ) (asked : Aske
   pub answer : AnswerAsked kind k b roots order kept bounds arcs table lasts total until room
   pub limit-fits : LimitFits asked
 
--- Nothing is prepared yet.
-pub record QuestionAsked (kind : Kind) (k : ℕ) (b roots : List ℕ) (asked : Asked) (room : ℕ) : Type 0 where
+-- A question by crews with roots of which nothing is prepared yet.
+pub record RootedAsked (b roots : List ℕ) (asked : Asked) (room : ℕ) : Type 0 where
+  pub given : RootsGiven b roots
+  pub limit-fits : LimitFits asked
+  pub room-most : 32708 ≤ room
+
+-- The same, with the arrays that it is answered in.
+pub record RootedLent (b roots : List ℕ) (asked : Asked) (order kept bounds all arcs table lasts : List ℕ) (room : ℕ) : Type 0 where
+  pub question : RootedAsked b roots asked room
+  pub arrays : RootedRoom (graphOf b .vertices) (edgeCount (graphOf b)) (length roots) (length order) (length kept) (length bounds) (length all) (length arcs)
+      (length table) (length lasts)
+
+-- A question by crews without roots of which nothing is prepared yet.
+pub record UnrootedAsked (k : ℕ) (b : List ℕ) (asked : Asked) (room : ℕ) : Type 0 where
   pub graph : IsGraph b
-  pub roots-inside : (j : ℕ) → j < length roots → getD roots j 0 < graphOf b .vertices
-  pub roots-few : length roots ≤ 32
-  pub roots-fit : RootsFit kind roots
   pub crews-few : k ≤ 32
   pub limit-fits : LimitFits asked
   pub room-most : 32708 ≤ room

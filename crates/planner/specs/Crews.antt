@@ -1,38 +1,42 @@
 -- The crews of a question below the entry point: a kind, their number, and a root for each where they have roots.
 -- Assumes nothing.
-use Prim.Native.Nat.{ℕ, _≤_}
+use Prim.Native.Nat.{ℕ, _≤_, _<_}
 use mathlib.Core.Path.{_≡_}
 use mathlib.Core.Bool.{false}
-use mathlib.Core.List.{List, []}
-use lib.ListN.{length}
-use Rattle.graph.specs.Graph.{Graph}
+use mathlib.Core.List.{List}
+use lib.ListN.{length, getD}
 use Rattle.graph.specs.Bytes.{graphOf}
+use Rattle.graph.specs.Valid.{IsGraph}
 use Rattle.rules.specs.Cover as cover
 use Rattle.rules.specs.Search.{noCover}
 use Rattle.cover.specs.declared.crews.Kind.{Kind}
 use Rattle.cover.specs.declared.crews.Kind.the-variants.{Rooted, Unrooted}
 use Rattle.rooted.specs.Prepared.{Decidable}
-use Rattle.unrooted.specs.History.{HistoryKept}
+use Rattle.unrooted.specs.Answer.{HistoryReady}
 
 -- The crews by a list of roots, or k without.
 abbrev pub crewsWith : Kind → ℕ → List ℕ → cover.Crews
 crewsWith Rooted k roots = cover.rooted roots
 crewsWith Unrooted k roots = cover.unrooted k
 
--- Crews with roots have at least one; those without are given an empty list.
-abbrev pub RootsFit : Kind → List ℕ → Type 0
-RootsFit Rooted roots = 1 ≤ length roots
-RootsFit Unrooted roots = roots ≡ []
+-- A graph's bytes, and roots among its vertices, at least one and at most 32.
+pub record RootsGiven (b roots : List ℕ) : Type 0 where
+  pub graph : IsGraph b
+  pub inside : (j : ℕ) → j < length roots → getD roots j 0 < graphOf b .vertices
+  pub some : 1 ≤ length roots
+  pub few : length roots ≤ 32
 
--- The history of the whole forest's merges, where the crews have no roots. Crews with roots read none.
-pub record HistoryFor (kind : Kind) (g : Graph) (kept total until : List ℕ) : Type 0 where
-  pub is : kind ≡ Unrooted → HistoryKept g kept total until
+-- What crews read at every limit, each kind its own: with roots the whole forest with the edges around each vertex, and the distances; without roots
+-- the whole forest and the history of its merges. Of what only the other kind reads nothing is said.
+pub record CrewsReady (kind : Kind) (b roots kept bounds arcs table total until : List ℕ) : Type 0 where
+  pub graph : IsGraph b
+  pub roots-some : kind ≡ Rooted → 1 ≤ length roots
+  pub decidable : kind ≡ Rooted → Decidable b roots kept bounds arcs table
+  pub history : kind ≡ Unrooted → HistoryReady b kept total until
 
 -- What every decision of a search takes: what is prepared, and that the crews have some cover.
 pub record CrewsPrepared (kind : Kind) (k : ℕ) (b roots kept bounds arcs table total until : List ℕ) : Type 0 where
-  pub decidable : Decidable b roots kept bounds arcs table
-  pub history : HistoryFor kind (graphOf b) kept total until
-  pub roots-fit : RootsFit kind roots
+  pub ready : CrewsReady kind b roots kept bounds arcs table total until
   pub some-cover : noCover (graphOf b) (crewsWith kind k roots) ≡ false
 
 -- The same, and a limit within document 01's range.

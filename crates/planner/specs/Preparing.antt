@@ -1,60 +1,80 @@
--- What preparing a question asks, and what stands prepared.
+-- What preparing a question asks, and what stands prepared, for crews of each kind what they read.
 -- Assumes nothing.
 use Prim.Native.Nat.{ℕ, _*_, _≤_, _<_}
 use mathlib.Core.Path.{_≡_}
 use mathlib.Core.List.{List}
 use lib.ListN.{length, getD, take}
-use Rattle.lists.specs.Sort.{rise}
 use Rattle.graph.specs.Graph.{Graph, edgeCount}
 use Rattle.graph.specs.Bytes.{graphOf}
 use Rattle.graph.specs.Valid.{IsGraph}
 use Rattle.rules.specs.Order.{ordered}
 use Rattle.rules.specs.Labels.{together}
 use Rattle.rules.specs.Forest.{keep}
-use Rattle.forest.specs.Around.{Around}
-use Rattle.cover.specs.declared.crews.Kind.{Kind}
-use Rattle.cover.specs.declared.crews.Kind.the-variants.{Unrooted}
 use Rattle.rooted.specs.Prepared.{Prepared}
-use Rattle.unrooted.specs.Needs.{ForestKept}
+use Rattle.unrooted.specs.Answer.{HistoryReady}
 use Rattle.planner.specs.declared.prepare.Ready.{Ready}
+use Rattle.planner.specs.Crews.{RootsGiven}
 
--- A graph's bytes, and room for the order and the forest of any.
-pub record ForestAsked (b order kept bounds arcs : List ℕ) : Type 0 where
+-- A graph's bytes, and room for the order and the forest of it.
+pub record ForestAsked (b order kept : List ℕ) : Type 0 where
   pub graph : IsGraph b
-  pub order-room : 2048 ≤ length order
-  pub kept-room : 256 ≤ length kept
-  pub bounds-room : 256 < length bounds
-  pub arcs-room : 512 ≤ length arcs
+  pub order-room : edgeCount (graphOf b) ≤ length order
+  pub kept-room : graphOf b .vertices ≤ length kept
 
--- The edges stand in order, the whole forest by weight, and the edges around each vertex over it.
-pub record ForestPrepared (g : Graph) (roots order kept bounds arcs : List ℕ) (r : Ready) : Type 0 where
+-- The edges stand in order and the whole forest by weight: they are the first elements of their arrays.
+pub record ForestPrepared (g : Graph) (roots order kept : List ℕ) (r : Ready) : Type 0 where
   pub edges-room : r .edges ≤ length order
   pub in-order : take (r .edges) order ≡ ordered g
   pub forest-room : r .forest ≤ length kept
   pub forest : take (r .forest) kept ≡ keep g (together roots) (ordered g)
-  pub around : Around g (rise (keep g (together roots) (ordered g))) bounds arcs
+  pub fewer : r .forest < g .vertices
 
--- A graph's bytes, at most 32 roots among its vertices, and room for the distances from as many.
-pub record DistancesAsked (b roots : List ℕ) (table lasts : ℕ) : Type 0 where
+-- WITH ROOTS
+
+-- Room for a question by k crews with roots about n vertices and m edges: for the order, the whole forest, the edges around each vertex over all edges
+-- and then over the forest, and for the distances from all roots with their last edges.
+pub record RootedRoom (n m k : ℕ) (order kept bounds all arcs table lasts : ℕ) : Type 0 where
+  pub order-room : m ≤ order
+  pub kept-room : n ≤ kept
+  pub bounds-room : n < bounds
+  pub all-room : 2 * m ≤ all
+  pub arcs-room : 2 * n ≤ arcs
+  pub table-room : n * k ≤ table
+  pub lasts-room : k * n ≤ lasts
+
+-- A graph's bytes, roots among its vertices, and room for its edges by number, their arcs, and the distances from all roots.
+pub record DistancesAsked (b roots : List ℕ) (numbers bounds all table lasts : ℕ) : Type 0 where
   pub graph : IsGraph b
   pub roots-inside : (j : ℕ) → j < length roots → getD roots j 0 < graphOf b .vertices
-  pub roots-few : length roots ≤ 32
-  pub table-room : 8192 ≤ table
-  pub lasts-room : 8192 ≤ lasts
+  pub numbers-room : edgeCount (graphOf b) ≤ numbers
+  pub bounds-room : graphOf b .vertices < bounds
+  pub all-room : 2 * edgeCount (graphOf b) ≤ all
+  pub table-room : graphOf b .vertices * length roots ≤ table
+  pub lasts-room : length roots * graphOf b .vertices ≤ lasts
 
--- Both.
-pub record PrepareAsked (b roots order kept bounds arcs : List ℕ) (table lasts : ℕ) : Type 0 where
-  pub for-forest : ForestAsked b order kept bounds arcs
-  pub for-distances : DistancesAsked b roots table lasts
+-- What preparing asks where the crews have roots.
+pub record RootedPreparable (b roots order kept bounds all arcs table lasts : List ℕ) : Type 0 where
+  pub given : RootsGiven b roots
+  pub room : RootedRoom (graphOf b .vertices) (edgeCount (graphOf b)) (length roots) (length order) (length kept) (length bounds) (length all) (length arcs)
+      (length table) (length lasts)
 
--- Everything is prepared: the order and the forest are the first elements of their arrays.
-pub record PreparedTo (b roots order kept bounds arcs table lasts : List ℕ) (r : Ready) : Type 0 where
+-- Everything that crews with roots read is prepared.
+pub record RootedPrepared (b roots order kept bounds arcs table lasts : List ℕ) (r : Ready) : Type 0 where
   pub edges-room : r .edges ≤ length order
   pub forest-room : r .forest ≤ length kept
   pub prepared : Prepared b roots (take (r .edges) order) (take (r .forest) kept) bounds arcs table lasts
 
--- What the history of merges asks: where the crews have no roots, a graph's bytes and its whole forest, and room for 256 numbers.
-pub record MergesAsked (kind : Kind) (b kept total until : List ℕ) : Type 0 where
-  pub without-roots : kind ≡ Unrooted → ForestKept b kept
+-- WITHOUT ROOTS
+
+-- A graph's bytes, and room for the order and the forest of it, and for the history of its merges.
+pub record UnrootedPreparable (b order kept total until : List ℕ) : Type 0 where
+  pub for-forest : ForestAsked b order kept
   pub total-room : 256 ≤ length total
   pub until-room : 256 ≤ length until
+
+-- Everything that crews without roots read is prepared.
+pub record UnrootedPrepared (b order kept total until : List ℕ) (r : Ready) : Type 0 where
+  pub edges-room : r .edges ≤ length order
+  pub forest-room : r .forest ≤ length kept
+  pub in-order : take (r .edges) order ≡ ordered (graphOf b)
+  pub history : HistoryReady b (take (r .forest) kept) total until

@@ -1,8 +1,8 @@
 // A question about a graph, prepared once and answered: a trial at a limit, or the best limit.
 use crate::answer::answer_at;
 use crate::answer::no_cover;
-use crate::prepare::prepare;
-use crate::prepare::record_history;
+use crate::ask_rooted::ask_rooted;
+use crate::ask_unrooted::ask_unrooted;
 use crate::search::best_limit;
 use cover::crews::Kind;
 use pieces::pieces::number_up;
@@ -12,7 +12,7 @@ ghost use Rattle.graph.specs.Bytes.{graphOf};
 ghost use Rattle.cover.specs.Crews.{crewsOf};
 ghost use Rattle.planner.specs.declared.ask.Asked.the-variants.{Best};
 ghost use Rattle.planner.specs.Crews.{crewsWith};
-ghost use Rattle.planner.specs.Asking.{Answered, AnswerAsked, AskedReady, QuestionAsked, CrewsAsked};
+ghost use Rattle.planner.specs.Asking.{Answered, AnswerAsked, AskedReady, CrewsAsked};
 
 // What is asked.
 pub enum Asked {
@@ -75,8 +75,8 @@ fn answer_best(
     )
 }
 
-// The answer, over everything that was prepared.
-fn answer_asked(
+// The answer, over everything that was prepared. What crews of the other kind read is empty.
+pub(crate) fn answer_asked(
     kind: Kind,
     k: usize,
     b: &[u8],
@@ -130,60 +130,17 @@ fn answer_asked(
     }
 }
 
-// Prepares the question, and answers it. The roots are a list of vertices, one for each crew; crews without roots give none.
-fn ask(kind: Kind, k: usize, b: &[u8], roots: &[u16], asked: Asked, buf: &mut [u8]) -> Reply
-    requires { ⌜ QuestionAsked kind k (now b) (now roots) asked (length (now buf)) ⌝ }
-    ensures { λ r. ⌜ Answered asked (graphOf (now (b .entry))) (crewsWith kind k (now (roots .entry))) (now (buf .entry)) (now (buf .exit)) r ⌝ }
-{
-    let mut order = [0u16; 2048];
-    let mut kept = [0u16; 256];
-    let mut bounds = [0u16; 257];
-    let mut arcs = [0u64; 512];
-    let mut table = [0u32; 8192];
-    let mut lasts = [0u32; 8192];
-    let mut total = [0u64; 256];
-    let mut until = [0u16; 256];
-    let ready = prepare(
-        b,
-        roots,
-        &mut order,
-        &mut kept,
-        &mut bounds,
-        &mut arcs,
-        &mut table,
-        &mut lasts,
-    );
-    let forest = &kept[..ready.forest];
-    record_history(kind, b, forest, &mut total, &mut until);
-    answer_asked(
-        kind,
-        k,
-        b,
-        roots,
-        asked,
-        &order[..ready.edges],
-        forest,
-        &bounds,
-        &arcs,
-        &table,
-        &lasts,
-        &total,
-        &until,
-        buf,
-    )
-}
-
-// The same for crews of a question: "the yards are stops 0 to k - 1". Only here is that known.
+// The answer to a question by crews: "the yards are stops 0 to k - 1". Only here is that known.
 pub(crate) fn ask_crews(kind: Kind, k: usize, b: &[u8], asked: Asked, buf: &mut [u8]) -> Reply
     requires { ⌜ CrewsAsked kind k (now b) asked (length (now buf)) ⌝ }
     ensures { λ r. ⌜ Answered asked (graphOf (now (b .entry))) (crewsOf kind k) (now (buf .entry)) (now (buf .exit)) r ⌝ }
 {
-    let mut roots = [0u16; 32];
     match kind {
         Kind::Rooted => {
+            let mut roots = [0u16; 32];
             number_up(k, &mut roots);
-            ask(kind, k, b, &roots[..k], asked, buf)
+            ask_rooted(b, &roots[..k], asked, buf)
         }
-        Kind::Unrooted => ask(kind, k, b, &[], asked, buf),
+        Kind::Unrooted => ask_unrooted(k, b, asked, buf),
     }
 }

@@ -2,6 +2,8 @@
 // The words of the contracts stand in specs/ and in the definitions of the crate `rules`.
 pub mod answer;
 pub mod ask;
+pub mod ask_rooted;
+pub mod ask_unrooted;
 pub mod decide;
 pub mod prepare;
 pub mod question;

@@ -1,6 +1,5 @@
-// What depends on the graph and the roots alone, prepared once a question: the edges in order, the whole forest with the edges around each vertex,
-// and the distances from all roots. Crews without roots are prepared with an empty list of them, and with the history of the forest's merges.
-use cover::crews::Kind;
+// What depends on the graph and the crews alone, prepared once a question: the edges in order and the whole forest; with roots the edges around each
+// vertex of it and the distances from all roots; without roots the history of its merges. Each kind prepares only what it reads.
 use forest::around::put_around;
 use forest::order::order_edges;
 use marks::table::fill_table;
@@ -11,8 +10,7 @@ use unrooted::history::record_merges;
 ghost use lib.ListN.{length};
 ghost use Rattle.graph.specs.Bytes.{graphOf};
 ghost use Rattle.marks.specs.Table.{Tabled};
-ghost use Rattle.planner.specs.Preparing.{ForestAsked, ForestPrepared, DistancesAsked, PrepareAsked, PreparedTo, MergesAsked};
-ghost use Rattle.planner.specs.Crews.{HistoryFor};
+ghost use Rattle.planner.specs.Preparing.{ForestAsked, ForestPrepared, DistancesAsked, RootedPreparable, RootedPrepared, UnrootedPreparable, UnrootedPrepared};
 
 // How many edges there are, and how many of them the whole forest has.
 pub struct Ready {
@@ -20,73 +18,72 @@ pub struct Ready {
     pub forest: usize,
 }
 
-// The edges in order, and the whole forest by weight, with the edges around each vertex over it.
-fn prepare_forest(
-    b: &[u8],
-    roots: &[u16],
-    order: &mut [u16],
-    kept: &mut [u16],
-    bounds: &mut [u16],
-    arcs: &mut [u64],
-) -> Ready
-    requires { ⌜ ForestAsked (now b) (now order) (now kept) (now bounds) (now arcs) ⌝ }
-    ensures { λ r. ⌜ ForestPrepared (graphOf (now (b .entry))) (now (roots .entry)) (now (order .exit)) (now (kept .exit)) (now (bounds .exit)) (now (arcs .exit)) r ⌝ }
+// The edges in order, and the whole forest of them by weight, with all roots joined from the start.
+fn keep_forest(b: &[u8], roots: &[u16], order: &mut [u16], kept: &mut [u16]) -> Ready
+    requires { ⌜ ForestAsked (now b) (now order) (now kept) ⌝ }
+    ensures { λ r. ⌜ ForestPrepared (graphOf (now (b .entry))) (now (roots .entry)) (now (order .exit)) (now (kept .exit)) r ⌝ }
 {
     let mut label = [0u16; 256];
     let edges = order_edges(b, order);
     let forest = keep_whole(b, roots, &order[..edges], &mut label, kept);
-    put_arcs(b, &kept[..forest], bounds, arcs);
     Ready { edges, forest }
 }
 
-// The distances of all vertices from all roots, and the last edges, over all edges of the graph.
-fn prepare_distances(b: &[u8], roots: &[u16], table: &mut [u32], lasts: &mut [u32])
-    requires { ⌜ DistancesAsked (now b) (now roots) (length (now table)) (length (now lasts)) ⌝ }
+// The distances of all vertices from all roots, and the last edges, over all edges of the graph. The edges by number, the bounds and the arcs around
+// each vertex are scratch.
+fn prepare_distances(
+    b: &[u8],
+    roots: &[u16],
+    numbers: &mut [u16],
+    bounds: &mut [u16],
+    all: &mut [u64],
+    table: &mut [u32],
+    lasts: &mut [u32],
+)
+    requires { ⌜ DistancesAsked (now b) (now roots) (length (now numbers)) (length (now bounds)) (length (now all)) (length (now table)) (length (now lasts)) ⌝ }
     ensures { λ _. ⌜ Tabled (graphOf (now (b .entry))) (now (roots .entry)) (now (table .exit)) (now (lasts .exit)) ⌝ }
 {
-    let mut all = [0u16; 2048];
-    let mut bounds = [0u16; 257];
-    let mut arcs = [0u64; 4096];
     let m = graph::edge_count(b);
-    number_up(m, &mut all);
-    put_around(b, &all[..m], &mut bounds, &mut arcs);
+    number_up(m, numbers);
+    put_around(b, &numbers[..m], bounds, all);
     let n = graph::vertex_count(b);
-    fill_table(n, &bounds, &arcs, roots, table, lasts);
+    fill_table(n, bounds, all, roots, table, lasts);
 }
 
-// Everything that a question's trials share.
-pub(crate) fn prepare(
+// Everything that crews with roots read. The distances come first, so that the arrays of their scratch serve again.
+pub(crate) fn prepare_rooted(
     b: &[u8],
     roots: &[u16],
     order: &mut [u16],
     kept: &mut [u16],
     bounds: &mut [u16],
+    all: &mut [u64],
     arcs: &mut [u64],
     table: &mut [u32],
     lasts: &mut [u32],
 ) -> Ready
-    requires { ⌜ PrepareAsked (now b) (now roots) (now order) (now kept) (now bounds) (now arcs) (length (now table)) (length (now lasts)) ⌝ }
-    ensures { λ r. ⌜ PreparedTo (now (b .entry)) (now (roots .entry)) (now (order .exit)) (now (kept .exit)) (now (bounds .exit)) (now (arcs .exit)) (now (table .exit))
-        (now (lasts .exit)) r ⌝ }
+    requires { ⌜ RootedPreparable (now b) (now roots) (now order) (now kept) (now bounds) (now all) (now arcs) (now table) (now lasts) ⌝ }
+    ensures { λ r. ⌜ RootedPrepared (now (b .entry)) (now (roots .entry)) (now (order .exit)) (now (kept .exit)) (now (bounds .exit)) (now (arcs .exit))
+        (now (table .exit)) (now (lasts .exit)) r ⌝ }
 {
-    let ready = prepare_forest(b, roots, order, kept, bounds, arcs);
-    prepare_distances(b, roots, table, lasts);
+    prepare_distances(b, roots, order, bounds, all, table, lasts);
+    let ready = keep_forest(b, roots, order, kept);
+    put_arcs(b, &kept[..ready.forest], bounds, arcs);
     ready
 }
 
-// The history of the whole forest's merges, for crews without roots. Crews with roots read none.
-pub(crate) fn record_history(
-    kind: Kind,
+// Everything that crews without roots read.
+pub(crate) fn prepare_unrooted(
     b: &[u8],
-    kept: &[u16],
+    order: &mut [u16],
+    kept: &mut [u16],
     total: &mut [u64],
     until: &mut [u16],
-)
-    requires { ⌜ MergesAsked kind (now b) (now kept) (now total) (now until) ⌝ }
-    ensures { λ _. ⌜ HistoryFor kind (graphOf (now (b .entry))) (now (kept .entry)) (now (total .exit)) (now (until .exit)) ⌝ }
+) -> Ready
+    requires { ⌜ UnrootedPreparable (now b) (now order) (now kept) (now total) (now until) ⌝ }
+    ensures { λ r. ⌜ UnrootedPrepared (now (b .entry)) (now (order .exit)) (now (kept .exit)) (now (total .exit)) (now (until .exit)) r ⌝ }
 {
-    match kind {
-        Kind::Rooted => {}
-        Kind::Unrooted => record_merges(b, kept, total, until),
-    }
+    let ready = keep_forest(b, &[], order, kept);
+    record_merges(b, &kept[..ready.forest], total, until);
+    ready
 }

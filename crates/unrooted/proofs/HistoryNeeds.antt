@@ -7,19 +7,21 @@ use mathlib.Core.Bool.{Bool, true, false, cond}
 use mathlib.Core.List.{List, [], _∷_}
 use native.Mathlib.Omega.{arith}
 use lib.ListN.{length, getD, take}
+use lib.Seq.{take-all}
 use borrow.Author.Tests.{eq-eqb}
 use Rattle.lists.specs.Count.{count}
 use Rattle.lists.proofs.Pigeonhole.{count-same, count-all}
+use Rattle.lists.proofs.SumsAlike.{length-sum}
 use Rattle.graph.specs.Graph.{Graph, oneEnd, otherEnd}
 use Rattle.graph.specs.Valid.{Valid}
 use Rattle.graph.proofs.Ranges.{one-end-below, other-end-below}
 use Rattle.rules.specs.Labels.{Labels, apart, mergeEdge, mergeAll}
-use Rattle.rules.specs.Forest.{forest}
+use Rattle.rules.specs.Forest.{forest, lowest}
 use Rattle.rules.specs.UnrootedTrial.{needed}
 use Rattle.forest_laws.proofs.Merging.{JoinsEnds}
-use Rattle.forest_laws.proofs.VertexLabels.{VertexLabels, own, merge-vertices, apart-vertices}
+use Rattle.forest_laws.proofs.VertexLabels.{VertexLabels, own, merge-vertices, apart-vertices, merged-vertices}
 use Rattle.forest_laws.proofs.Loops.{AllKept, all-none, all-next}
-use Rattle.planner_laws.proofs.OwnLabels.{needed-by-own}
+use Rattle.planner_laws.proofs.OwnLabels.{sum-by-own, needed-by-own}
 use Rattle.unrooted.specs.Needs.{labelWeight}
 use Rattle.unrooted.specs.History.{sumTo, componentsSum, valueAt, neededBy}
 use Rattle.unrooted.proofs.SumsTo.{sum-to-same, sum-to-plus, sum-to-count, sum-to-filter}
@@ -50,6 +52,22 @@ module _ {g : Graph} where
     own-apart : count (g .vertices) (own apart) ≡ g .vertices
     unfolding own apart
     own-apart = count-same (g .vertices) (own apart) (λ _. true) (λ v l. eq-eqb v v refl) ∙ count-all (g .vertices)
+
+    -- So all kept edges leave so many components, each with its lowest vertex.
+    pub components-left : {kept : List ℕ} → AllKept g apart kept → length (lowest g (mergeAll g apart kept)) ≡ g .vertices - length kept
+    components-left {kept} k =
+        let label = mergeAll g apart kept in
+        let all : take (length kept) kept ≡ kept = take-all (length kept) kept (omega arith) in
+        omega (
+          arith,
+          length-sum (lowest g label),
+          sum-by-own g label (merged-vertices valid (apart-vertices (g .vertices)) kept) (λ _. 1),
+          sum-to-filter (own label) (λ _. 1) (g .vertices),
+          sum-to-count (g .vertices) (own label),
+          ap (λ l. count (g .vertices) (own (mergeAll g apart l))) all,
+          own-left k (apart-vertices (g .vertices)) (length kept) (omega arith),
+          own-apart,
+        )
 
     -- What the components need, by their number and their weights.
     needed-by-weights : (limit : ℕ) (E : List ℕ) → E ≡ forest g apart limit

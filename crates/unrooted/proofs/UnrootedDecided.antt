@@ -1,13 +1,13 @@
 -- The answer and the decisions of a trial without roots, from the whole forest: "the sum C" decides, and it joins what all edges join.
 -- Assumes nothing.
-use Prim.Native.Nat.{ℕ, _≤_, _<_}
+use Prim.Native.Nat.{ℕ, _-_, _≤_, _<_}
 use mathlib.Core.Path.{_≡_, refl, sym, ap, ap₂, _∙_}
+use mathlib.Core.Bool.{false}
 use mathlib.Core.List.{List, [], _∷_, _++_}
 use native.Mathlib.Nat.{zero-add}
 use lib.ListN.{length, drop}
 use lib.Dec.{leb, ltb}
 use borrow.Author.Tests.{le-leb, lt-leb}
-use Rattle.lists.proofs.Put.{put-count}
 use Rattle.graph.specs.Graph.{Graph}
 use Rattle.graph.specs.Bytes.{graphOf}
 use Rattle.rules.specs.Cover.{unrooted, heaviest}
@@ -23,25 +23,30 @@ use Rattle.rules.specs.Questions.{written, bufferAfter}
 use Rattle.forest_laws.proofs.Keeping.{kept-merges}
 use Rattle.pieces.specs.Replies.{said, Answers}
 use Rattle.pieces.specs.declared.reply.Reply.the-variants.{Cover, Needs}
-use Rattle.unrooted.specs.Needs.{ForestKept, RootsWritten}
+use Rattle.unrooted.specs.Needs.{ForestKept}
 use Rattle.unrooted.specs.Unrooted.{TreesWritten}
 use Rattle.unrooted.specs.declared.unrooted.Written.{Written}
-use Rattle.unrooted.proofs.WholeForest.{kept-apart}
+use Rattle.unrooted.proofs.WholeForest.{kept-apart, all-kept}
+use Rattle.unrooted.proofs.HistoryNeeds.{components-left}
 
 module _ {b kept : List ℕ} (f : ForestKept b kept) where
   -- The components that the whole forest makes are those of all edges, so their number tells whether there is a cover.
-  pub none-at-all : {before after : List ℕ} {r : ℕ} (k : ℕ) → RootsWritten (graphOf b) kept before after r → ltb k r ≡ noCover (graphOf b) (unrooted k)
+  pub none-at-all : (k : ℕ) {n : ℕ} → n ≡ graphOf b .vertices → ltb k (n - length kept) ≡ noCover (graphOf b) (unrooted k)
   unfolding noCover
-  none-at-all k w =
+  none-at-all k count =
       let g = graphOf b in
       let same : mergeAll g apart kept ≡ mergeAll g apart (ordered g) = ap (mergeAll g apart) (kept-apart f) ∙ kept-merges g apart (ordered g) in
-      ap (ltb k) (put-count (w .are) ∙ ap (λ label. length (lowest g label)) same)
+      ap (λ n. ltb k (n - length kept)) count
+      ∙ ap (ltb k) (sym (components-left (f .graph .valid) (all-kept f)) ∙ ap (λ label. length (lowest g label)) same)
 
 -- "The sum C" decides.
 module _ (g : Graph) (k limit : ℕ) {C : ℕ} (sum : C ≡ needed g limit) where
   pub decided : leb C k ≡ accepts g (unrooted k) limit
   unfolding accepts
   decided = ap (λ n. leb n k) sum
+
+  pub refused : k < C → false ≡ accepts g (unrooted k) limit
+  refused h = sym (lt-leb C k h) ∙ decided
 
   -- There is nothing to choose.
   nothing : Choices

@@ -1,7 +1,6 @@
 // The answer of a trial by crews without roots (document 01, a "roving" trial, step 7), and the decisions that the best limit asks: all from the
 // whole forest and the history of its merges, which are prepared once a question.
 use crate::history::needed_by_history;
-use crate::needs::component_roots;
 use crate::unrooted::unrooted_trees;
 use pieces::reply::Reply;
 use pieces::whole::light_forest;
@@ -51,7 +50,8 @@ pub fn answer_unrooted(
     Reply::Cover(limit, w.heaviest, w.trees)
 }
 
-// Whether the limit is accepted. Nothing is split or written for this.
+// Whether the limit is accepted. Nothing is split or written for this. Each component needs a tree, so the history is not read where there are more
+// components than crews.
 pub fn accepts_unrooted(
     b: &[u8],
     k: usize,
@@ -63,14 +63,18 @@ pub fn accepts_unrooted(
     requires { ⌜ HistoryReady (now b) (now kept) (now total) (now until) ⌝ }
     ensures { λ r. ⌜ r ≡ accepts (graphOf (now (b .entry))) (unrooted k) limit ⌝ }
 {
-    at_limit(b, limit, kept, total, until).trees <= k as u64
+    let n = graph::vertex_count(b);
+    let light = light_forest(b, kept, limit);
+    if k < n - light {
+        return false;
+    }
+    needed_by_history(n, total, until, light, limit) <= k as u64
 }
 
-// Whether no cover exists at all: there are "more components than k". The whole forest's edges join what all edges do.
+// Whether no cover exists at all: there are "more components than k". Each edge of the whole forest leaves one component fewer than the vertices are.
 pub fn no_cover_unrooted(b: &[u8], k: usize, kept: &[u16]) -> bool
     requires { ⌜ ForestKept (now b) (now kept) ⌝ }
     ensures { λ r. ⌜ r ≡ noCover (graphOf (now (b .entry))) (unrooted k) ⌝ }
 {
-    let mut roots = [0u16; 256];
-    k < component_roots(b, kept, &mut roots)
+    k < graph::vertex_count(b) - kept.len()
 }

@@ -1,5 +1,4 @@
 -- `planner::answer::no_cover` meets its contract: the kind decides. Assumes nothing.
-use Rattle.planner.proofs.KindKnown.{rooted-forest, unrooted-forest}
 use borrow.Author.Needs.{needs}
 use Rattle.planner.proofs.answer.no_cover.Statement.{statement}
 use Rattle.planner.proofs.answer.no_cover.Tie as tie
@@ -8,13 +7,13 @@ enum-told : tie.Need-enum-told
 enum-told c = search needs
 
 no-cover-rooted-requires : tie.Need-no-cover-rooted-requires
-no-cover-rooted-requires c κs = let s = let d = c .before .before .before .before in d .before in rooted-forest (s .pre) (c .enum-told .given .1)
+no-cover-rooted-requires c κs = let s = let d = c .before .before .before .before in d .before in s .pre .with-roots (c .enum-told .given .1)
 
 enum-told-2 : tie.Need-enum-told-2
 enum-told-2 c = search needs
 
 no-cover-unrooted-requires : tie.Need-no-cover-unrooted-requires
-no-cover-unrooted-requires c κs = let s = let d = c .before .before .before .before in d .before in unrooted-forest (s .pre) (c .enum-told2 .given .1)
+no-cover-unrooted-requires c κs = let s = let d = c .before .before .before .before in d .before in s .pre .without (c .enum-told2 .given .1)
 
 returns : tie.Need-returns
 returns c = rw (c .before .enum-told .given .1) (c .no-cover-rooted .ensures)

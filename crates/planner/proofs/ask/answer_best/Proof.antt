@@ -8,6 +8,7 @@ use Rattle.rules.specs.Cover.{Crews}
 use Rattle.rules.specs.Search.{bestLimit}
 use Rattle.planner.specs.Crews.{crewsWith}
 use Rattle.planner.proofs.SearchLoop.{best-limit-most}
+use Rattle.planner.proofs.KindKnown.{forest-ready}
 use Rattle.planner.proofs.Answering.{choices-for, none-answered, best-answered}
 use borrow.Author.Needs.{needs}
 use Rattle.planner.proofs.ask.answer_best.Statement.{statement}
@@ -22,28 +23,25 @@ module _ (n : tie.After-no-cover) where
   crews = crewsWith (s .args .kind) (s .args .k) (s .args .roots .now)
 
 no-cover-requires : tie.Need-no-cover-requires
-no-cover-requires c κs = search needs
+no-cover-requires c κs = forest-ready (let d = c .before .before .before .before in let e = d .before .before .before .before in e .before .before .before .pre .ready)
 
 returns : tie.Need-returns
 returns c =
     let n = c .before in
     none-answered (sym (n .no-cover .ensures) ∙ c .if1 .taken) _
-    (choices-for (s n .pre .prepared .decidable .graph .valid) (s n .args .kind) (s n .args .k) (s n .args .roots .now) (s n .pre .prepared .decidable .roots-inside) _)
+    (choices-for (s n .pre .ready .graph .valid) (s n .args .kind) (s n .args .k) (s n .args .roots .now) (λ q. s n .pre .ready .decidable q .roots-inside) _)
 
 best-limit-requires : tie.Need-best-limit-requires
 best-limit-requires c κs =
     let n = c .before in
     let p = s n .pre in
-    record {
-      crews = record { decidable = p .prepared .decidable; history = p .history; roots-fit = p .roots-fit; some-cover = sym (n .no-cover .ensures) ∙ c .if1 .left };
-      in-order = p .prepared .in-order;
-    }
+    record { crews = record { ready = p .ready; some-cover = sym (n .no-cover .ensures) ∙ c .if1 .left }; in-order = p .in-order }
 
 answer-at-requires : tie.Need-answer-at-requires
 answer-at-requires c κs =
     let l = c .before in
     let p = s (l .before .before) .pre in
-    record { answer = p; limit-most = omega (arith, l .best-limit .ensures, best-limit-most (p .prepared .decidable .graph .valid) (crews (l .before .before))) }
+    record { answer = p; limit-most = omega (arith, l .best-limit .ensures, best-limit-most (p .ready .graph .valid) (crews (l .before .before))) }
 
 same-length : tie.Need-same-length
 same-length c = search needs

@@ -1,5 +1,5 @@
 -- `planner::decide::accepts_at` meets its contract: the kind decides. Assumes nothing.
-use Rattle.planner.proofs.KindKnown.{rooted-decision, unrooted-decision}
+use Rattle.planner.proofs.KindKnown.{rooted-decision}
 use borrow.Author.Needs.{needs}
 use Rattle.planner.proofs.decide.accepts_at.Statement.{statement}
 use Rattle.planner.proofs.decide.accepts_at.Tie as tie
@@ -14,7 +14,7 @@ enum-told-2 : tie.Need-enum-told-2
 enum-told-2 c = search needs
 
 accepts-unrooted-requires : tie.Need-accepts-unrooted-requires
-accepts-unrooted-requires c κs = let s = let d = c .before .before .before .before in d .before .before .before .before .before .before in unrooted-decision (s .pre) (c .enum-told2 .given .1)
+accepts-unrooted-requires c κs = let s = let d = c .before .before .before .before in d .before .before .before .before .before .before in s .pre .crews .ready .history (c .enum-told2 .given .1)
 
 returns : tie.Need-returns
 returns c = rw (c .before .enum-told .given .1) (c .accepts-rooted .ensures)

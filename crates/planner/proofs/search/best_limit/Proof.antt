@@ -28,7 +28,7 @@ module _ (a : tie.After-accepts-at) where
   crews = crewsWith (s .args .kind) (s .args .k) (s .args .roots .now)
 
   valid : Valid g
-  valid = s .pre .crews .decidable .graph .valid
+  valid = s .pre .crews .ready .graph .valid
 
 -- Where the sum is known.
 module _ (w : tie.After-sum-weights) where

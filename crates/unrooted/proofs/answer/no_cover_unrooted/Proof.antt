@@ -1,20 +1,23 @@
--- `unrooted::answer::no_cover_unrooted` meets its contract: the components of the whole forest are those of the graph. Assumes nothing.
-use Rattle.unrooted.proofs.UnrootedDecided.{none-at-all}
+-- `unrooted::answer::no_cover_unrooted` meets its contract: each edge of the whole forest leaves one component fewer. Assumes nothing.
+use native.Mathlib.Omega.{arith}
 use borrow.Author.Needs.{needs}
+use Rattle.unrooted.proofs.WholeForest.{kept-fewer}
+use Rattle.unrooted.proofs.UnrootedDecided.{none-at-all}
 use Rattle.unrooted.proofs.answer.no_cover_unrooted.Statement.{statement}
 use Rattle.unrooted.proofs.answer.no_cover_unrooted.Tie as tie
 
-slice-aggregate-component-roots : tie.Need-slice-aggregate-component-roots
-slice-aggregate-component-roots c = search needs
+-- Where the vertices are counted: what was given.
+abbrev start : tie.After-vertex-count → tie.Start
+start c = c .before .before .before
 
-component-roots-requires : tie.Need-component-roots-requires
-component-roots-requires c κs = search needs
+vertex-count-requires : tie.Need-vertex-count-requires
+vertex-count-requires c κs = search needs
+
+sub-result : tie.Need-sub-result
+sub-result c = omega (arith, c .vertex-count .ensures .is, kept-fewer (start c .pre))
 
 returns : tie.Need-returns
-returns c =
-    let counted = c .before in
-    let start = counted .before .before .before .before in
-    none-at-all (start .pre) (start .args .k) (counted .component-roots .ensures)
+returns c = none-at-all (start c .pre) (start c .args .k) (c .vertex-count .ensures .is)
 
 pub no-cover-unrooted-spec : {M : Type 1} → statement M
-no-cover-unrooted-spec = tie.close (tie.spec slice-aggregate-component-roots component-roots-requires returns)
+no-cover-unrooted-spec = tie.close (tie.spec vertex-count-requires sub-result returns)

@@ -1,0 +1,51 @@
+-- `planner::prepare::prepare_unrooted` meets its contract: the forest, and the history of its merges. Assumes nothing.
+use mathlib.Core.Path.{sym}
+use lib.Seq.{length-take-le}
+use borrow.Author.Needs.{needs}
+use Rattle.planner.proofs.prepare.prepare_unrooted.Statement.{statement}
+use Rattle.planner.proofs.prepare.prepare_unrooted.Tie as tie
+
+slice-aggregate-keep-forest : tie.Need-slice-aggregate-keep-forest
+slice-aggregate-keep-forest c = search needs
+
+keep-forest-requires : tie.Need-keep-forest-requires
+keep-forest-requires c κs = search needs
+
+slice-reshare-prefix-record-merges : tie.Need-slice-reshare-prefix-record-merges
+slice-reshare-prefix-record-merges c = search needs
+
+slice-aggregate-record-merges : tie.Need-slice-aggregate-record-merges
+slice-aggregate-record-merges c = sym (length-take-le _ _ (let d = c .before .before .before .before in d .before .keep-forest .ensures .forest-room))
+
+record-merges-requires : tie.Need-record-merges-requires
+record-merges-requires c κs = search needs
+
+same-length : tie.Need-same-length
+same-length c = search needs
+
+same-length-2 : tie.Need-same-length-2
+same-length-2 c = search needs
+
+same-length-3 : tie.Need-same-length-3
+same-length-3 c = search needs
+
+same-length-4 : tie.Need-same-length-4
+same-length-4 c = search needs
+
+returns : tie.Need-returns
+returns c = search needs
+
+pub prepare-unrooted-spec : {M : Type 1} → statement M
+prepare-unrooted-spec =
+    tie.close
+    (tie.spec
+    slice-aggregate-keep-forest
+    keep-forest-requires
+    slice-reshare-prefix-record-merges
+    slice-aggregate-record-merges
+    record-merges-requires
+    same-length
+    same-length-2
+    same-length-3
+    same-length-4
+    returns)
