@@ -6,7 +6,6 @@ use mathlib.Core.List.{List}
 use lib.ListN.{length, take}
 use lib.Dec.{leb}
 use Rattle.lists.specs.Lists.{filter}
-use Rattle.lists.specs.Put.{PutTo}
 use Rattle.graph.specs.Graph.{Graph, weightOf}
 
 -- The edges of weight at most the limit, in their order.
@@ -17,8 +16,3 @@ lightOf g limit edges = filter (λ e. leb (weightOf g e) limit) edges
 pub record LightFront (g : Graph) (limit : ℕ) (edges : List ℕ) (r : ℕ) : Type 0 where
   pub few : r ≤ length edges
   pub front : take r edges ≡ lightOf g limit edges
-
--- They were written, r of them.
-pub record LightWritten (g : Graph) (limit : ℕ) (edges before after : List ℕ) (r : ℕ) : Type 0 where
-  pub few : r ≤ length edges
-  pub edges-are : PutTo 0 (lightOf g limit edges) before after r

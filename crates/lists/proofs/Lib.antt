@@ -9,6 +9,8 @@ pub mod InOrderWithin
 pub mod Sums
 -- filters of a list that no element or every one passes, of two lists, of a mapped list
 pub mod Filters
+-- a test that the front of a list passes
+pub mod FilteredFront
 -- the first element that passes a test
 pub mod First
 -- the list without a number
@@ -95,6 +97,8 @@ pub mod BucketCounts
 pub mod BucketFilling
 -- a list in order is the only one
 pub mod OneOrder
+-- numbers sorted are picked out of all numbers below a bound
+pub mod Risen
 -- numbers put into buckets: the same numbers, by bucket
 pub mod BucketOrder
 -- a list gone through element by element

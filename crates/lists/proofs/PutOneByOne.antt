@@ -6,7 +6,7 @@ use mathlib.Core.List.{List, [], _∷_, _++_, append-assoc, append-nil}
 use native.Mathlib.Omega.{arith}
 use lib.ListN.{length, set, length-append, length-set}
 use Rattle.lists.specs.Put.{PutTo}
-use Rattle.lists.proofs.Put.{put-to-none, put-more}
+use Rattle.lists.proofs.Put.{put-to-none, put-more, put-behind, put-length}
 
 module _ {A : Type 0} where
   -- Of the whole list all but `rest` was put into the array, from one place up to the next free one.
@@ -34,6 +34,16 @@ module _ {A : Type 0} where
           put = put-more x (w .put) h;
           whole-is = w .whole-is ∙ ap (λ l. w .done ++ l) q ∙ sym (append-assoc (w .done) (x ∷ []) other);
           same = length-set after next x ∙ w .same;
+        }
+
+    -- A list more.
+    pub so-far-on : {now : List A} {behind : ℕ} {xs other : List A} → rest ≡ xs ++ other → PutTo next xs after now behind → PutSoFar at whole other before now behind
+    so-far-on {xs = xs} {other = other} q p =
+        record {
+          done = w .done ++ xs;
+          put = put-behind (w .put) p;
+          whole-is = w .whole-is ∙ ap (λ l. w .done ++ l) q ∙ sym (append-assoc (w .done) xs other);
+          same = put-length (p .put) ∙ w .same;
         }
 
     -- Nothing is left.
