@@ -5,6 +5,8 @@ pub mod PiecesAdded
 pub mod PieceSettles
 -- marks, and how many vertices have none
 pub mod Unvisited
+-- no mark is set at first
+pub mod NoMarks
 -- the walk of a child list, arc by arc
 pub mod ChildWalked
 -- the walk of a child list, under way
@@ -19,3 +21,17 @@ pub mod RootsSplit
 pub mod ForestSplit
 -- for callers: the parts and the leftovers by number
 pub mod ByNumber
+-- steps: no mark is lost, and nothing is left to be grown
+pub mod StepsMark
+-- one pass over the steps counts the parts below a vertex
+pub mod StepsCounted
+-- and those of all trees
+pub mod WalkCounted
+-- the vertices of the steps
+pub mod StepsInside
+-- writing the steps below a vertex, under way
+pub mod StepsUnderway
+-- writing the steps of all trees, under way
+pub mod TreesUnderway
+-- counting the parts, under way
+pub mod PartsCounting

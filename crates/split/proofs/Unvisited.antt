@@ -25,7 +25,7 @@ module _ (marks : List ℕ) (v : ℕ) where
     marked-now = rw (getD-set-same marks v 1 0 h)
 
     -- a vertex without a mark had none
-    unmarked-before : (i : ℕ) → unmarked (set marks v 1) i ≡ true → unmarked marks i ≡ true
+    pub unmarked-before : (i : ℕ) → unmarked (set marks v 1) i ≡ true → unmarked marks i ≡ true
     unmarked-before i q =
         dite (ℕ-discrete i v) (λ e. absurd (false≢true (sym marked-now ∙ ap (unmarked (set marks v 1)) (sym e) ∙ q))) (λ e. sym (marks-kept i e) ∙ q)
 

@@ -6,6 +6,7 @@ ghost use Rattle.split.specs.ForestSplit.{lent, Splittable, Unwalked, Fo
 
 mod bunch;
 mod piece;
+pub mod steps;
 mod walk;
 
 use piece::put_piece;

@@ -1,29 +1,24 @@
 -- `split::split_forest` meets its contract: the first n of 256 zeros are no marks, and a stack of n places.
 -- Assumes nothing.
-use Prim.Native.Nat.{ℕ, _≤_}
-use mathlib.Core.Path.{_≡_, refl, sym, _∙_}
+use Prim.Native.Nat.{ℕ}
+use mathlib.Core.Path.{_≡_, refl, sym}
 use mathlib.Core.List.{List}
-use native.Mathlib.Omega.{arith}
 use borrow.Author.Needs.{needs}
-use lib.ListN.{length, take, replicate, length-replicate, getD-replicate}
-use lib.Seq.{length-take-le, getD-take}
+use lib.ListN.{take, replicate}
 use Rattle.split.specs.ForestSplit.{Lent, Splittable, Unwalked, ForestSplit}
+use Rattle.split.proofs.NoMarks.{zeros-count, zeros-front}
 use Rattle.split.proofs.split_forest.Statement.{statement}
 use Rattle.split.proofs.split_forest.Tie as tie
 
--- The first n zeros are n.
-count : (n : ℕ) → n ≤ 256 → length (take n (replicate {A = ℕ} 256 0)) ≡ n
-count n h = length-take-le n (replicate 256 0) (omega (arith, length-replicate {A = ℕ} 256 0))
-
--- They are no marks, and a stack with a place for each vertex.
+-- The zeros are no marks, and a stack with a place for each vertex.
 no-marks : {n : ℕ} {bounds arcs roots : List ℕ} {a : Lent} → Splittable n bounds arcs roots a
     → Unwalked bounds arcs roots (take n (replicate 256 0)) (take n (replicate 256 0)) a
 no-marks {n} s =
-    let q = count n (s .around .few) in
+    let q = zeros-count n (s .around .few) in
     record {
       splittable = rw q s;
       marks-length = refl;
-      none-marked = λ v l. getD-take n (replicate 256 0) v 0 (omega (arith, q)) ∙ getD-replicate 256 v 0 0 (omega (arith, q, s .around .few));
+      none-marked = λ v l. zeros-front 256 n v;
     }
 
 -- What is promised of as many vertices is promised of n.
@@ -44,13 +39,13 @@ array-borrow-prefix-passed : tie.Need-array-borrow-prefix-passed
 array-borrow-prefix-passed c = search needs
 
 slice-aggregate-split-roots : tie.Need-slice-aggregate-split-roots
-slice-aggregate-split-roots c = sym (count (entry c .args .n) (entry c .pre .around .few))
+slice-aggregate-split-roots c = sym (zeros-count (entry c .args .n) (entry c .pre .around .few))
 
 array-borrow-prefix-stack : tie.Need-array-borrow-prefix-stack
 array-borrow-prefix-stack c = search needs
 
 slice-aggregate-split-roots-2 : tie.Need-slice-aggregate-split-roots-2
-slice-aggregate-split-roots-2 c = sym (count (entry (c .before) .args .n) (entry (c .before) .pre .around .few))
+slice-aggregate-split-roots-2 c = sym (zeros-count (entry (c .before) .args .n) (entry (c .before) .pre .around .few))
 
 split-roots-requires : tie.Need-split-roots-requires
 split-roots-requires c κs = no-marks (entry (called c) .pre)
@@ -71,7 +66,7 @@ returns : tie.Need-returns
 returns c =
     let r = returned c in
     let s = entry (called (r .before)) in
-    split-of (count (s .args .n) (s .pre .around .few)) (r .split-roots .ensures)
+    split-of (zeros-count (s .args .n) (s .pre .around .few)) (r .split-roots .ensures)
 
 pub split-forest-spec : {M : Type 1} → statement M
 split-forest-spec =

@@ -1,0 +1,62 @@
+-- Writing the steps of a forest's trees once, and counting the parts at a threshold in one pass over them: what both ask and promise.
+-- Assumes nothing.
+use Prim.Native.Nat.{ℕ, _+_, _≤_, _<_}
+use mathlib.Core.Path.{_≡_}
+use mathlib.Core.List.{List, map}
+use lib.ListN.{length, getD}
+use Rattle.lists.specs.Put.{PutTo}
+use Rattle.lists.specs.Segments.{segment}
+use Rattle.graph.specs.Graph.{Graph}
+use Rattle.rules.specs.Grow.{grow}
+use Rattle.rules.specs.Split.{split, allParts}
+use Rattle.forest.specs.Around.{arcEdge, arcHead, Arcs, Around}
+use Rattle.split.specs.SplitBelow.{unvisited}
+use Rattle.split.specs.Steps.{partsCounted}
+use Rattle.split.specs.StepsBelow.{StepsBelow}
+
+-- What writing the steps below v asks: the arcs of as many vertices as there are marks, v one of them, and room for a step for each vertex
+-- without a mark, from the place `at` on.
+pub record StepsAsked (bounds arcs : List ℕ) (v at : ℕ) (marks walk : List ℕ) : Type 0 where
+  pub around : Arcs (length marks) bounds arcs
+  pub inside : v < length marks
+  pub room : at + unvisited (length marks) marks ≤ length walk
+
+-- What it promises: the steps stand from that place up to r, and each led to a vertex that has a mark now.
+pub record StepsPut (bounds arcs : List ℕ) (v at : ℕ) (marks walk marks′ walk′ : List ℕ) (r : ℕ) : Type 0 where
+  pub steps : List ℕ
+  pub below : StepsBelow bounds arcs v (segment bounds arcs v) marks steps marks′
+  pub put : PutTo at steps walk walk′ r
+  pub size : length marks′ ≡ length marks
+  pub fits : r + unvisited (length marks) marks′ ≤ at + unvisited (length marks) marks
+
+-- What writing the steps of all trees asks: the arcs of n vertices, roots among them, and room for a step for each vertex.
+pub record WalkAsked (n : ℕ) (bounds arcs roots walk : List ℕ) : Type 0 where
+  pub around : Arcs n bounds arcs
+  pub roots-inside : (j : ℕ) → j < length roots → getD roots j 0 < n
+  pub room : n ≤ length walk
+
+-- The same, where there is a mark for each vertex, and none is set.
+pub record WalkReady (bounds arcs roots marks walk : List ℕ) : Type 0 where
+  pub asked : WalkAsked (length marks) bounds arcs roots walk
+  pub none-marked : (v : ℕ) → getD marks v 0 ≡ 0
+
+-- The vertices of the steps are below 256.
+pub record StepsInside (steps : List ℕ) : Type 0 where
+  pub children : (i : ℕ) → i < length steps → arcEdge (getD steps i 0) < 256
+  pub above : (i : ℕ) → i < length steps → arcHead (getD steps i 0) < 256
+
+-- The steps of the trees that are grown along the edges from the roots: one pass counts the parts at every threshold.
+pub record Walk (g : Graph) (edges roots steps : List ℕ) : Type 0 where
+  pub inside : StepsInside steps
+  pub counts : (H : ℕ) → partsCounted H steps ≡ length (allParts (map (split g H) (grow g edges roots)))
+
+-- What is promised of the walk: it stands in the array's first r places, whatever graph's forest the arcs are of.
+pub record WalkPut (n : ℕ) (bounds arcs roots walk walk′ : List ℕ) (r : ℕ) : Type 0 where
+  pub steps : List ℕ
+  pub put : PutTo 0 steps walk walk′ r
+  pub of-graph : (g : Graph) (edges : List ℕ) → Around g edges bounds arcs → g .vertices ≡ n → Walk g edges roots steps
+
+-- What counting asks: steps among 256 vertices, and a threshold below 2 to the 32nd, so that no sum wraps.
+pub record Countable (H : ℕ) (steps : List ℕ) : Type 0 where
+  pub inside : StepsInside steps
+  pub threshold-most : H < 4294967296

@@ -1,0 +1,105 @@
+// The trees of a forest as a list of steps, written once, and the number of parts at a threshold in one pass over them.
+// A step is a child, the vertex above it and the weight of the edge between, packed as an arc is, with the child in the edge's place.
+use forest::arc::arc;
+use forest::arc::arc_edge;
+use forest::arc::arc_head;
+use forest::arc::arc_weight;
+ghost use mathlib.Core.Path.{_≡_};
+ghost use lib.ListN.{length};
+ghost use Rattle.split.specs.Steps.{partsCounted};
+ghost use Rattle.split.specs.WalkPut.{StepsAsked, StepsPut, WalkReady, WalkAsked, WalkPut, Countable};
+
+// Writes the steps below v from the place `at` on, and says where they end: at each child first the steps below the child, then its own.
+// Each call passes a vertex that no call below it passes again, so that the calls nest at most as deep as the tree.
+fn put_steps(
+    bounds: &[u16],
+    arcs: &[u64],
+    v: usize,
+    at: usize,
+    passed: &mut [u8],
+    walk: &mut [u64],
+) -> usize
+    requires { ⌜ StepsAsked (now bounds) (now arcs) v at (now passed) (now walk) ⌝ }
+    ensures { λ r. ⌜ StepsPut (now (bounds .entry)) (now (arcs .entry)) v at
+        (now (passed .entry)) (now (walk .entry)) (now (passed .exit)) (now (walk .exit)) r ⌝ }
+{
+    let mut next = at;
+    let mut i = bounds[v] as usize;
+    let to = bounds[v + 1] as usize;
+    while i < to {
+        let a = arcs[i];
+        let head = arc_head(a);
+        i += 1;
+        if passed[head] != 0 {
+            continue;
+        }
+        passed[head] = 1;
+        let end = put_steps(bounds, arcs, head, next, passed, walk);
+        walk[end] = arc(head, v, arc_weight(a));
+        next = end + 1;
+    }
+    next
+}
+
+// The steps of the roots' trees, one tree after the other; no vertex has a mark yet.
+fn put_trees(
+    bounds: &[u16],
+    arcs: &[u64],
+    roots: &[u16],
+    passed: &mut [u8],
+    walk: &mut [u64],
+) -> usize
+    requires { ⌜ WalkReady (now bounds) (now arcs) (now roots) (now passed) (now walk) ⌝ }
+    ensures { λ r. ⌜ WalkPut (length (now (passed .entry))) (now (bounds .entry)) (now (arcs .entry)) (now (roots .entry)) (now (walk .entry)) (now (walk .exit)) r ⌝ }
+{
+    let mut next = 0;
+    let mut j = 0;
+    while j < roots.len() {
+        let root = roots[j] as usize;
+        passed[root] = 1;
+        next = put_steps(bounds, arcs, root, next, passed, walk);
+        j += 1;
+    }
+    next
+}
+
+// Writes the walk of the roots' trees over n vertices of a forest, and says how many steps it has. `bounds` and `arcs` hold the edges
+// around each vertex, as for `split_forest`.
+pub fn put_walk(n: usize, bounds: &[u16], arcs: &[u64], roots: &[u16], walk: &mut [u64]) -> usize
+    requires { ⌜ WalkAsked n (now bounds) (now arcs) (now roots) (now walk) ⌝ }
+    ensures { λ r. ⌜ WalkPut n (now (bounds .entry)) (now (arcs .entry)) (now (roots .entry)) (now (walk .entry)) (now (walk .exit)) r ⌝ }
+{
+    let mut passed = [0u8; 256];
+    put_trees(bounds, arcs, roots, &mut passed[..n], walk)
+}
+
+// The number of parts that the trees are split into with threshold h. What is left at a vertex is kept by its weight alone.
+pub fn count_parts(walk: &[u64], h: u64) -> usize
+    requires { ⌜ Countable h (now walk) ⌝ }
+    ensures { λ r. ⌜ r ≡ partsCounted h (now (walk .entry)) ⌝ }
+{
+    if h == 0 {
+        return 0;
+    }
+    let mut left = [0u64; 256];
+    let mut parts = 0;
+    let mut i = 0;
+    while i < walk.len() {
+        let step = walk[i];
+        let piece = arc_weight(step) + left[arc_edge(step) as usize];
+        i += 1;
+        if h <= piece {
+            parts += 1;
+            continue;
+        }
+        let above = arc_head(step);
+        let bunch = left[above] + piece;
+        if h <= bunch {
+            parts += 1;
+            left[above] = 0;
+            continue;
+        }
+        left[above] = bunch;
+    }
+    parts
+}
