@@ -11,6 +11,8 @@ pub mod EntryTests
 pub mod StartTests
 -- the entries of a tree are one run
 pub mod TreeRuns
+-- vertices joined by parents
+pub mod JoinedByParents
 -- a run of entries, edge by edge
 pub mod RunTests
 -- the tests of the trees

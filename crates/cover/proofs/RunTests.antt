@@ -6,16 +6,14 @@ use mathlib.Core.Bool.{Bool, true, false, _&&_}
 use mathlib.Core.List.{List, [], _∷_, _++_, map, map-append}
 use native.Mathlib.Numerals.{add-one}
 use native.Mathlib.Omega.{arith}
-use lib.ListN.{length}
 use Rattle.lists.specs.Count as Count
 use Rattle.graph.specs.Graph.{Graph}
 use Rattle.rules.specs.Labels.{Labels, mergeEdge, mergeAll}
 use Rattle.rules.specs.CoverBytes.{entryEdge}
 use Rattle.rules.specs.CheckCover.{loopFree}
 use Rattle.forest_laws.proofs.Merging.{merged-append}
-use Rattle.forest.specs.Arrays.{Agrees}
-use Rattle.forest.specs.Labelled.{Joined}
 use Rattle.cover.specs.Runs.{runEdges}
+use Rattle.cover.specs.Parents.{Parents, Spells, EndsJoined}
 use Rattle.cover.specs.Trees.{RunTaken}
 use Rattle.cover.proofs.TreeRuns.{from-split}
 
@@ -46,34 +44,35 @@ module _ (c : List ℕ) where
       ∙ ap (λ k. runEdges c from i ++ (entryEdge c k ∷ [])) there
 
 -- What is known after the entries before i: the rest decides about loops, from the labels that those before have made.
-pub record RunSoFar (g : Graph) (c : List ℕ) (from to i : ℕ) (label₀ label₁ : List ℕ) : Type 0 where
+pub record RunSoFar (g : Graph) (c : List ℕ) (from to i : ℕ) (before after : List ℕ) : Type 0 where
   pub past : from ≤ i
   pub within : i ≤ to
-  pub free : (label : Labels) → Agrees (g .vertices) label₀ label
+  pub free : (label : Labels) → Spells before label
       → loopFree g label (runEdges c from to) ≡ loopFree g (mergeAll g label (runEdges c from i)) (runEdges c i to)
-  pub labels : (label : Labels) → Agrees (g .vertices) label₀ label → Agrees (g .vertices) label₁ (mergeAll g label (runEdges c from i))
-  pub as-long : length label₁ ≡ length label₀
+  pub labels : (label : Labels) → Spells before label → Spells after (mergeAll g label (runEdges c from i))
+  pub parents : Parents after
 
 module _ (g : Graph) (c : List ℕ) (from to : ℕ) where
-  pub run-start : from ≤ to → (label : List ℕ) → RunSoFar g c from to from label label
+  pub run-start : from ≤ to → {parents : List ℕ} → Parents parents → RunSoFar g c from to from parents parents
   unfolding mergeAll
-  run-start h label =
+  run-start h p =
       let none = run-none c from from (omega arith) in
       record {
         past = omega arith;
         within = h;
         free = λ P a. rw none refl;
         labels = λ P a. rw none a;
-        as-long = refl;
+        parents = p;
       }
 
-  module _ {i : ℕ} {label₀ label₁ label₂ : List ℕ} {r : Bool} (s : RunSoFar g c from to i label₀ label₁) (more : i < to)
-      (j : Joined g (entryEdge c i) label₁ label₂ r) where
+  module _ {i : ℕ} {before between after : List ℕ} {r : Bool} (s : RunSoFar g c from to i before between) (more : i < to)
+      (j : EndsJoined g (entryEdge c i) between after r) where
     -- The next edge's ends are joined already: the run closes a loop.
-    pub run-loop : r ≡ false → RunTaken g c from to label₀ label₂ false
+    pub run-loop : r ≡ false → RunTaken g c from to before after false
     unfolding loopFree
     run-loop q =
         record {
+          parents = j .parents;
           free = λ P a.
               sym (s .free P a
               ∙ ap (loopFree g (mergeAll g P (runEdges c from i))) (run-first c i to more)
@@ -89,9 +88,9 @@ module _ (g : Graph) (c : List ℕ) (from to : ℕ) where
         ∙ merged-append g P (runEdges c from i) (entryEdge c i ∷ [])
 
     -- They were not: the rest decides.
-    pub run-next : length label₂ ≡ length label₁ → r ≡ true → RunSoFar g c from to (i + 1) label₀ label₂
+    pub run-next : r ≡ true → RunSoFar g c from to (i + 1) before after
     unfolding loopFree
-    run-next l q =
+    run-next q =
         record {
           past = omega (arith, s .past);
           within = omega arith;
@@ -102,15 +101,16 @@ module _ (g : Graph) (c : List ℕ) (from to : ℕ) where
               (sym (j .new (mergeAll g P (runEdges c from i)) (s .labels P a)) ∙ q)
               ∙ ap (λ L. loopFree g L (runEdges c (i + 1) to)) (sym (labels-next P));
           labels = λ P a. rw (labels-next P) (j .labels (mergeAll g P (runEdges c from i)) (s .labels P a));
-          as-long = l ∙ s .as-long;
+          parents = j .parents;
         }
 
   -- The whole run is taken.
-  pub run-done : {i : ℕ} {label₀ label₁ : List ℕ} → RunSoFar g c from to i label₀ label₁ → to ≤ i → RunTaken g c from to label₀ label₁ true
+  pub run-done : {i : ℕ} {before after : List ℕ} → RunSoFar g c from to i before after → to ≤ i → RunTaken g c from to before after true
   unfolding loopFree
   run-done {i} s h =
       let end : i ≡ to = omega (arith, s .within) in
       record {
+        parents = s .parents;
         free = λ P a. sym (s .free P a ∙ ap (loopFree g (mergeAll g P (runEdges c from i))) (run-none c i to h));
         labels = λ P a t. rw end at (s .labels P a);
       }

@@ -1,70 +1,95 @@
 -- The tests of the trees (34) as the code makes them: a run's edges against the start, one tree, all trees.
 -- Assumes nothing.
-use Prim.Native.Nat.{ℕ, _-_, _≤_, _<_}
+use Prim.Native.Nat.{ℕ, _+_, _-_, _≤_, _<_}
 use mathlib.Core.Path.{_≡_, sym, ap, _∙_}
 use mathlib.Core.Bool.{Bool, true, false, _&&_}
-use mathlib.Core.List.{List, []}
+use mathlib.Core.List.{List}
 use native.Mathlib.Omega.{arith}
-use lib.ListN.{getD}
+use borrow.Author.Tests.{eq-eqb, ne-eqb}
 use Rattle.lists.specs.Count as Count
-use Rattle.lists.specs.Lists.{any, all, member}
+use Rattle.lists.specs.Lists.{all}
+use Rattle.lists.proofs.AfterStore.{at-or-not}
 use Rattle.lists.proofs.Below.{of-from, in-from, of-below, in-below}
 use Rattle.lists.proofs.Every.{each-all}
 use Rattle.lists.proofs.AllBelow.{no-and, one-fails}
 use Rattle.lists.proofs.Member.{in-map, of-map}
 use Rattle.graph.specs.Graph.{Graph, oneEnd}
-use Rattle.graph.specs.Bytes.{graphOf}
-use Rattle.graph.specs.Valid.{IsGraph}
-use Rattle.graph.proofs.Ranges.{one-end-below}
 use Rattle.rules.specs.Cover.{Tree}
 use Rattle.rules.specs.CoverBytes.{treesIn, startIn, entryEdge, treeIn, decode}
-use Rattle.rules.specs.Labels.{Labels, joined, apart, together, mergeAll}
+use Rattle.rules.specs.Labels.{Labels, joined, apart, mergeAll}
 use Rattle.rules.specs.CheckCover.{allJoined, treeRight, treesRight}
-use Rattle.forest.specs.Arrays.{Agrees}
-use Rattle.forest.proofs.Labelling.{joined-yes, joined-no}
 use Rattle.cover.specs.Runs.{runEdges}
+use Rattle.cover.specs.Parents.{Stands, Spells, Shortened, Found}
 use Rattle.cover.specs.Trees.{RunTaken, RunJoined}
+use Rattle.cover.proofs.JoinedByParents.{short-none, short-then}
 
--- The edges of a run against the start.
-module _ {b : List ℕ} (graph : IsGraph b) (c : List ℕ) (from to start : ℕ) (array : List ℕ) (inside : start < graphOf b .vertices) where
-  abbrev g : Graph
-  g = graphOf b
-
+-- The edges of a run against the start, for which `home` was found to stand.
+module _ (g : Graph) (c : List ℕ) (from to : ℕ) {start home : ℕ} {before after : List ℕ} (f : Found start before after home) where
   -- One that is not joined to it.
-  pub run-apart : (k : ℕ) → from ≤ k → k < to → (getD array start 0 ≡ getD array (oneEnd g (entryEdge c k)) 0 → ⊥)
-      → RunJoined g c from to start array false
+  pub run-apart : (k : ℕ) → from ≤ k → k < to → ((label : Labels) → Spells after label → label home ≡ label (oneEnd g (entryEdge c k)) → ⊥)
+      → RunJoined g c from to start before false
+  unfolding joined
   run-apart k h l d =
       record {
-        is = λ label a.
+        is = λ label w.
             sym (one-fails (λ e. joined label start (oneEnd g e)) (in-map (entryEdge c) (in-from from (to - from) h (omega arith)))
-            (joined-no array label a start (oneEnd g (entryEdge c k)) inside (one-end-below (graph .valid) (entryEdge c k)) d));
+            (ne-eqb (label start) (label (oneEnd g (entryEdge c k))) (λ q. d label (f .short .spells label w) (f .same label w ∙ q))));
       }
 
   -- Each joined to it.
-  pub run-together : ((k : ℕ) → from ≤ k → k < to → getD array start 0 ≡ getD array (oneEnd g (entryEdge c k)) 0)
-      → RunJoined g c from to start array true
+  pub run-together : ((label : Labels) → Spells after label → (k : ℕ) → from ≤ k → k < to → label home ≡ label (oneEnd g (entryEdge c k)))
+      → RunJoined g c from to start before true
+  unfolding joined
   run-together same =
       record {
-        is = λ label a. sym (each-all (λ e. joined label start (oneEnd g e)) (runEdges c from to) (λ e m. one label a e (of-map (entryEdge c) (Count.from from (to - from)) m)));
+        is = λ label w. sym (each-all (λ e. joined label start (oneEnd g e)) (runEdges c from to) (λ e m. one label w e (of-map (entryEdge c) (Count.from from (to - from)) m)));
       }
     where
-      one : (label : Labels) → Agrees (g .vertices) array label → (e : ℕ)
+      one : (label : Labels) → Spells before label → (e : ℕ)
           → (k : ℕ) × (mathlib.Core.List.List·Memᴰ k (Count.from from (to - from))) × (e ≡ entryEdge c k) → joined label start (oneEnd g e) ≡ true
-      one label a e (k, m, q) =
+      one label w e (k, m, q) =
           let s = of-from from (to - from) m in
-          rw q (joined-yes array label a start (oneEnd g (entryEdge c k)) inside (one-end-below (graph .valid) (entryEdge c k)) (same k (omega arith) (omega arith)))
+          rw q (eq-eqb (label start) (label (oneEnd g (entryEdge c k)))
+          (sym (f .same label w) ∙ same label (f .short .spells label w) k (omega arith) (omega arith)))
 
--- With no roots every vertex is apart.
-pub all-apart : (n : ℕ) (array : List ℕ) → Agrees n array (together []) → Agrees n array apart
-unfolding together member any apart
-all-apart n array a = a
+-- The edges of the entries before i are joined to `home`, which stands for others.
+pub record HeldSoFar (g : Graph) (c : List ℕ) (from home i : ℕ) (before after : List ℕ) : Type 0 where
+  pub short : Shortened before after
+  pub stands : Stands after home
+  pub below : home < 256
+  pub held : (label : Labels) → Spells before label → (k : ℕ) → from ≤ k → k < i → label home ≡ label (oneEnd g (entryEdge c k))
 
--- One tree, from labels that are all apart.
-module _ (g : Graph) (c : List ℕ) (j from to : ℕ) {label₁ label₂ : List ℕ} {r : Bool}
-    (started : Agrees (g .vertices) label₁ (together [])) (taken : RunTaken g c from to label₁ label₂ r) where
-  unjoined : Agrees (g .vertices) label₁ apart
-  unjoined = all-apart (g .vertices) label₁ started
+pub held-none : (g : Graph) (c : List ℕ) (from : ℕ) {start home : ℕ} {before after : List ℕ} → start < 256 → Found start before after home
+    → HeldSoFar g c from home from after after
+held-none g c from inside f =
+    record { short = short-none (f .short .parents); stands = f .stands; below = omega (arith, f .below); held = λ label w k h l. absurd (omega arith) }
 
+-- Who stands for an end of entry i's edge was found.
+module _ (g : Graph) (c : List ℕ) (from : ℕ) {home i r : ℕ} {before between after : List ℕ} (s : HeldSoFar g c from home i before between)
+    (f : Found (oneEnd g (entryEdge c i)) between after r) where
+  -- The same vertex.
+  pub held-more : r ≡ home → HeldSoFar g c from home (i + 1) before after
+  held-more q =
+      record {
+        short = short-then (s .short) (f .short);
+        stands = f .short .stand home (s .below) (s .stands);
+        below = s .below;
+        held = λ label w k h l.
+            at-or-not (λ x. label home ≡ label (oneEnd g (entryEdge c x))) i k
+            (ap label (sym q) ∙ f .same label (s .short .spells label w))
+            (λ d. s .held label w k h (omega arith));
+      }
+
+  -- Another one: the end is not joined to it.
+  pub held-not : oneEnd g (entryEdge c i) < 256 → (r ≡ home → ⊥) → (label : Labels) → Spells before label → label home ≡ label (oneEnd g (entryEdge c i)) → ⊥
+  held-not inside d label w q =
+      let v = s .short .spells label w in
+      d (f .short .spells label v .once r home (omega (arith, f .below)) (s .below) (f .stands) (f .short .stand home (s .below) (s .stands))
+      (f .same label v ∙ sym q))
+
+-- One tree, where nothing was joined.
+module _ (g : Graph) (c : List ℕ) (j from to : ℕ) {before after : List ℕ} {r : Bool}
+    (unjoined : Spells before apart) (taken : RunTaken g c from to before after r) where
   abbrev tree : Tree
   tree = record { start = startIn c j; edges = runEdges c from to }
 
@@ -73,7 +98,7 @@ module _ (g : Graph) (c : List ℕ) (j from to : ℕ) {label₁ label₂ : List 
   tree-loop q = sym (no-and (allJoined g tree) (sym (taken .free apart unjoined) ∙ q))
 
   -- They close none: whether they are joined to the start decides.
-  pub tree-joined : r ≡ true → {s : Bool} → RunJoined g c from to (startIn c j) label₂ s → s ≡ treeRight g tree
+  pub tree-joined : r ≡ true → {s : Bool} → RunJoined g c from to (startIn c j) after s → s ≡ treeRight g tree
   unfolding allJoined
   tree-joined q {s} run =
       run .is (mergeAll g apart (runEdges c from to)) (taken .labels apart unjoined q)

@@ -3,6 +3,8 @@
 pub mod Chosen
 -- runs of entries
 pub mod Runs
+-- vertices joined by parents
+pub mod Parents
 -- one tree and its run of entries
 pub mod Trees
 -- marked vertices

@@ -12,22 +12,23 @@ use Rattle.graph.specs.Valid.{IsGraph}
 use Rattle.rules.specs.Labels.{Labels, joined, mergeAll}
 use Rattle.rules.specs.CoverBytes.{startIn}
 use Rattle.rules.specs.CheckCover.{startsBelow, entriesRight, loopFree}
-use Rattle.forest.specs.Arrays.{Agrees}
-use Rattle.forest.specs.Keeping.{Labelable}
 use Rattle.cover.specs.Runs.{runEdges}
+use Rattle.cover.specs.Parents.{Parents, Spells}
 
--- Whatever labels the array held: r says whether the run's edges close no loop, and where they close none all their ends are joined.
-pub record RunTaken (g : Graph) (c : List ℕ) (from to : ℕ) (label₀ label₁ : List ℕ) (r : Bool) : Type 0 where
-  pub free : (label : Labels) → Agrees (g .vertices) label₀ label → r ≡ loopFree g label (runEdges c from to)
-  pub labels : (label : Labels) → Agrees (g .vertices) label₀ label → r ≡ true → Agrees (g .vertices) label₁ (mergeAll g label (runEdges c from to))
+-- Whatever labels the parents spelled: r says whether the run's edges close no loop, and where they close none all their ends are joined.
+pub record RunTaken (g : Graph) (c : List ℕ) (from to : ℕ) (before after : List ℕ) (r : Bool) : Type 0 where
+  pub parents : Parents after
+  pub free : (label : Labels) → Spells before label → r ≡ loopFree g label (runEdges c from to)
+  pub labels : (label : Labels) → Spells before label → r ≡ true → Spells after (mergeAll g label (runEdges c from to))
 
 -- r says whether each edge of the run is joined to the start.
-pub record RunJoined (g : Graph) (c : List ℕ) (from to start : ℕ) (array : List ℕ) (r : Bool) : Type 0 where
-  pub is : (label : Labels) → Agrees (g .vertices) array label → r ≡ all (λ e. joined label start (oneEnd g e)) (runEdges c from to)
+pub record RunJoined (g : Graph) (c : List ℕ) (from to start : ℕ) (parents : List ℕ) (r : Bool) : Type 0 where
+  pub is : (label : Labels) → Spells parents label → r ≡ all (λ e. joined label start (oneEnd g e)) (runEdges c from to)
 
--- The graph's bytes with a place for each vertex's label, a start that is a vertex, and a run that does not end before it begins.
-pub record TreeGiven (b c : List ℕ) (j from to : ℕ) (label : List ℕ) : Type 0 where
-  pub labelable : Labelable b label
+-- The graph's bytes with a place for each vertex's parent, a start that is a vertex, and a run that does not end before it begins.
+pub record TreeGiven (b c : List ℕ) (j from to : ℕ) (parents : List ℕ) : Type 0 where
+  pub graph : IsGraph b
+  pub room : length parents ≡ 256
   pub start : startIn c j < graphOf b .vertices
   pub forward : from ≤ to
 
@@ -37,7 +38,7 @@ pub record CoverGiven (b c : List ℕ) : Type 0 where
   pub starts : startsBelow (graphOf b .vertices) c ≡ true
   pub entries : entriesRight (edgeCount (graphOf b)) c ≡ true
 
--- The same, with a place for each vertex's label.
-pub record TreesGiven (b c label : List ℕ) : Type 0 where
+-- The same, with a place for each vertex's parent.
+pub record TreesGiven (b c parents : List ℕ) : Type 0 where
   pub cover : CoverGiven b c
-  pub room : graphOf b .vertices ≤ length label
+  pub room : length parents ≡ 256

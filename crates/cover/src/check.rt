@@ -53,8 +53,8 @@ fn check_trees(b: &[u8], c: &[u8]) -> Verdict
     requires { ⌜ CoverGiven (now b) (now c) ⌝ }
     ensures { λ r. ⌜ says r ≡ answer (graphOf (now (b .entry))) (now (c .entry)) (treesFault (graphOf (now (b .entry))) (now (c .entry))) ⌝ }
 {
-    let mut label = [0u16; 256];
-    if !trees_right(b, c, &mut label) {
+    let mut parents = [0u8; 256];
+    if !trees_right(b, c, &mut parents) {
         return Verdict::Trees;
     }
     if !vertices_covered(b, c) {

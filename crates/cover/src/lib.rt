@@ -5,6 +5,7 @@ pub mod crews;
 pub mod entries;
 pub mod heaviest;
 mod index;
+mod parents;
 pub mod read;
 pub mod starts;
 pub mod trees;

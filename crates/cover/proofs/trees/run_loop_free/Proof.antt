@@ -1,23 +1,21 @@
 -- `cover::trees::run_loop_free` meets its contract. The loop's invariant: the entries before i are taken. The measure is how many are left.
 -- Assumes nothing.
 use Prim.Native.Nat.{_-_}
-use mathlib.Core.Path.{_≡_}
 use native.Mathlib.Omega.{arith}
-use lib.ListN.{length}
 use borrow.Author.Tests.{not-true, not-false}
 use Rattle.graph.specs.Graph.{Graph}
 use Rattle.graph.specs.Bytes.{graphOf}
 use Rattle.rules.specs.CoverBytes.{entryEdge}
-use Rattle.forest.specs.Labelled.{Joined}
+use Rattle.cover.specs.Parents.{EndsJoined}
 use Rattle.cover.proofs.RunTests.{RunSoFar, run-start, run-loop, run-next, run-done}
 use Rattle.cover.proofs.trees.run_loop_free.Statement.{statement}
 use Rattle.cover.proofs.trees.run_loop_free.Tie as tie
 
 abbrev Inv-loop : tie.InvT-loop
-Inv-loop b c from to label₀ i₀ label i = RunSoFar (graphOf b) c from to i label₀ label
+Inv-loop b c from to parents₀ i₀ parents i = RunSoFar (graphOf b) c from to i parents₀ parents
 
 abbrev μ-loop : tie.MeasureT-loop
-μ-loop b c from to label₀ i₀ label i = to - i
+μ-loop b c from to parents₀ i₀ parents i = to - i
 
 -- Where the loop began, and the graph.
 abbrev start : tie.At-loop Inv-loop μ-loop → tie.Start Inv-loop μ-loop
@@ -34,16 +32,13 @@ module _ (t : tie.After-join-ends Inv-loop μ-loop) where
   abbrev turn : tie.At-loop Inv-loop μ-loop
   turn = read .before .before
 
-  joined : Joined (g (start turn)) (entryEdge (start turn .args .c .now) (turn .loop .i)) (turn .loop .label) (t .join-ends .last .1 .1 .0) (t .join-ends .result)
+  joined : EndsJoined (g (start turn)) (entryEdge (start turn .args .c .now) (turn .loop .i)) (turn .loop .parents) (t .join-ends .last .1 .1 .0) (t .join-ends .result)
   joined = rw (read .entry-edge .ensures .is) at (t .join-ends .ensures)
-
-  as-long : length (t .join-ends .last .1 .1 .0) ≡ length (turn .loop .label)
-  as-long = t .join-ends .kept .1 .1 .0
 
 loop-holds : tie.Need-loop-holds Inv-loop μ-loop
 loop-holds c =
     let s = c .before .before .before in
-    run-start (g s) (s .args .c .now) (s .args .from) (s .args .to) (s .pre .0) (s .args .label .now)
+    run-start (g s) (s .args .c .now) (s .args .from) (s .args .to) (s .pre .0) (s .pre .1 .parented)
 
 entry-edge-requires : tie.Need-entry-edge-requires Inv-loop μ-loop
 entry-edge-requires c κs = tt
@@ -51,13 +46,12 @@ entry-edge-requires c κs = tt
 join-ends-requires : tie.Need-join-ends-requires Inv-loop μ-loop
 join-ends-requires c κs =
     let l = c .before .before .before in
-    let p = start l .pre .1 in
-    record { graph = p .graph; room = omega (arith, p .room, l .loop .inv .as-long) }
+    record { graph = start l .pre .1 .graph; parented = l .loop .inv .parents }
 
 same-length : tie.Need-same-length Inv-loop μ-loop
 same-length c =
     let t = c .before .before .before in
-    omega (arith, as-long t, turn t .loop .inv .as-long)
+    omega (arith, joined t .parents .room, start (turn t) .pre .1 .parented .room)
 
 returns : tie.Need-returns Inv-loop μ-loop
 returns c =
@@ -77,10 +71,10 @@ loop-again c =
     let t = c .before .before .before in
     let l = turn t in
     let s = start l .args in
-    run-next (g (start l)) (s .c .now) (s .from) (s .to) (l .loop .inv) (omega arith) (joined t) (as-long t) (not-false (t .join-ends .result) (c .if1 .left))
+    run-next (g (start l)) (s .c .now) (s .from) (s .to) (l .loop .inv) (omega arith) (joined t) (not-false (t .join-ends .result) (c .if1 .left))
 
 same-length-2 : tie.Need-same-length-2 Inv-loop μ-loop
-same-length-2 c = c .before .loop .inv .as-long
+same-length-2 c = omega (arith, c .before .loop .inv .parents .room, start (c .before) .pre .1 .parented .room)
 
 returns-2 : tie.Need-returns-2 Inv-loop μ-loop
 returns-2 c =

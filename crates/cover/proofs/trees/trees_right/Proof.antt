@@ -20,11 +20,11 @@ use Rattle.cover.proofs.trees.trees_right.Statement.{statement}
 use Rattle.cover.proofs.trees.trees_right.Tie as tie
 
 abbrev Inv-loop : tie.InvT-loop
-Inv-loop b c label₀ t from₀ j₀ label from j =
-    (length label ≡ length label₀) × BeginsAt c j from × ((k : ℕ) → k < j → treeRight (graphOf b) (treeIn c k) ≡ true)
+Inv-loop b c parents₀ t from₀ j₀ parents from j =
+    (length parents ≡ length parents₀) × BeginsAt c j from × ((k : ℕ) → k < j → treeRight (graphOf b) (treeIn c k) ≡ true)
 
 abbrev μ-loop : tie.MeasureT-loop
-μ-loop b c label₀ t from₀ j₀ label from j = t - j
+μ-loop b c parents₀ t from₀ j₀ parents from j = t - j
 
 -- Where the loop began, and the graph.
 abbrev start : tie.At-loop Inv-loop μ-loop → tie.Start Inv-loop μ-loop
@@ -50,7 +50,7 @@ module _ (t : tie.After-tree-right Inv-loop μ-loop) where
       ∙ ap (λ (x : Tree). treeRight (g (start turn)) x)
       (sym (tree-is-run (s .args .c .now) (edgeCount (g (start turn))) (s .pre .cover .entries) (turn .loop .inv .1) (found .run-end .ensures)))
 
-  as-long : length (t .tree-right .last .1 .1 .1 .1 .1 .0) ≡ length (s .args .label .now)
+  as-long : length (t .tree-right .last .1 .1 .1 .1 .1 .0) ≡ length (s .args .parents .now)
   as-long = t .tree-right .kept .1 .1 .1 .1 .1 .0 ∙ turn .loop .inv .0
 
 trees-in-requires : tie.Need-trees-in-requires Inv-loop μ-loop
@@ -69,7 +69,8 @@ tree-right-requires c κs =
     let l = c .before .before .before in
     let s = start l in
     record {
-      labelable = record { graph = s .pre .cover .graph; room = omega (arith, l .loop .inv .0, s .pre .room) };
+      graph = s .pre .cover .graph;
+      room = l .loop .inv .0 ∙ s .pre .room;
       start = start-passed (s .args .c .now) (g (start l) .vertices) (s .pre .cover .starts) (l .loop .j) (omega arith);
       forward = c .before .run-end .ensures .run .forward;
     }
