@@ -47,13 +47,14 @@ rooted-history {kind} r = record { is = λ u. absurd (both r u) }
     both p q = let z : _≡_ {A = ℕ} 0 1 = cc in omega arith
 
 -- A decision at a limit.
-module _ {kind : Kind} {k limit : ℕ} {b roots kept bounds arcs table total until : List ℕ}
-    (a : DecisionAsked kind k b roots limit kept bounds arcs table total until) where
-  pub rooted-decision : kind ≡ Rooted → rooted.DecisionAsked b roots limit kept bounds arcs table
+module _ {kind : Kind} {k limit : ℕ} {b roots kept bounds arcs table total until walk : List ℕ}
+    (a : DecisionAsked kind k b roots limit kept bounds arcs table total until walk) where
+  pub rooted-decision : kind ≡ Rooted → rooted.DecisionAsked b roots limit kept bounds arcs table walk
   rooted-decision q =
       let same : kind ≡ Rooted = q in
       record {
         asked = record { decidable = a .crews .decidable; roots-some = roots-some roots (a .crews .roots-fit) q; limit-most = a .limit-most };
+        walked = a .walked;
         some-cover = rw same at (a .crews .some-cover);
       }
 

@@ -11,7 +11,7 @@ use Rattle.rules.specs.Cover as cover
 use Rattle.rules.specs.Search.{noCover}
 use Rattle.cover.specs.declared.crews.Kind.{Kind}
 use Rattle.cover.specs.declared.crews.Kind.the-variants.{Rooted, Unrooted}
-use Rattle.rooted.specs.Prepared.{Decidable}
+use Rattle.rooted.specs.Prepared.{Decidable, WholeWalked}
 use Rattle.unrooted.specs.History.{HistoryKept}
 
 -- The crews by a list of roots, or k without.
@@ -35,7 +35,8 @@ pub record CrewsPrepared (kind : Kind) (k : ℕ) (b roots kept bounds arcs table
   pub roots-fit : RootsFit kind roots
   pub some-cover : noCover (graphOf b) (crewsWith kind k roots) ≡ false
 
--- The same, and a limit within document 01's range.
-pub record DecisionAsked (kind : Kind) (k : ℕ) (b roots : List ℕ) (limit : ℕ) (kept bounds arcs table total until : List ℕ) : Type 0 where
+-- The same, with the walk of the whole forest's trees and a limit within document 01's range.
+pub record DecisionAsked (kind : Kind) (k : ℕ) (b roots : List ℕ) (limit : ℕ) (kept bounds arcs table total until walk : List ℕ) : Type 0 where
   pub crews : CrewsPrepared kind k b roots kept bounds arcs table total until
+  pub walked : WholeWalked b roots walk
   pub limit-most : limit ≤ 2048000000

@@ -10,6 +10,7 @@ use Rattle.rules.specs.Cover as cover
 use Rattle.rules.specs.Order.{ordered}
 use Rattle.rules.specs.Search.{accepts, Bounds, searched}
 use Rattle.cover.specs.declared.crews.Kind.{Kind}
+use Rattle.rooted.specs.Prepared.{WholeWalked}
 use Rattle.planner.specs.Crews.{CrewsPrepared}
 
 -- Where the search stands.
@@ -20,12 +21,18 @@ between low high = record { low = low; high = high }
 abbrev pub searchEnd : Graph → cover.Crews → ℕ → ℕ → ℕ
 searchEnd g crews sum budget = searched (accepts g crews) budget (between 0 sum) .high
 
--- What the search asks: prepared crews, and a sum within document 01's range.
-pub record SearchAsked (kind : Kind) (k : ℕ) (b roots kept bounds arcs table total until : List ℕ) (sum : ℕ) : Type 0 where
+-- What the search asks: prepared crews, the walk of the whole forest's trees, and a sum within document 01's range.
+pub record SearchAsked (kind : Kind) (k : ℕ) (b roots kept bounds arcs table total until walk : List ℕ) (sum : ℕ) : Type 0 where
   pub crews : CrewsPrepared kind k b roots kept bounds arcs table total until
+  pub walked : WholeWalked b roots walk
   pub sum-most : sum ≤ 2048000000
 
 -- What the best limit asks besides: the edges in order.
 pub record BestAsked (kind : Kind) (k : ℕ) (b roots order kept bounds arcs table total until : List ℕ) : Type 0 where
   pub crews : CrewsPrepared kind k b roots kept bounds arcs table total until
   pub in-order : order ≡ ordered (graphOf b)
+
+-- The same with the walk of the whole forest's trees.
+pub record WalkedAsked (kind : Kind) (k : ℕ) (b roots order kept bounds arcs table total until walk : List ℕ) : Type 0 where
+  pub asked : BestAsked kind k b roots order kept bounds arcs table total until
+  pub walked : WholeWalked b roots walk
