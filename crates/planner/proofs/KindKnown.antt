@@ -60,12 +60,13 @@ forest-ready r =
     }
 
 -- A decision at a limit.
-pub rooted-decision : {kind : Kind} {k limit : ℕ} {b roots kept bounds arcs table total until : List ℕ}
-    → DecisionAsked kind k b roots limit kept bounds arcs table total until → kind ≡ Rooted → rooted.DecisionAsked b roots limit kept bounds arcs table
+pub rooted-decision : {kind : Kind} {k limit : ℕ} {b roots kept bounds arcs table total until walk : List ℕ}
+    → DecisionAsked kind k b roots limit kept bounds arcs table total until walk → kind ≡ Rooted → rooted.DecisionAsked b roots limit kept bounds arcs table walk
 rooted-decision {kind} a q =
     let same : kind ≡ Rooted = q in
     record {
       asked = record { decidable = a .crews .ready .decidable q; roots-some = a .crews .ready .roots-some q; limit-most = a .limit-most };
+      walked = a .walked q;
       some-cover = rw same at (a .crews .some-cover);
     }
 

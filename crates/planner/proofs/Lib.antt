@@ -1,4 +1,6 @@
 -- Laws that belong to no one function, in reading order.
+-- the walk that every decision counts by
+pub mod WalkWritten
 -- the search, trial by trial, and the sum at which it begins
 pub mod SearchLoop
 -- what is asked of crews of either kind, where the kind is known

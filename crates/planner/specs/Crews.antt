@@ -11,7 +11,7 @@ use Rattle.rules.specs.Cover as cover
 use Rattle.rules.specs.Search.{noCover}
 use Rattle.cover.specs.declared.crews.Kind.{Kind}
 use Rattle.cover.specs.declared.crews.Kind.the-variants.{Rooted, Unrooted}
-use Rattle.rooted.specs.Prepared.{Decidable}
+use Rattle.rooted.specs.Prepared.{Decidable, WholeWalked}
 use Rattle.unrooted.specs.Answer.{HistoryReady}
 
 -- The crews by a list of roots, or k without.
@@ -39,7 +39,8 @@ pub record CrewsPrepared (kind : Kind) (k : ℕ) (b roots kept bounds arcs table
   pub ready : CrewsReady kind b roots kept bounds arcs table total until
   pub some-cover : noCover (graphOf b) (crewsWith kind k roots) ≡ false
 
--- The same, and a limit within document 01's range.
-pub record DecisionAsked (kind : Kind) (k : ℕ) (b roots : List ℕ) (limit : ℕ) (kept bounds arcs table total until : List ℕ) : Type 0 where
+-- The same, with the walk of the whole forest's trees, which crews with roots read, and a limit within document 01's range.
+pub record DecisionAsked (kind : Kind) (k : ℕ) (b roots : List ℕ) (limit : ℕ) (kept bounds arcs table total until walk : List ℕ) : Type 0 where
   pub crews : CrewsPrepared kind k b roots kept bounds arcs table total until
+  pub walked : kind ≡ Rooted → WholeWalked b roots walk
   pub limit-most : limit ≤ 2048000000

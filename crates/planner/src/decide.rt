@@ -20,12 +20,13 @@ pub(crate) fn accepts_at(
     table: &[u32],
     total: &[u64],
     until: &[u16],
+    walk: &[u64],
 ) -> bool
-    requires { ⌜ DecisionAsked kind k (now b) (now roots) limit (now kept) (now bounds) (now arcs) (now table) (now total) (now until) ⌝ }
+    requires { ⌜ DecisionAsked kind k (now b) (now roots) limit (now kept) (now bounds) (now arcs) (now table) (now total) (now until) (now walk) ⌝ }
     ensures { λ r. ⌜ r ≡ accepts (graphOf (now (b .entry))) (crewsWith kind k (now (roots .entry))) limit ⌝ }
 {
     match kind {
-        Kind::Rooted => accepts_rooted(b, roots, limit, kept, bounds, arcs, table),
+        Kind::Rooted => accepts_rooted(b, roots, limit, kept, bounds, arcs, table, walk),
         Kind::Unrooted => accepts_unrooted(b, k, limit, kept, total, until),
     }
 }

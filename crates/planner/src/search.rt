@@ -2,6 +2,7 @@
 use crate::decide::accepts_at;
 use cover::crews::Kind;
 use forest::index::weight_of;
+use split::steps::put_walk;
 ghost use mathlib.Core.Path.{_≡_};
 ghost use Prim.Native.Nat.{_≤_};
 ghost use lib.ListN.{length};
@@ -9,7 +10,7 @@ ghost use Rattle.graph.specs.Bytes.{graphOf};
 ghost use Rattle.rules.specs.Walk.{totalWeight};
 ghost use Rattle.rules.specs.Search.{bestLimit};
 ghost use Rattle.planner.specs.Crews.{crewsWith};
-ghost use Rattle.planner.specs.Searching.{searchEnd, SearchAsked, BestAsked};
+ghost use Rattle.planner.specs.Searching.{searchEnd, SearchAsked, BestAsked, WalkedAsked, WalkGiven, WalkFor};
 
 // The weight of the edges together.
 fn sum_weights(b: &[u8], edges: &[u16]) -> u64
@@ -37,10 +38,11 @@ fn search(
     table: &[u32],
     total: &[u64],
     until: &[u16],
+    walk: &[u64],
     sum: u64,
     budget: usize,
 ) -> u64
-    requires { ⌜ SearchAsked kind k (now b) (now roots) (now kept) (now bounds) (now arcs) (now table) (now total) (now until) sum ⌝ }
+    requires { ⌜ SearchAsked kind k (now b) (now roots) (now kept) (now bounds) (now arcs) (now table) (now total) (now until) (now walk) sum ⌝ }
     ensures { λ r. ⌜ r ≡ searchEnd (graphOf (now (b .entry))) (crewsWith kind k (now (roots .entry))) sum budget ⌝ }
 {
     let mut low = 0;
@@ -64,6 +66,7 @@ fn search(
             table,
             total,
             until,
+            walk,
         ) {
             high = middle;
             continue;
@@ -73,7 +76,77 @@ fn search(
     high
 }
 
-// The best limit: 0 where that is accepted, and otherwise where the search ends. 31 trials are enough for any sum of weights.
+// The best limit by the walk: 0 where that is accepted, and otherwise where the search ends. 31 trials are enough for any sum of weights.
+fn search_limit(
+    kind: Kind,
+    k: usize,
+    b: &[u8],
+    roots: &[u16],
+    order: &[u16],
+    kept: &[u16],
+    bounds: &[u16],
+    arcs: &[u64],
+    table: &[u32],
+    total: &[u64],
+    until: &[u16],
+    walk: &[u64],
+) -> u64
+    requires { ⌜ WalkedAsked kind k (now b) (now roots) (now order) (now kept) (now bounds) (now arcs) (now table) (now total) (now until) (now walk) ⌝ }
+    ensures { λ r. ⌜ r ≡ bestLimit (graphOf (now (b .entry))) (crewsWith kind k (now (roots .entry))) ⌝ }
+{
+    if accepts_at(
+        kind,
+        k,
+        b,
+        roots,
+        0,
+        kept,
+        bounds,
+        arcs,
+        table,
+        total,
+        until,
+        walk,
+    ) {
+        return 0;
+    }
+    let sum = sum_weights(b, order);
+    search(
+        kind,
+        k,
+        b,
+        roots,
+        kept,
+        bounds,
+        arcs,
+        table,
+        total,
+        until,
+        walk,
+        sum,
+        31,
+    )
+}
+
+// Writes the walk of the whole forest's trees, by which crews with roots count parts. Says how many steps it has.
+fn write_walk(
+    kind: Kind,
+    b: &[u8],
+    roots: &[u16],
+    bounds: &[u16],
+    arcs: &[u64],
+    walk: &mut [u64],
+) -> usize
+    requires { ⌜ WalkGiven kind (now b) (now roots) (now bounds) (now arcs) (now walk) ⌝ }
+    ensures { λ r. ⌜ WalkFor kind (now (b .entry)) (now (roots .entry)) (now (walk .exit)) r ⌝ }
+{
+    match kind {
+        Kind::Rooted => put_walk(graph::vertex_count(b), bounds, arcs, roots, walk),
+        Kind::Unrooted => 0,
+    }
+}
+
+// The best limit. The walk of the whole forest's trees is written once, for all trials of the search.
 pub(crate) fn best_limit(
     kind: Kind,
     k: usize,
@@ -90,34 +163,20 @@ pub(crate) fn best_limit(
     requires { ⌜ BestAsked kind k (now b) (now roots) (now order) (now kept) (now bounds) (now arcs) (now table) (now total) (now until) ⌝ }
     ensures { λ r. ⌜ r ≡ bestLimit (graphOf (now (b .entry))) (crewsWith kind k (now (roots .entry))) ⌝ }
 {
-    if accepts_at(
+    let mut walk = [0u64; 256];
+    let steps = write_walk(kind, b, roots, bounds, arcs, &mut walk);
+    search_limit(
         kind,
         k,
         b,
         roots,
-        0,
+        order,
         kept,
         bounds,
         arcs,
         table,
         total,
         until,
-    ) {
-        return 0;
-    }
-    let sum = sum_weights(b, order);
-    search(
-        kind,
-        k,
-        b,
-        roots,
-        kept,
-        bounds,
-        arcs,
-        table,
-        total,
-        until,
-        sum,
-        31,
+        &walk[..steps],
     )
 }

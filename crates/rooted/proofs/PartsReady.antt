@@ -1,17 +1,23 @@
 -- Arrays of zeros have room for the parts of every trial: at most 256 vertices and 32 roots. A decision needs rows for no more parts than roots.
 -- Assumes nothing.
 use Prim.Native.Nat.{ℕ, _≤_, _<_}
-use mathlib.Core.Path.{_≡_, sym}
-use mathlib.Core.Bool.{false}
+use mathlib.Core.Path.{_≡_, sym, ap, _∙_}
+use mathlib.Core.Bool.{true, false}
 use mathlib.Core.List.{List}
 use mathlib.Core.Option.{none}
 use native.Mathlib.Nat.{mul-le-mul-right}
 use native.Mathlib.Omega.{arith}
 use lib.ListN.{length, replicate, length-replicate}
+use Rattle.lists.specs.Count.{from, below}
 use Rattle.lists.proofs.Zeros.{zeros-at}
 use Rattle.graph.specs.Bytes.{graphOf}
-use Rattle.rules.specs.RootedTrial.{unjoinedAt, mayGo, isAssignable}
-use Rattle.rooted.specs.Decide.{TrialAsked, PartsReady}
+use Rattle.matching.specs.Assignable.{assignable}
+use Rattle.rules.specs.Split.{allParts}
+use Rattle.rules.specs.RootedTrial.{unjoinedAt, rootedParts, mayGo, isAssignable}
+use Rattle.split.specs.Steps.{partsCounted}
+use Rattle.split.specs.WalkPut.{Countable}
+use Rattle.planner_laws.proofs.RootedPrepared.{pieces-of-whole}
+use Rattle.rooted.specs.Decide.{TrialAsked, PartsReady, CountReady, FewReady}
 use Rattle.rooted.specs.Parts.{PieceArrays, arraysOf, PiecesAsked, PiecesPlaced, FewHeld, RowsAsked, PartsAsked}
 use Rattle.rooted.proofs.AssignmentsAlike.{too-many}
 
@@ -58,30 +64,50 @@ parts-asked {roots = roots} r =
       out-room = omega (arith, most, length-replicate {A = ℕ} 256 0);
     }
 
--- Where the pieces of a trial are placed, more parts than roots have no assignment,
-module _ {b roots : List ℕ} {limit : ℕ} {bounds arcs table : List ℕ} (r : PartsReady b roots limit bounds arcs table) {starts cuts flat lefts places : List ℕ} {p : ℕ}
-    (placed : PiecesPlaced (graphOf b) roots limit (arraysOf starts cuts flat lefts places) p) where
-  pub many-refused : length roots < p → false ≡ isAssignable (graphOf b) roots limit
-  unfolding isAssignable
-  many-refused more = sym (too-many (mayGo (graphOf b) roots limit) (omega (arith, placed .parts-count)))
+-- One pass over the walk counts the trial's parts: more than there are roots have no assignment, and none need one.
+module _ {b roots : List ℕ} {limit : ℕ} {bounds arcs table walk : List ℕ} (r : CountReady b roots limit bounds arcs table walk) where
+  pub count-asked : Countable limit walk
+  count-asked = record { inside = r .walked .inside; threshold-most = omega (arith, r .ready .asked .limit-most) }
 
-  -- and no more than those may be assigned,
-  pub few-held : p ≤ length roots → FewHeld b roots limit table starts cuts flat places p
-  few-held few =
-      let d = r .asked .decidable in
-      record {
-        held =
-            record {
-              graph = d .graph;
-              roots-some = r .asked .roots-some;
-              roots-few = d .roots-few;
-              tabled = d .distances;
-              limit-most = r .asked .limit-most;
-              lefts = lefts;
-              placed = placed;
-            };
-        few = few;
-      }
+  module _ {p : ℕ} (counted : p ≡ partsCounted limit walk) where
+    parts-counted : p ≡ length (rootedParts (graphOf b) roots limit)
+    unfolding rootedParts
+    parts-counted =
+        counted
+        ∙ r .walked .counts limit
+        ∙ ap (λ ps. length (allParts ps)) (sym (pieces-of-whole (graphOf b) roots limit (r .ready .asked .decidable .graph .valid) (r .ready .joined)))
+
+    pub many-refused : length roots < p → false ≡ isAssignable (graphOf b) roots limit
+    unfolding isAssignable
+    many-refused more = sym (too-many (mayGo (graphOf b) roots limit) (omega (arith, parts-counted)))
+
+    pub none-assigned : p ≡ 0 → true ≡ isAssignable (graphOf b) roots limit
+    unfolding isAssignable assignable below from
+    none-assigned q = let none : length (rootedParts (graphOf b) roots limit) ≡ 0 = omega (arith, parts-counted) in rw none
+
+    -- No more than the roots may be assigned, when the trees are split.
+    pub few-ready : p ≤ length roots → FewReady b roots limit bounds arcs table
+    few-ready few = record { ready = r .ready; few = omega (arith, parts-counted) }
+
+-- Where the pieces of a trial are placed, their parts may be assigned,
+pub few-held : {b roots : List ℕ} {limit : ℕ} {bounds arcs table : List ℕ} → FewReady b roots limit bounds arcs table
+    → {starts cuts flat lefts places : List ℕ} {p : ℕ} → PiecesPlaced (graphOf b) roots limit (arraysOf starts cuts flat lefts places) p
+    → FewHeld b roots limit table starts cuts flat places p
+few-held r {lefts = lefts} placed =
+    let t = r .ready .asked in
+    record {
+      held =
+          record {
+            graph = t .decidable .graph;
+            roots-some = t .roots-some;
+            roots-few = t .decidable .roots-few;
+            tabled = t .decidable .distances;
+            limit-most = t .limit-most;
+            lefts = lefts;
+            placed = placed;
+          };
+      few = omega (arith, r .few, placed .parts-count);
+    }
 
 -- for which 32 times 32 marks are enough.
 pub few-asked : {b roots : List ℕ} {limit : ℕ} {table starts cuts flat places : List ℕ} {p : ℕ} → FewHeld b roots limit table starts cuts flat places p

@@ -12,6 +12,7 @@ use Rattle.rules.specs.Order.{ordered}
 use Rattle.rules.specs.Labels.{together}
 use Rattle.rules.specs.Forest.{keep}
 use Rattle.forest.specs.Around.{Around}
+use Rattle.split.specs.WalkPut.{Walk}
 use Rattle.marks.specs.Tabled.{DistancesTabled, LastsTabled}
 
 -- What deciding a limit takes: the graph's bytes and the roots (none where the crews have none), the whole forest by weight, the edges around each
@@ -23,6 +24,10 @@ pub record Decidable (b roots kept bounds arcs table : List ℕ) : Type 0 where
   pub forest : kept ≡ keep (graphOf b) (together roots) (ordered (graphOf b))
   pub around : Around (graphOf b) (rise (keep (graphOf b) (together roots) (ordered (graphOf b)))) bounds arcs
   pub distances : DistancesTabled (graphOf b) roots table
+
+-- The walk of the whole forest's trees, by which every limit's parts are counted.
+abbrev pub WholeWalked : List ℕ → List ℕ → List ℕ → Type 0
+WholeWalked b roots walk = Walk (graphOf b) (rise (keep (graphOf b) (together roots) (ordered (graphOf b)))) roots walk
 
 -- What writing an answer takes besides: the edges in order, and the last edges of the shortest paths.
 pub record Prepared (b roots order kept bounds arcs table lasts : List ℕ) : Type 0 where

@@ -5,12 +5,13 @@ use crate::parts::place_pieces;
 use forest::lowest::Found;
 use pieces::whole::light_forest;
 use pieces::whole::stop_at;
+use split::steps::count_parts;
 ghost use mathlib.Core.Path.{_≡_};
 ghost use Rattle.graph.specs.Bytes.{graphOf};
 ghost use Rattle.rules.specs.Cover.{rooted};
 ghost use Rattle.rules.specs.RootedTrial.{isAssignable};
 ghost use Rattle.rules.specs.Search.{accepts, noCover};
-ghost use Rattle.rooted.specs.Decide.{NoCoverAsked, DecisionAsked, PartsReady};
+ghost use Rattle.rooted.specs.Decide.{NoCoverAsked, DecisionAsked, FewReady, CountReady};
 ghost use Rattle.rooted.specs.Parts.{FewHeld};
 
 // Whether some vertex is joined to no root by any edge ("no cover"). The whole forest joins what all edges join.
@@ -58,9 +59,9 @@ fn few_assigned(
     )
 }
 
-// Whether each part of the trial gets a root of its own, where every vertex is joined to a root. More parts than roots never do, so that no
-// distance is looked at for them.
-fn parts_assigned(
+// Whether each part of the trial gets a root of its own, where there are no more parts than roots: the trees are split, so that the distances from
+// each part are known.
+fn split_assigned(
     b: &[u8],
     roots: &[u16],
     limit: u64,
@@ -68,7 +69,7 @@ fn parts_assigned(
     arcs: &[u64],
     table: &[u32],
 ) -> bool
-    requires { ⌜ PartsReady (now b) (now roots) limit (now bounds) (now arcs) (now table) ⌝ }
+    requires { ⌜ FewReady (now b) (now roots) limit (now bounds) (now arcs) (now table) ⌝ }
     ensures { λ r. ⌜ r ≡ isAssignable (graphOf (now (b .entry))) (now (roots .entry)) limit ⌝ }
 {
     let mut starts = [0u16; 288];
@@ -88,9 +89,6 @@ fn parts_assigned(
         &mut lefts,
         &mut places,
     );
-    if roots.len() < parts {
-        return false;
-    }
     few_assigned(
         b,
         roots,
@@ -104,6 +102,30 @@ fn parts_assigned(
     )
 }
 
+// Whether each part of the trial gets a root of its own, where every vertex is joined to a root. The parts are counted first: more than there are
+// roots never do, and where there is none nothing is needed, so that no tree is split for them.
+fn parts_assigned(
+    b: &[u8],
+    roots: &[u16],
+    limit: u64,
+    bounds: &[u16],
+    arcs: &[u64],
+    table: &[u32],
+    walk: &[u64],
+) -> bool
+    requires { ⌜ CountReady (now b) (now roots) limit (now bounds) (now arcs) (now table) (now walk) ⌝ }
+    ensures { λ r. ⌜ r ≡ isAssignable (graphOf (now (b .entry))) (now (roots .entry)) limit ⌝ }
+{
+    let parts = count_parts(walk, limit);
+    if roots.len() < parts {
+        return false;
+    }
+    if parts == 0 {
+        return true;
+    }
+    split_assigned(b, roots, limit, bounds, arcs, table)
+}
+
 // Whether the limit is accepted, where the whole graph joins every vertex to a root.
 pub fn accepts_rooted(
     b: &[u8],
@@ -113,12 +135,13 @@ pub fn accepts_rooted(
     bounds: &[u16],
     arcs: &[u64],
     table: &[u32],
+    walk: &[u64],
 ) -> bool
-    requires { ⌜ DecisionAsked (now b) (now roots) limit (now kept) (now bounds) (now arcs) (now table) ⌝ }
+    requires { ⌜ DecisionAsked (now b) (now roots) limit (now kept) (now bounds) (now arcs) (now table) (now walk) ⌝ }
     ensures { λ r. ⌜ r ≡ accepts (graphOf (now (b .entry))) (rooted (now (roots .entry))) limit ⌝ }
 {
     if light_forest(b, kept, limit) < kept.len() {
         return false;
     }
-    parts_assigned(b, roots, limit, bounds, arcs, table)
+    parts_assigned(b, roots, limit, bounds, arcs, table, walk)
 }

@@ -1,62 +1,52 @@
--- `planner::search::best_limit` meets its contract: 0 is tried first, then 31 trials between 0 and the sum of all weights are enough.
--- Assumes nothing.
-use Prim.Native.Nat.{_≤_}
-use mathlib.Core.Path.{_≡_, sym, ap, _∙_}
-use native.Mathlib.Omega.{arith}
-use lib.ListN.{length}
-use Rattle.graph.specs.Graph.{Graph}
+-- `planner::search::best_limit` meets its contract: the walk is written, and the search goes by it. Assumes nothing.
+use mathlib.Core.Path.{_≡_, sym}
+use lib.Seq.{length-take-le}
 use Rattle.graph.specs.Bytes.{graphOf}
-use Rattle.graph.specs.Valid.{Valid}
-use Rattle.rules.specs.Cover.{Crews}
-use Rattle.rules.specs.Walk.{totalWeight}
-use Rattle.planner_laws.proofs.BestLimit.{allWeights, sum-bounded}
-use Rattle.planner.specs.Crews.{crewsWith}
-use Rattle.planner.proofs.SearchLoop.{best-at-zero, best-searched, order-few}
+use Rattle.planner.proofs.WalkWritten.{walk-asked, walk-written, walk-fits}
 use borrow.Author.Needs.{needs}
 use Rattle.planner.proofs.search.best_limit.Statement.{statement}
 use Rattle.planner.proofs.search.best_limit.Tie as tie
 
--- Where 0 is tried: the graph, and the crews.
-module _ (a : tie.After-accepts-at) where
+-- Where the vertices are counted: what was asked, and how many there are.
+module _ (v : tie.After-vertex-count) where
   abbrev s : tie.Start
-  s = let d = a .before .before .before .before in d .before .before .before .before .before .before
+  s = let d = v .before .before .before .before in let e = d .before .before .before .before in e .before .before
 
-  abbrev g : Graph
-  g = graphOf (s .args .b .now)
+  n-is : v .vertex-count .result ≡ graphOf (s .args .b .now) .vertices
+  n-is = v .vertex-count .ensures .is
 
-  abbrev crews : Crews
-  crews = crewsWith (s .args .kind) (s .args .k) (s .args .roots .now)
+vertex-count-requires : tie.Need-vertex-count-requires
+vertex-count-requires c κs = search needs
 
-  valid : Valid g
-  valid = s .pre .crews .ready .graph .valid
+slice-aggregate-put-walk : tie.Need-slice-aggregate-put-walk
+slice-aggregate-put-walk c = search needs
 
--- Where the sum is known.
-module _ (w : tie.After-sum-weights) where
-  abbrev tried : tie.After-accepts-at
-  tried = w .before .before
+put-walk-requires : tie.Need-put-walk-requires
+put-walk-requires c κs = let v = c .before in walk-asked (s v .pre .crews .decidable) (n-is v)
 
-  sum-is : w .sum-weights .result ≡ allWeights (g tried)
-  sum-is = w .sum-weights .ensures ∙ ap (totalWeight (g tried)) (s tried .pre .in-order)
+array-share-prefix-walk : tie.Need-array-share-prefix-walk
+array-share-prefix-walk c = search needs
 
-accepts-at-requires : tie.Need-accepts-at-requires
-accepts-at-requires c κs = search needs
+slice-aggregate-search-limit : tie.Need-slice-aggregate-search-limit
+slice-aggregate-search-limit c = let p = c .before .before in sym (length-take-le _ _ (walk-fits (p .put-walk .ensures)))
+
+search-limit-requires : tie.Need-search-limit-requires
+search-limit-requires c κs =
+    let p = c .before .before in
+    let v = p .before .before in
+    record { asked = s v .pre; walked = walk-written (s v .pre .crews .decidable) (n-is v) (p .put-walk .ensures) }
 
 returns : tie.Need-returns
-returns c = best-at-zero (valid (c .before)) (crews (c .before)) (sym (c .before .accepts-at .ensures) ∙ c .if1 .taken)
-
-sum-weights-requires : tie.Need-sum-weights-requires
-sum-weights-requires c κs = order-few (valid (c .before)) (s (c .before) .pre .in-order)
-
-search-requires : tie.Need-search-requires
-search-requires c κs =
-    record { crews = s (tried c) .pre .crews; sum-most = omega (arith, sum-is c, sum-bounded (valid (tried c))) }
-
-returns-2 : tie.Need-returns-2
-returns-2 c =
-    let w = c .before in
-    c .search .ensures
-    ∙ best-searched (valid (tried w)) (crews (tried w)) (sym (tried w .accepts-at .ensures) ∙ w .before .if1 .left) _ (sum-is w)
+returns c = search needs
 
 pub best-limit-spec : {M : Type 1} → statement M
 best-limit-spec =
-    tie.close (tie.spec accepts-at-requires returns sum-weights-requires search-requires returns-2)
+    tie.close
+    (tie.spec
+    vertex-count-requires
+    slice-aggregate-put-walk
+    put-walk-requires
+    array-share-prefix-walk
+    slice-aggregate-search-limit
+    search-limit-requires
+    returns)

@@ -17,7 +17,7 @@ use Rattle.rooted.proofs.decide.accepts_rooted.Tie as tie
 -- Where the forest's edges within the limit are counted: what came.
 module _ (l : tie.After-light-forest) where
   abbrev s : tie.Start
-  s = let k = l .before .before .before .before in k .before .before .before
+  s = let k = l .before .before .before .before in k .before .before .before .before
 
   abbrev g : Graph
   g = graphOf (s .args .b .now)
@@ -36,7 +36,7 @@ returns c =
     heavy-refused (g l) (s l .args .roots .now) (d .forest) (l .light-forest .ensures) (d .graph .valid) (omega arith)
 
 parts-assigned-requires : tie.Need-parts-assigned-requires
-parts-assigned-requires c κs = let l = c .before in parts-ready (s l .pre .asked) (joined l (omega arith))
+parts-assigned-requires c κs = let l = c .before in record { ready = parts-ready (s l .pre .asked) (joined l (omega arith)); walked = s l .pre .walked }
 
 returns-2 : tie.Need-returns-2
 returns-2 c =

@@ -1,76 +1,30 @@
--- `rooted::decide::parts_assigned` meets its contract: arrays of zeros have room for the pieces. Assumes nothing.
+-- `rooted::decide::parts_assigned` meets its contract: more parts than roots have no assignment, none needs a root, and others decide.
+-- Assumes nothing.
 use native.Mathlib.Omega.{arith}
-use Rattle.rooted.proofs.PartsReady.{pieces-asked, many-refused, few-held}
+use Rattle.rooted.proofs.PartsReady.{count-asked, many-refused, none-assigned, few-ready}
 use borrow.Author.Needs.{needs}
 use Rattle.rooted.proofs.decide.parts_assigned.Statement.{statement}
 use Rattle.rooted.proofs.decide.parts_assigned.Tie as tie
 
--- Where the arrays are: what came; and where the pieces were placed, seen from the test behind it.
-abbrev start : tie.After-places → tie.Start
-start c =
-    let x = c .before .before .before .before in
-    let y = x .before .before .before .before in
-    y .before .before
+-- What came, where the parts are to be counted.
+abbrev start : tie.After-shared-slice-known6 → tie.Start
+start c = let x = c .before .before .before .before in x .before .before
 
-abbrev placed : tie.After-places2 → tie.After-place-pieces
-placed c = c .before .before .before .before .before
-
-slice-aggregate-place-pieces : tie.Need-slice-aggregate-place-pieces
-slice-aggregate-place-pieces c = search needs
-
-slice-aggregate-place-pieces-2 : tie.Need-slice-aggregate-place-pieces-2
-slice-aggregate-place-pieces-2 c = search needs
-
-slice-aggregate-place-pieces-3 : tie.Need-slice-aggregate-place-pieces-3
-slice-aggregate-place-pieces-3 c = search needs
-
-slice-aggregate-place-pieces-4 : tie.Need-slice-aggregate-place-pieces-4
-slice-aggregate-place-pieces-4 c = search needs
-
-slice-aggregate-place-pieces-5 : tie.Need-slice-aggregate-place-pieces-5
-slice-aggregate-place-pieces-5 c = search needs
-
-place-pieces-requires : tie.Need-place-pieces-requires
-place-pieces-requires c κs = pieces-asked (start c .pre)
+count-parts-requires : tie.Need-count-parts-requires
+count-parts-requires c κs = count-asked (start c .pre)
 
 returns : tie.Need-returns
-returns c = let q = placed (c .before) in many-refused (start (q .before) .pre) (q .place-pieces .ensures) (c .if1 .taken)
-
-slice-aggregate-few-assigned : tie.Need-slice-aggregate-few-assigned
-slice-aggregate-few-assigned c = search needs
-
-slice-aggregate-few-assigned-2 : tie.Need-slice-aggregate-few-assigned-2
-slice-aggregate-few-assigned-2 c = search needs
-
-slice-aggregate-few-assigned-3 : tie.Need-slice-aggregate-few-assigned-3
-slice-aggregate-few-assigned-3 c = search needs
-
-slice-aggregate-few-assigned-4 : tie.Need-slice-aggregate-few-assigned-4
-slice-aggregate-few-assigned-4 c = search needs
-
-few-assigned-requires : tie.Need-few-assigned-requires
-few-assigned-requires c κs =
-    let k = c .before .before .before .before in
-    let q = placed (k .before) in
-    few-held (start (q .before) .pre) (q .place-pieces .ensures) (omega (arith, k .if1 .left))
+returns c = let q = c .before in many-refused (start (q .before) .pre) (q .count-parts .ensures) (c .if1 .taken)
 
 returns-2 : tie.Need-returns-2
-returns-2 c = search needs
+returns-2 c = let q = c .before .before in none-assigned (start (q .before) .pre) (q .count-parts .ensures) (c .if2 .taken)
+
+split-assigned-requires : tie.Need-split-assigned-requires
+split-assigned-requires c κs = let q = c .before .before in few-ready (start (q .before) .pre) (q .count-parts .ensures) (omega (arith, c .before .if1 .left))
+
+returns-3 : tie.Need-returns-3
+returns-3 c = search needs
 
 pub parts-assigned-spec : {M : Type 1} → statement M
 parts-assigned-spec =
-    tie.close
-    (tie.spec
-    slice-aggregate-place-pieces
-    slice-aggregate-place-pieces-2
-    slice-aggregate-place-pieces-3
-    slice-aggregate-place-pieces-4
-    slice-aggregate-place-pieces-5
-    place-pieces-requires
-    returns
-    slice-aggregate-few-assigned
-    slice-aggregate-few-assigned-2
-    slice-aggregate-few-assigned-3
-    slice-aggregate-few-assigned-4
-    few-assigned-requires
-    returns-2)
+    tie.close (tie.spec count-parts-requires returns returns-2 split-assigned-requires returns-3)

@@ -1,0 +1,28 @@
+-- The walk of the whole forest's trees may be written, and is what every decision counts by.
+-- Assumes nothing.
+use Prim.Native.Nat.{ℕ, _≤_}
+use mathlib.Core.Path.{_≡_, sym, subst}
+use mathlib.Core.List.{List}
+use native.Mathlib.Omega.{arith}
+use lib.ListN.{length, take, replicate, length-replicate}
+use Rattle.lists.proofs.Put.{put-taken, put-fits, put-length}
+use Rattle.graph.specs.Bytes.{graphOf}
+use Rattle.forest.specs.Around.{Arcs}
+use Rattle.split.specs.WalkPut.{WalkAsked, WalkPut}
+use Rattle.rooted.specs.Prepared.{Decidable, WholeWalked}
+
+module _ {b roots kept bounds arcs table : List ℕ} (d : Decidable b roots kept bounds arcs table) {n : ℕ} (n-is : n ≡ graphOf b .vertices) where
+  pub walk-asked : WalkAsked n bounds arcs roots (replicate 256 0)
+  walk-asked =
+      record {
+        around = subst (λ m. Arcs m bounds arcs) (sym n-is) (d .around .sound);
+        roots-inside = λ j h. omega (arith, d .roots-inside j h);
+        room = omega (arith, d .graph .valid .vertices-most, length-replicate {A = ℕ} 256 0);
+      }
+
+  pub walk-written : {before walk : List ℕ} {r : ℕ} → WalkPut n bounds arcs roots before walk r → WholeWalked b roots (take r walk)
+  walk-written w = rw (put-taken (w .put)) (w .of-graph (graphOf b) _ (d .around) (sym n-is))
+
+-- Its steps stand in the array.
+pub walk-fits : {n : ℕ} {bounds arcs roots before walk : List ℕ} {r : ℕ} → WalkPut n bounds arcs roots before walk r → r ≤ length walk
+walk-fits w = omega (arith, put-fits (w .put), put-length (w .put .put))

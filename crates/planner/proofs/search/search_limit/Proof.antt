@@ -1,0 +1,62 @@
+-- `planner::search::search_limit` meets its contract: 0 is tried first, then 31 trials between 0 and the sum of all weights are enough.
+-- Assumes nothing.
+use Prim.Native.Nat.{_≤_}
+use mathlib.Core.Path.{_≡_, sym, ap, _∙_}
+use native.Mathlib.Omega.{arith}
+use lib.ListN.{length}
+use Rattle.graph.specs.Graph.{Graph}
+use Rattle.graph.specs.Bytes.{graphOf}
+use Rattle.graph.specs.Valid.{Valid}
+use Rattle.rules.specs.Cover.{Crews}
+use Rattle.rules.specs.Walk.{totalWeight}
+use Rattle.planner_laws.proofs.BestLimit.{allWeights, sum-bounded}
+use Rattle.planner.specs.Crews.{crewsWith}
+use Rattle.planner.proofs.SearchLoop.{best-at-zero, best-searched, order-few}
+use borrow.Author.Needs.{needs}
+use Rattle.planner.proofs.search.search_limit.Statement.{statement}
+use Rattle.planner.proofs.search.search_limit.Tie as tie
+
+-- Where 0 is tried: the graph, and the crews.
+module _ (a : tie.After-accepts-at) where
+  abbrev s : tie.Start
+  s = let d = a .before .before .before .before in d .before .before .before .before .before .before .before
+
+  abbrev g : Graph
+  g = graphOf (s .args .b .now)
+
+  abbrev crews : Crews
+  crews = crewsWith (s .args .kind) (s .args .k) (s .args .roots .now)
+
+  valid : Valid g
+  valid = s .pre .asked .crews .ready .graph .valid
+
+-- Where the sum is known.
+module _ (w : tie.After-sum-weights) where
+  abbrev tried : tie.After-accepts-at
+  tried = w .before .before
+
+  sum-is : w .sum-weights .result ≡ allWeights (g tried)
+  sum-is = w .sum-weights .ensures ∙ ap (totalWeight (g tried)) (s tried .pre .asked .in-order)
+
+accepts-at-requires : tie.Need-accepts-at-requires
+accepts-at-requires c κs = search needs
+
+returns : tie.Need-returns
+returns c = best-at-zero (valid (c .before)) (crews (c .before)) (sym (c .before .accepts-at .ensures) ∙ c .if1 .taken)
+
+sum-weights-requires : tie.Need-sum-weights-requires
+sum-weights-requires c κs = order-few (valid (c .before)) (s (c .before) .pre .asked .in-order)
+
+search-requires : tie.Need-search-requires
+search-requires c κs =
+    record { crews = s (tried c) .pre .asked .crews; walked = s (tried c) .pre .walked; sum-most = omega (arith, sum-is c, sum-bounded (valid (tried c))) }
+
+returns-2 : tie.Need-returns-2
+returns-2 c =
+    let w = c .before in
+    c .search .ensures
+    ∙ best-searched (valid (tried w)) (crews (tried w)) (sym (tried w .accepts-at .ensures) ∙ w .before .if1 .left) _ (sum-is w)
+
+pub search-limit-spec : {M : Type 1} → statement M
+search-limit-spec =
+    tie.close (tie.spec accepts-at-requires returns sum-weights-requires search-requires returns-2)
