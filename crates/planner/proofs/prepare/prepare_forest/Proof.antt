@@ -9,7 +9,7 @@ use Rattle.graph.specs.Bytes.{graphOf}
 use Rattle.rules.specs.Order.{ordered}
 use Rattle.rules.specs.Labels.{together}
 use Rattle.rules.specs.Forest.{keep}
-use Rattle.forest_laws.proofs.Keeping.{kept-subset}
+use Rattle.forest_laws.proofs.Keeping.{kept-subset, kept-once}
 use Rattle.forest_laws.proofs.Ordering.{of-ordered}
 use borrow.Author.Needs.{needs}
 use Rattle.planner.proofs.prepare.prepare_forest.Statement.{statement}
@@ -67,6 +67,7 @@ put-arcs-requires c κs =
     record {
       graph = a .graph;
       inside = λ e m. of-ordered (graphOf (s (o k) .args .b .now)) (kept-subset (graphOf (s (o k) .args .b .now)) (together (s (o k) .args .roots .now)) (ordered (graphOf (s (o k) .args .b .now))) (rw (kept-is k) at m));
+      once = rw (kept-is k) (kept-once (graphOf (s (o k) .args .b .now)) (together (s (o k) .args .roots .now)) (ordered (graphOf (s (o k) .args .b .now))));
       few = omega (arith, size, k .keep-whole .ensures .fewer);
       bounds-room = omega (arith, a .bounds-room);
       arcs-room = omega (arith, size, k .keep-whole .ensures .fewer, a .arcs-room);
