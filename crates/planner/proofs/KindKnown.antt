@@ -14,7 +14,7 @@ use Rattle.cover.specs.declared.crews.Kind.{Kind}
 use Rattle.cover.specs.declared.crews.Kind.the-variants.{Rooted, Unrooted}
 use Rattle.rooted.specs.Decide as rooted
 use Rattle.rooted.specs.Answer as rooted-answer
-use Rattle.unrooted.specs.Needs.{ForestKept}
+use Rattle.unrooted.specs.Given.{ForestKept}
 use Rattle.unrooted.specs.Answer as unrooted
 use Rattle.planner.specs.Crews.{RootsFit, HistoryFor, DecisionAsked}
 use Rattle.planner.specs.Asking.{ForestReady, LimitAsked}

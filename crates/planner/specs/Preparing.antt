@@ -15,7 +15,7 @@ use Rattle.forest.specs.Around.{Around}
 use Rattle.cover.specs.declared.crews.Kind.{Kind}
 use Rattle.cover.specs.declared.crews.Kind.the-variants.{Unrooted}
 use Rattle.rooted.specs.Prepared.{Prepared}
-use Rattle.unrooted.specs.Needs.{ForestKept}
+use Rattle.unrooted.specs.Given.{ForestKept}
 use Rattle.planner.specs.declared.prepare.Ready.{Ready}
 
 -- A graph's bytes, and room for the order and the forest of any.

@@ -1,10 +1,10 @@
--- `unrooted::needs::component_roots` meets its contract: the labels that the edges make show the lowest vertices. Assumes nothing.
+-- `unrooted::roots::component_roots` meets its contract: the labels that the edges make show the lowest vertices. Assumes nothing.
 use native.Mathlib.Omega.{arith}
 use borrow.Author.Needs.{needs}
 use Rattle.forest.proofs.Labelling.{labels-below}
 use Rattle.unrooted.proofs.ComponentsLabelled.{roots-written}
-use Rattle.unrooted.proofs.needs.component_roots.Statement.{statement}
-use Rattle.unrooted.proofs.needs.component_roots.Tie as tie
+use Rattle.unrooted.proofs.roots.component_roots.Statement.{statement}
+use Rattle.unrooted.proofs.roots.component_roots.Tie as tie
 
 slice-aggregate-label-edges : tie.Need-slice-aggregate-label-edges
 slice-aggregate-label-edges c = search needs
