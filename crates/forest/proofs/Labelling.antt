@@ -1,4 +1,5 @@
--- Labels in an array: equal elements are equal labels; the roots' labels at the start, and the labels after two vertices are joined.
+-- Labels in an array: equal elements are equal labels; the roots' labels at the start, and the labels after two vertices are joined;
+-- labels that are vertices.
 -- Assumes nothing.
 use Prim.Native.Nat.{ℕ, _+_, _≤_, _<_}
 use mathlib.Core.Path.{_≡_, refl, sym, _∙_}
@@ -14,7 +15,11 @@ use Rattle.lists.specs.Lists.{any, member}
 use Rattle.lists.specs.Put.{OnlyFirst}
 use Rattle.lists.proofs.OnlyFirst.{only-first-none, only-first-store}
 use Rattle.lists.proofs.NextPlace.{rest-next, rest-none}
-use Rattle.rules.specs.Labels.{Labels, joined, merge, together}
+use Rattle.graph.specs.Graph.{Graph}
+use Rattle.graph.specs.Valid.{Valid}
+use Rattle.rules.specs.Labels.{Labels, joined, merge, together, mergeAll}
+use Rattle.forest_laws.proofs.Roots.{together-none}
+use Rattle.forest_laws.proofs.VertexLabels.{VertexLabels, apart-vertices, merged-vertices}
 use Rattle.forest.specs.Arrays.{Agrees}
 use Rattle.forest.specs.Labelled.{Started, Merged}
 
@@ -56,6 +61,13 @@ module _ {n : ℕ} (array : List ℕ) (label : Labels) (agrees : Agrees n array 
   pub joined-no : (getD array u 0 ≡ getD array v 0 → ⊥) → joined label u v ≡ false
   unfolding joined
   joined-no d = ne-eqb (label u) (label v) (λ q. d (agrees u hu ∙ q ∙ sym (agrees v hv)))
+
+-- Where no vertex is a root, the labels that edges make are vertices.
+pub labels-below : {g : Graph} → Valid g → (edges array : List ℕ) → Agrees (g .vertices) array (mergeAll g (together []) edges)
+    → (v : ℕ) → v < g .vertices → getD array v 0 < g .vertices
+labels-below {g} valid edges array agrees v h =
+    let made : VertexLabels (g .vertices) (mergeAll g (together []) edges) = rw together-none (merged-vertices valid (apart-vertices (g .vertices)) edges) in
+    rw (agrees v h) (made .below v h)
 
 -- One label more: the array agrees below x, and x's label is stored.
 pub agrees-more : (label : Labels) (array : List ℕ) (x y : ℕ) → x < length array → Agrees x array label → y ≡ label x

@@ -11,6 +11,8 @@ pub mod WithinLimit
 pub mod TrialForest
 -- two passes order the edges
 pub mod TwoPasses
+-- edges marked, and taken by rising number
+pub mod SweptEdges
 -- what an arc holds is read from it again
 pub mod Arcs
 -- the arcs of edges as items

@@ -1,21 +1,26 @@
--- The lowest vertex joined to no root, whether a vertex is joined to a lower one, and the lowest vertex of each component, as loops over
--- the vertices find them.
+-- The lowest vertex joined to no root, and the lowest vertex of each component, as loops over the vertices find them: a vertex is joined
+-- to a lower one exactly where its label has been met before.
 -- Assumes nothing.
-use Prim.Native.Nat.{ℕ, _+_, _-_, _≤_, _<_}
+use Prim.Native.Nat.{ℕ, _+_, _≤_, _<_}
 use mathlib.Core.Path.{_≡_, refl, sym, ap, _∙_}
 use mathlib.Core.Bool.{Bool, true, false, not}
 use mathlib.Core.List.{List}
 use mathlib.Core.Option.{Option}
 use native.Mathlib.Omega.{arith}
-use lib.ListN.{length, getD, set, length-set}
+use lib.ListN.{length, getD, set, length-set, replicate, length-replicate}
+use lib.Seq.{getD-set-same}
+use borrow.Author.Count.{below-more}
 use Rattle.lists.specs.Count.{anyBelow}
 use Rattle.lists.specs.Lists.{filter, firstThat}
-use Rattle.lists.proofs.NextPlace.{belowFrom, numbers-all, numbers-next, numbers-none, filter-taken, filter-passed, any-below-next}
+use Rattle.lists.proofs.AfterStore.{after-store}
+use Rattle.lists.proofs.AnyBelow.{found-any-below, none-any-below}
+use Rattle.lists.proofs.NextPlace.{belowFrom, numbers-all, numbers-next, numbers-none, filter-taken, filter-passed}
 use Rattle.lists.proofs.PutOneByOne.{PutSoFar, so-far-none, so-far-same, so-far-more, so-far-all}
+use Rattle.lists.proofs.Zeros.{zeros-at}
 use Rattle.rules.specs.Labels.{Labels, joined}
 use Rattle.rules.specs.Forest.{unjoined, lowest}
 use Rattle.forest.specs.Arrays.{Agrees}
-use Rattle.forest.specs.Lowest.{vertexIn, Unjoined, JoinedBelow, Components}
+use Rattle.forest.specs.Lowest.{vertexIn, Unjoined, Components}
 use Rattle.forest.specs.declared.lowest.Found.{Found}
 use Rattle.forest.proofs.Labelling.{joined-yes, joined-no}
 
@@ -55,34 +60,63 @@ module _ {array : List ℕ} {n root : ℕ} where
     unfolding firstThat
     looking-all h = answered Found.Nothing (λ label a. l .same label a ∙ rw (numbers-none n v h))
 
--- v is joined to a vertex below it exactly where it is joined to one below u.
-pub record LookingDown (array : List ℕ) (v u : ℕ) : Type 0 where
-  pub low : u ≤ v
-  pub same : (n : ℕ) (label : Labels) → v < n → Agrees n array label
-      → anyBelow v (λ x. joined label x v) ≡ anyBelow u (λ x. joined label x v)
+-- The labels of the vertices below v have been met, and no other.
+pub record Meeting (array : List ℕ) (v : ℕ) (met : List ℕ) : Type 0 where
+  pub size : length met ≡ 256
+  pub each : (u : ℕ) → u < v → getD met (getD array u 0) 0 ≡ 1
+  pub only : (x : ℕ) → getD met x 0 ≡ 1 → (u : ℕ) × (u < v) × (getD array u 0 ≡ x)
 
-module _ {array : List ℕ} {v : ℕ} where
-  pub down-none : LookingDown array v v
-  down-none = record { low = omega arith; same = λ n label h a. refl }
+-- v is joined to a lower vertex, exactly where r says so.
+pub record JoinedBelow (array : List ℕ) (v : ℕ) (r : Bool) : Type 0 where
+  pub is : (n : ℕ) (label : Labels) → v < n → Agrees n array label → r ≡ anyBelow v (λ u. joined label u v)
 
-  module _ {u : ℕ} (l : LookingDown array v u) where
-    module _ (some : 0 < u) where
-      pub down-more : (getD array (u - 1) 0 ≡ getD array v 0 → ⊥) → LookingDown array v (u - 1)
-      down-more d =
+module _ {array : List ℕ} where
+  pub meeting-none : Meeting array 0 (replicate 256 0)
+  meeting-none =
+      record { size = length-replicate {A = ℕ} 256 0; each = λ u h. absurd (omega arith); only = λ x q. absurd (omega (arith, zeros-at 256 x)) }
+
+  module _ {v : ℕ} {met : List ℕ} (w : Meeting array v met) {x : ℕ} (label-is : x ≡ getD array v 0) where
+    -- The label of v has been met before: v is joined to a lower vertex,
+    module _ (t : getD met x 0 ≡ 1) where
+      pub met-joined : JoinedBelow array v true
+      met-joined =
+          let (u, l, q) = w .only x t in
           record {
-            low = omega arith;
-            same = λ n label h a. l .same n label h a ∙ any-below-next (λ x. joined label x v) u some ∙ rw (joined-no array label a (u - 1) v (omega arith) h d);
+            is = λ n label h a. sym (found-any-below (λ u. joined label u v) v l (joined-yes array label a u v (omega arith) h (q ∙ label-is)));
           }
 
-      pub down-found : getD array (u - 1) 0 ≡ getD array v 0 → JoinedBelow array v true
-      down-found q =
+      pub meeting-again : Meeting array (v + 1) met
+      meeting-again =
           record {
-            is = λ n label h a. sym (l .same n label h a ∙ any-below-next (λ x. joined label x v) u some ∙ rw (joined-yes array label a (u - 1) v (omega arith) h q));
+            size = w .size;
+            each = below-more (λ u. getD met (getD array u 0) 0 ≡ 1) v (w .each) (rw label-is at t);
+            only = λ y p. let (u, l, q) = w .only y p in (u, omega arith, q);
           }
 
-    pub down-all : u ≡ 0 → JoinedBelow array v false
-    unfolding anyBelow
-    down-all q = record { is = λ n label h a. sym (l .same n label h a ∙ rw q) }
+    -- or it is new: v is not.
+    pub new-apart : (getD met x 0 ≡ 1 → ⊥) → JoinedBelow array v false
+    new-apart new =
+        record {
+          is =
+              λ n label h a.
+              sym (none-any-below (λ u. joined label u v) v
+              (λ u l. joined-no array label a u v (omega arith) h (λ q. new (rw (q ∙ sym label-is) at (w .each u l)))));
+        }
+
+    pub meeting-new : x < 256 → Meeting array (v + 1) (set met x 1)
+    meeting-new room =
+        let inside : x < length met = omega (arith, w .size) in
+        record {
+          size = length-set met x 1 ∙ w .size;
+          each =
+              below-more (λ u. getD (set met x 1) (getD array u 0) 0 ≡ 1) v
+              (λ u l. after-store (λ _ y. y ≡ 1) met x 1 (getD array u 0) inside refl (λ away. w .each u l))
+              (ap (λ k. getD (set met x 1) k 0) (sym label-is) ∙ getD-set-same met x 1 0 inside);
+          only =
+              λ y.
+              after-store (λ k z. z ≡ 1 → (u : ℕ) × (u < v + 1) × (getD array u 0 ≡ k)) met x 1 y inside (λ _. (v, omega arith, sym label-is))
+              (λ away p. let (u, l, q) = w .only y p in (u, omega arith, q));
+        }
 
 -- v is joined to no lower vertex.
 abbrev pub isLowest : Labels → ℕ → Bool

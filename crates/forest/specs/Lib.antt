@@ -11,6 +11,8 @@ pub mod Lowest
 pub mod Light
 -- all edges by weight, then number
 pub mod Order
+-- edges by rising number
+pub mod Sweep
 -- vertices marked
 pub mod Marks
 -- the edges around each vertex

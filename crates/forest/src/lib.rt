@@ -12,3 +12,4 @@ pub mod light;
 pub mod lowest;
 pub mod marks;
 pub mod order;
+pub mod sweep;

@@ -1,7 +1,8 @@
 // The lowest vertex joined to no root, and the lowest vertex of each component.
+use crate::index::wide;
 ghost use Prim.Native.Nat.{_≤_, _<_};
 ghost use lib.ListN.{length};
-ghost use Rattle.forest.specs.Lowest.{Unjoined, Components, JoinedBelow};
+ghost use Rattle.forest.specs.Lowest.{Unjoined, LowestAsked, Components};
 
 // A vertex, or none.
 pub enum Found {
@@ -24,33 +25,22 @@ pub fn lowest_unjoined(label: &[u16], n: usize, root: usize) -> Found
     Found::Nothing
 }
 
-// Whether v is joined to a lower vertex.
-fn joined_below(label: &[u16], v: usize) -> bool
-    requires { ⌜ v < length (now label) ⌝ }
-    ensures { λ r. ⌜ JoinedBelow (now (label .entry)) v r ⌝ }
-{
-    let mut u = v;
-    while 0 < u {
-        u -= 1;
-        if label[u] == label[v] {
-            return true;
-        }
-    }
-    false
-}
-
 // The lowest vertex of each component, rising, written to the front of the array. Says how many components there are.
+// A label is one of the n vertices: a vertex is the lowest of its component where its label has not been met before.
 pub fn lowest_of_each(label: &[u16], n: usize, out: &mut [u16]) -> usize
-    requires { ⌜ (n ≤ 65536) × (n ≤ length (now label)) × (n ≤ length (now out)) ⌝ }
+    requires { ⌜ LowestAsked (now label) n (now out) ⌝ }
     ensures { λ r. ⌜ Components (now (label .entry)) n (now (out .entry)) (now (out .exit)) r ⌝ }
 {
+    let mut met = [0u8; 256];
     let mut r = 0;
     let mut v = 0;
     while v < n {
-        if joined_below(label, v) {
+        let x = wide(label[v]);
+        if met[x] == 1 {
             v += 1;
             continue;
         }
+        met[x] = 1;
         out[r] = v as u16;
         r += 1;
         v += 1;

@@ -1,4 +1,4 @@
--- The test `anyBelow` says yes exactly where some number below the bound passes.
+-- The test `anyBelow` says yes exactly where some number below the bound passes, and no where none does.
 -- Assumes nothing.
 use Prim.Native.Nat.{ℕ, zero, suc, _<_}
 use mathlib.Core.Path.{_≡_, refl, ap, sym, _∙_}
@@ -25,3 +25,9 @@ module _ (f : ℕ → Bool) where
   found-any-below zero h p = absurd (omega arith)
   found-any-below (suc n) {k} h p =
       dite (ℕ-discrete k n) (λ q. rw (ap f (sym q) ∙ p)) (λ d. right-true (f n) (found-any-below n {k = k} (omega arith) p))
+
+  -- no number below n passes
+  pub none-any-below : (n : ℕ) → ((k : ℕ) → k < n → f k ≡ false) → anyBelow n f ≡ false
+  unfolding anyBelow
+  none-any-below zero each = refl
+  none-any-below (suc n) each = rw (each n (omega arith)) (none-any-below n (λ k h. each k (omega arith)))

@@ -2,7 +2,7 @@
 -- Assumes nothing.
 use Prim.Native.Nat.{ℕ, _^_, _≤_, _<_}
 use mathlib.Core.Path.{_≡_}
-use mathlib.Core.List.{List}
+use mathlib.Core.List.{List, []}
 use lib.ListN.{length, getD, take}
 use Rattle.lists.specs.Count.{below}
 use Rattle.lists.specs.Member.{_∈_}
@@ -39,10 +39,11 @@ pub record FirstEdges (b array : List ℕ) (r : ℕ) : Type 0 where
   pub fits : r ≤ length array
   pub edges : EdgesOf b (take r array)
 
--- The same, and they are fewer than the vertices.
-pub record KeptEdges (b array : List ℕ) (r : ℕ) : Type 0 where
+-- The same, and they are fewer than the vertices. Without roots the label of each vertex is a vertex.
+pub record KeptEdges (b roots label array : List ℕ) (r : ℕ) : Type 0 where
   pub fewer : r < graphOf b .vertices
   pub first : FirstEdges b array r
+  pub labels-below : roots ≡ [] → (v : ℕ) → v < graphOf b .vertices → getD label v 0 < graphOf b .vertices
 
 -- The bytes of a graph of n vertices, fewer edges of it than that, and roots that are vertices of it.
 pub record RootedForest (b : List ℕ) (n : ℕ) (edges roots : List ℕ) : Type 0 where

@@ -30,7 +30,7 @@ fn order_light(b: &[u8], limit: u64, order: &mut [u16]) -> usize
 // Keeps edges of those given, from the roots joined, and prints them in the order of keeping. Says how many.
 fn print_kept(b: &[u8], roots: &[u16], edges: &[u16], label: &mut [u16], kept: &mut [u16]) -> usize
     requires { ⌜ Keepable (now b) (now label) (now kept) × EdgesOf (now b) (now edges) ⌝ }
-    ensures { λ r. ⌜ KeptEdges (now (b .entry)) (now (kept .exit)) r ⌝ }
+    ensures { λ r. ⌜ KeptEdges (now (b .entry)) (now (roots .entry)) (now (label .exit)) (now (kept .exit)) r ⌝ }
 {
     start_labels(roots, graph::vertex_count(b), label);
     let r = keep_edges(b, edges, label, kept);
@@ -41,7 +41,7 @@ fn print_kept(b: &[u8], roots: &[u16], edges: &[u16], label: &mut [u16], kept: &
 // Prints the forest at a limit, and leaves its edges at the front of the array. Says how many.
 fn print_forest(b: &[u8], roots: &[u16], limit: u64, label: &mut [u16], kept: &mut [u16]) -> usize
     requires { ⌜ Forestable (now b) (now label) (now kept) ⌝ }
-    ensures { λ r. ⌜ KeptEdges (now (b .entry)) (now (kept .exit)) r ⌝ }
+    ensures { λ r. ⌜ KeptEdges (now (b .entry)) (now (roots .entry)) (now (label .exit)) (now (kept .exit)) r ⌝ }
 {
     let mut order = [0u16; 2048];
     let light = order_light(b, limit, &mut order);

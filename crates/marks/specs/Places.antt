@@ -1,6 +1,6 @@
 -- The numbers between others: the places of the parts, between those of the leftovers.
 -- Assumes nothing.
-use Prim.Native.Nat.{ℕ, _+_, _-_, _^_, _≤_}
+use Prim.Native.Nat.{ℕ, _+_, _-_}
 use mathlib.Core.List.{List, [], _∷_, _++_}
 use Rattle.lists.specs.Count.{from}
 
@@ -8,9 +8,3 @@ use Rattle.lists.specs.Count.{from}
 unfoldable pub between : ℕ → List ℕ → List ℕ
 between first [] = []
 between first (l ∷ ls) = from first (l - first) ++ between (l + 1) ls
-
--- What writing the numbers from one up to another asks: each fits an index array, and there is room for them from a place on.
-pub record NumbersAsked (first to at room : ℕ) : Type 0 where
-  pub small : to ≤ 2 ^ 16
-  pub within : at ≤ room
-  pub fits : at + (to - first) ≤ room

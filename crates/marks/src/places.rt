@@ -1,27 +1,11 @@
 // The places of the parts among the pieces that the splitting leaves, where each root's parts are followed by its leftover
 // (document 01, step 4): every number that is not a leftover's.
 use forest::index::wide;
-ghost use mathlib.Core.Path.{_≡_};
-ghost use Prim.Native.Nat.{_-_, _≤_};
+use pieces::pieces::put_run;
+ghost use Prim.Native.Nat.{_≤_};
 ghost use lib.ListN.{length};
-ghost use Rattle.lists.specs.Count.{from};
 ghost use Rattle.lists.specs.Put.{PutTo};
-ghost use Rattle.marks.specs.Places.{between, NumbersAsked};
-
-// The numbers from one up to another, written from a place on. The answer is the place behind them.
-fn put_numbers(first: usize, to: usize, out: &mut [u16], at: usize) -> usize
-    requires { ⌜ NumbersAsked first to at (length (now out)) ⌝ }
-    ensures { λ r. ⌜ PutTo at (from first (to - first)) (now (out .entry)) (now (out .exit)) r ⌝ }
-{
-    let mut c = first;
-    let mut next = at;
-    while c < to {
-        out[next] = c as u16;
-        next += 1;
-        c += 1;
-    }
-    next
-}
+ghost use Rattle.marks.specs.Places.{between};
 
 // The places of all parts, rising, by the numbers of the leftovers. Says how many parts there are.
 pub fn part_places(lefts: &[u16], out: &mut [u16]) -> usize
@@ -33,7 +17,7 @@ pub fn part_places(lefts: &[u16], out: &mut [u16]) -> usize
     let mut j = 0;
     while j < lefts.len() {
         let left = wide(lefts[j]);
-        next = put_numbers(first, left, out, next);
+        next = put_run(first, left, out, next);
         first = left + 1;
         j += 1;
     }

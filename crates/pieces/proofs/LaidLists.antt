@@ -1,7 +1,7 @@
 -- Lists laid one after the other into one array, each put behind the others: what a loop that lays them knows at each turn.
 -- Assumes nothing.
-use Prim.Native.Nat.{ℕ, _+_, _-_, _≤_, _<_}
-use mathlib.Core.Path.{_≡_, refl, sym, ap, _∙_}
+use Prim.Native.Nat.{ℕ, _+_, _-_, _<_}
+use mathlib.Core.Path.{_≡_, sym, ap, _∙_}
 use mathlib.Core.List.{List, _++_}
 use native.Mathlib.Omega.{arith}
 use lib.ListN.{length, getD, take, drop, set}
@@ -16,13 +16,8 @@ use Rattle.lists.proofs.NextPlace.{rest-next}
 use Rattle.lists.proofs.Put.{put-rest, put-length, put-fits, put-count, put-taken, put-dropped}
 use Rattle.lists.proofs.SegmentSizes.{slice-taken}
 use Rattle.lists.proofs.Segments.{segment-kept, segment-new, bounded-more}
-use Rattle.lists.proofs.Sorting.{sum-rise}
-use Rattle.lists.proofs.SumsAlike.{length-sum}
+use Rattle.lists.proofs.Sorting.{rise-length}
 use Rattle.pieces.specs.Pieces.{Laid}
-
--- Sorting keeps the number of elements.
-pub rise-length : (xs : List ℕ) → length (rise xs) ≡ length xs
-rise-length xs = length-sum (rise xs) ∙ sum-rise (λ _. 1) xs ∙ sym (length-sum xs)
 
 -- A list was put into an array, and then what stands there was sorted in place: the sorted list was put.
 pub put-then-risen : {at end : ℕ} {xs ys a b : List ℕ} → PutTo at xs a b end → ys ≡ rise (take (end - at) (drop at b))

@@ -3,8 +3,6 @@
 pub mod EdgesJoined
 -- the forest of the whole graph
 pub mod WholeForest
--- an element inserted in place, and a list sorted so
-pub mod Insertion
 -- sorting by images, and by an array of keys
 pub mod SortedImages
 -- lists laid one after the other into one array

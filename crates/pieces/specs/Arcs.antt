@@ -3,6 +3,7 @@
 use Prim.Native.Nat.{ℕ, _*_, _≤_, _<_}
 use mathlib.Core.List.{List}
 use lib.ListN.{length}
+use Rattle.lists.specs.InOrder.{Once}
 use Rattle.lists.specs.Member.{_∈_}
 use Rattle.lists.specs.Sort.{rise}
 use Rattle.graph.specs.Graph.{Graph, edgeCount}
@@ -10,10 +11,11 @@ use Rattle.graph.specs.Bytes.{graphOf}
 use Rattle.graph.specs.Valid.{IsGraph}
 use Rattle.forest.specs.Around.{Around}
 
--- The bytes are a graph's, the edges are so few as a forest has, and there is room for their arcs.
+-- The bytes are a graph's, the edges are as a forest has them, few and none twice, and there is room for their arcs.
 pub record ArcsAsked (b edges bounds arcs : List ℕ) : Type 0 where
   pub graph : IsGraph b
   pub inside : (e : ℕ) → e ∈ edges → e < edgeCount (graphOf b)
+  pub once : Once edges
   pub few : length edges ≤ 256
   pub bounds-room : graphOf b .vertices < length bounds
   pub arcs-room : 2 * length edges ≤ length arcs

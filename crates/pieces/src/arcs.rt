@@ -1,6 +1,6 @@
 // The edges around each vertex over a forest's edges, by rising number: what growing and splitting walk over.
-use crate::pieces::put_risen;
 use forest::around::put_around;
+use forest::sweep::sweep_edges;
 ghost use Rattle.graph.specs.Bytes.{graphOf};
 ghost use Rattle.pieces.specs.Arcs.{ArcsAsked, ArcsPut};
 
@@ -10,6 +10,6 @@ pub fn put_arcs(b: &[u8], edges: &[u16], bounds: &mut [u16], arcs: &mut [u64])
     ensures { λ _. ⌜ ArcsPut (graphOf (now (b .entry))) (now (edges .entry)) (now (bounds .exit)) (now (arcs .exit)) ⌝ }
 {
     let mut rising = [0u16; 256];
-    let m = put_risen(edges, &mut rising, 0);
-    put_around(b, &rising[..m], bounds, arcs);
+    let r = sweep_edges(edges, graph::edge_count(b), &mut rising);
+    put_around(b, &rising[..r], bounds, arcs);
 }

@@ -2,14 +2,14 @@
 use forest::index::wide;
 use forest::order::rise_edges;
 ghost use mathlib.Core.Path.{_≡_};
-ghost use Prim.Native.Nat.{_+_, _≤_};
+ghost use Prim.Native.Nat.{_+_, _-_, _≤_};
 ghost use lib.ListN.{length, getD};
-ghost use Rattle.lists.specs.Count.{below};
+ghost use Rattle.lists.specs.Count.{below, from};
 ghost use Rattle.lists.specs.Put.{PutTo};
 ghost use Rattle.lists.specs.Segments.{segment};
 ghost use Rattle.lists.specs.Sort.{rise};
 ghost use Rattle.cover.specs.Chosen.{IsHeld};
-ghost use Rattle.pieces.specs.Pieces.{NumbersAsked};
+ghost use Rattle.pieces.specs.Pieces.{RunAsked, NumbersAsked};
 
 // The element at a place; 0 past the last.
 pub fn element_at(xs: &[u16], i: usize) -> u16
@@ -57,14 +57,25 @@ pub fn put_risen(edges: &[u16], out: &mut [u16], at: usize) -> usize
     end
 }
 
+// The numbers from one up to another, written from a place on. The answer is the place behind them.
+pub fn put_run(first: usize, to: usize, out: &mut [u16], at: usize) -> usize
+    requires { ⌜ RunAsked first to at (length (now out)) ⌝ }
+    ensures { λ r. ⌜ PutTo at (from first (to - first)) (now (out .entry)) (now (out .exit)) r ⌝ }
+{
+    let mut c = first;
+    let mut next = at;
+    while c < to {
+        out[next] = c as u16;
+        next += 1;
+        c += 1;
+    }
+    next
+}
+
 // Writes the numbers 0 to k - 1 to the front of the array.
 pub fn number_up(k: usize, out: &mut [u16])
     requires { ⌜ NumbersAsked k (length (now out)) ⌝ }
     ensures { λ _. ⌜ PutTo 0 (below k) (now (out .entry)) (now (out .exit)) k ⌝ }
 {
-    let mut i = 0;
-    while i < k {
-        out[i] = i as u16;
-        i += 1;
-    }
+    put_run(0, k, out, 0);
 }

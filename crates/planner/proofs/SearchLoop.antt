@@ -11,6 +11,7 @@ use Rattle.lists.specs.Count.{below}
 use Rattle.lists.specs.Lists.{sumOf}
 use Rattle.lists.proofs.NextPlace.{rest-none}
 use Rattle.lists.proofs.Runs.{length-below}
+use Rattle.lists.proofs.Sorting.{sort-length}
 use Rattle.graph.specs.Graph.{Graph, edgeCount, weightOf}
 use Rattle.graph.specs.Valid.{Valid}
 use Rattle.rules.specs.Cover.{Crews}
@@ -20,7 +21,6 @@ use Rattle.rules.specs.Search.{accepts, narrowed, searched, bestLimit}
 use Rattle.planner_laws.proofs.SearchSteps.{search-stops, search-steps}
 use Rattle.planner_laws.proofs.BestLimit.{allWeights, firstBounds, best-limit-31, sum-bounded}
 use Rattle.pieces.proofs.LaidLists.{sum-next}
-use Rattle.pieces.proofs.SortedImages.{sort-length}
 use Rattle.planner.specs.Searching.{between, searchEnd}
 
 -- THE SEARCH

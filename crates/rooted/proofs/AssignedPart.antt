@@ -14,7 +14,7 @@ use Rattle.lists.specs.Member.{_∈_}
 use Rattle.lists.specs.Segments.{segment}
 use Rattle.lists.specs.Sort.{rise}
 use Rattle.lists.proofs.Member.{any-found}
-use Rattle.lists.proofs.Places.{at-place}
+use Rattle.lists.proofs.Places.{at-place, map-at}
 use Rattle.lists.proofs.Sorting.{in-rise, of-rise}
 use Rattle.graph.specs.Graph.{Graph, edgeCount}
 use Rattle.graph.specs.Valid.{Valid}
@@ -35,7 +35,6 @@ use Rattle.marks.specs.Nearest.{Nearest}
 use Rattle.marks.specs.Tabled.{DistancesTabled, LastsTabled, rowOf}
 use Rattle.rooted.specs.Placed.{TrialArrays, PartsPlaced}
 use Rattle.rooted.specs.Tree.{BackGiven}
-use Rattle.rooted.proofs.ChosenLaid.{map-at}
 use Rattle.rooted.proofs.NearMeansMayGo.{near-reaches, more-edges, around-inside}
 use Rattle.marks.proofs.RootPath.{nearest-back, nearest-shortest-path}
 use Rattle.marks.proofs.RowMarks.{row-room}

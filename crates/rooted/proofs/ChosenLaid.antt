@@ -1,10 +1,9 @@
 -- Chosen pieces that are laid out with their edges rising, and numbered in order of their first edges, are the pieces "ordered by smallest
 -- line"; and they may be written.
 -- Assumes nothing.
-use Prim.Native.Nat.{ℕ, zero, suc, _+_, _*_, _≤_, _<_}
-use mathlib.Core.Path.{_≡_, refl, sym, ap, ap₂, _∙_}
-use mathlib.Core.Bool.{Bool}
-use mathlib.Core.List.{List, [], _∷_, map, map-map}
+use Prim.Native.Nat.{ℕ, _+_, _*_, _≤_, _<_}
+use mathlib.Core.Path.{_≡_, sym, ap, ap₂, _∙_}
+use mathlib.Core.List.{List, map, map-map}
 use native.Mathlib.Omega.{arith}
 use lib.ListN.{length, getD, List·getD-append, length-map}
 use Rattle.lists.specs.Count.{below}
@@ -15,11 +14,10 @@ use Rattle.lists.specs.Sort.{rise, sortBy}
 use Rattle.lists.proofs.Below.{of-below, below-rising}
 use Rattle.lists.proofs.InOrder.{rising-once}
 use Rattle.lists.proofs.Numbered.{map-below-same}
-use Rattle.lists.proofs.Places.{map-at-places}
+use Rattle.lists.proofs.Places.{map-at, map-at-places}
 use Rattle.lists.proofs.Put.{put-front}
 use Rattle.lists.proofs.Runs.{length-below}
-use Rattle.lists.proofs.Sorting.{of-sort, sort-once, sum-sort}
-use Rattle.lists.proofs.SumsAlike.{length-sum}
+use Rattle.lists.proofs.Sorting.{of-sort, sort-once, sort-length}
 use Rattle.rules.specs.Cover.{Tree}
 use Rattle.rules.specs.Held.{treeAt, treesAt, risen}
 use Rattle.rules.specs.Split.{smallestEdge}
@@ -30,13 +28,7 @@ use Rattle.cover.proofs.ChosenFit.{bounded-held, bounded-entries}
 use Rattle.pieces.specs.Chosen.{byKey}
 use Rattle.pieces.specs.Pieces.{Laid}
 use Rattle.rooted.specs.TooLowParts.{bySmallest, Keyed}
-use Rattle.pieces.proofs.SortedImages.{sort-length, sorted-by-keys}
-
--- What stands at a place of a mapped list.
-pub map-at : {A B : Type 0} (f : A → B) (d : A) (e : B) (xs : List A) (i : ℕ) → i < length xs → getD (map f xs) i e ≡ f (getD xs i d)
-map-at f d e [] i h = absurd (omega arith)
-map-at f d e (x ∷ xs) zero h = refl
-map-at f d e (x ∷ xs) (suc i) h = map-at f d e xs i (omega arith)
+use Rattle.pieces.proofs.SortedImages.{sorted-by-keys}
 
 module _ (starts cuts flat chosen : List ℕ) {before laid bounds edges keys : List ℕ} {used : ℕ}
     (p : PutTo 0 (startsAt starts chosen) before laid (length chosen))

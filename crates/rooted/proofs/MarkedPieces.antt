@@ -13,7 +13,7 @@ use Rattle.lists.specs.Member.{_∈_}
 use Rattle.lists.specs.Segments.{segment}
 use Rattle.lists.proofs.Below.{of-below}
 use Rattle.lists.proofs.Member.{of-filter, of-map}
-use Rattle.lists.proofs.Places.{at-place, map-at-places}
+use Rattle.lists.proofs.Places.{at-place, map-at-places, map-at}
 use Rattle.lists.proofs.Runs.{map-same, length-below}
 use Rattle.lists.proofs.Sums.{sum-split}
 use Rattle.lists.proofs.SumsAlike.{length-sum, sum-of-map}
@@ -24,7 +24,6 @@ use Rattle.rules.specs.RootedTrial.{partOf, chosenParts}
 use Rattle.cover.specs.Chosen.{AllHeld}
 use Rattle.marks.specs.Deficient.{placesMarked}
 use Rattle.rooted.specs.TooLowParts.{bySmallest, edgesOf, ChosenGiven}
-use Rattle.rooted.proofs.ChosenLaid.{map-at}
 
 module _ (starts cuts flat places marks : List ℕ) where
   -- The numbers of the marked parts.

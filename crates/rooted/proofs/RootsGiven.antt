@@ -9,10 +9,10 @@ use lib.Seq.{getD-take}
 use Rattle.lists.specs.Count.{below}
 use Rattle.lists.specs.Segments.{segment}
 use Rattle.lists.proofs.Runs.{length-below}
+use Rattle.lists.proofs.Sorting.{sort-length}
 use Rattle.graph.specs.Graph.{Graph, edgeCount}
 use Rattle.graph.specs.Bytes.{graphOf}
 use Rattle.rules.specs.Order.{comesBefore, ordered}
-use Rattle.pieces.proofs.SortedImages.{sort-length}
 use Rattle.marks.specs.Tabled.{rowOf}
 use Rattle.rooted.specs.Tree.{ReachGiven}
 use Rattle.rooted.specs.CoverTrees.{RootsGiven, CoverAsked}

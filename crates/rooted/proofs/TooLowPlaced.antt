@@ -13,6 +13,7 @@ use Rattle.lists.proofs.Pigeonhole.{count-same}
 use Rattle.lists.proofs.Below.{of-below}
 use Rattle.lists.proofs.Chosen.{chosen-count}
 use Rattle.lists.proofs.SameTests.{filter-same, any-below-same}
+use Rattle.lists.proofs.Sorting.{rise-length}
 use Rattle.lists.proofs.SumsAlike.{sum-same, sum-of-map, length-flat-map}
 use Rattle.graph.specs.Graph.{Graph}
 use Rattle.graph.specs.Valid.{Valid}
@@ -26,7 +27,6 @@ use Rattle.planner_laws.proofs.RootedSize.{parts-edges-few, rooted-parts-few}
 use Rattle.rooted.specs.declared.too_low_parts.Deficient.{Deficient}
 use Rattle.rooted.specs.Placed.{TrialArrays, PartsPlaced}
 use Rattle.rooted.specs.TooLowParts.{edgesOf, SetGiven, SetWritten, DeficientWritten}
-use Rattle.pieces.proofs.LaidLists.{rise-length}
 
 -- Pieces have as many edges as the trees that they are once their edges rise.
 pub risen-edges : (starts cuts flat chosen : List ℕ) → length (entryEdges (map risen (treesAt starts cuts flat chosen))) ≡ edgesOf cuts flat chosen

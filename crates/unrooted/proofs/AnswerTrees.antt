@@ -19,7 +19,7 @@ use Rattle.lists.specs.Sort.{sortBy}
 use Rattle.lists.proofs.Below.{of-from}
 use Rattle.lists.proofs.Runs.{length-from, map-same}
 use Rattle.lists.proofs.SegmentSizes.{segment-length}
-use Rattle.lists.proofs.Sorting.{in-sort, of-sort}
+use Rattle.lists.proofs.Sorting.{in-sort, of-sort, sort-length, rise-length}
 use Rattle.lists.proofs.Places.{at-place}
 use Rattle.graph.specs.Graph.{Graph, edgeCount}
 use Rattle.graph.specs.Valid.{Valid}
@@ -40,10 +40,8 @@ use Rattle.unrooted.specs.Components.{keyOf}
 use Rattle.unrooted.specs.TreePlaces.{treeEnd, treePlaces, treesOf, PlacesAsked}
 use Rattle.unrooted.specs.Unrooted.{ComponentsSplit, TreesOrdered}
 use Rattle.unrooted.specs.declared.unrooted.Split.{Split}
-use Rattle.pieces.proofs.LaidLists.{rise-length}
 use Rattle.pieces.proofs.SortedImages.{sort-same, sorted-by-keys}
 use Rattle.unrooted.proofs.TreesPlaced.{Sized, end-most, trees-placed, map-flat}
-use Rattle.pieces.proofs.SortedImages.{sort-length}
 
 -- Keys compare as start, then smallest edge, where two bytes hold the edges.
 key-order : (s t x y : ℕ) → x < 65536 → y < 65536 → leb (s * 65536 + x) (t * 65536 + y) ≡ (ltb s t || (eqb s t && leb x y))

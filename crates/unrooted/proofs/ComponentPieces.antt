@@ -17,7 +17,7 @@ use Rattle.lists.proofs.AfterStore.{at-or-not}
 use Rattle.lists.proofs.FlatMap.{flat-map-next}
 use Rattle.lists.proofs.Put.{put-head, put-rest, put-length}
 use Rattle.lists.proofs.SegmentSizes.{slice-taken, segment-length}
-use Rattle.lists.proofs.Sorting.{sum-rise}
+use Rattle.lists.proofs.Sorting.{rise-length}
 use Rattle.lists.proofs.Stores.{slice-same}
 use Rattle.lists.proofs.SumsAlike.{length-sum}
 use Rattle.graph.specs.Graph.{Graph, oneEnd, otherEnd}
@@ -26,7 +26,6 @@ use Rattle.rules.specs.Distance.{treeVertices}
 use Rattle.pieces.specs.Pieces.{endsOf, treeOf}
 use Rattle.cover.specs.Chosen.{IsHeld}
 use Rattle.unrooted.specs.Components.{keyOf, LowestFound, PiecesHeld, SegmentRisen}
-use Rattle.pieces.proofs.LaidLists.{rise-length}
 
 -- The lowest of more numbers.
 lowest-on : (s : ℕ) (xs : List ℕ) (a b : ℕ) → foldr min s (xs ++ (a ∷ b ∷ [])) ≡ min (min (foldr min s xs) a) b

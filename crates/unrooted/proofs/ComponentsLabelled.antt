@@ -12,7 +12,7 @@ use Rattle.forest_laws.proofs.Forest.{forest-merges}
 use Rattle.forest.specs.Arrays.{Agrees}
 use Rattle.forest.specs.Lowest.{Components}
 use Rattle.pieces.specs.Whole.{EdgesLabelled}
-use Rattle.unrooted.specs.Needs.{RootsWritten}
+use Rattle.unrooted.specs.Roots.{RootsWritten}
 
 -- The labels that edges make where all vertices begin apart.
 module _ {g : Graph} {edges label₀ array : List ℕ} (l : EdgesLabelled g [] edges label₀ array) where

@@ -22,7 +22,7 @@ use Rattle.forest_laws.proofs.Merging.{JoinsEnds}
 use Rattle.forest_laws.proofs.VertexLabels.{VertexLabels, own, merge-vertices, apart-vertices, merged-vertices}
 use Rattle.forest_laws.proofs.Loops.{AllKept, all-none, all-next}
 use Rattle.planner_laws.proofs.OwnLabels.{sum-by-own, needed-by-own}
-use Rattle.unrooted.specs.Needs.{labelWeight}
+use Rattle.unrooted.specs.Given.{labelWeight}
 use Rattle.unrooted.specs.History.{sumTo, componentsSum, valueAt, neededBy}
 use Rattle.unrooted.proofs.SumsTo.{sum-to-same, sum-to-plus, sum-to-count, sum-to-filter}
 use Rattle.unrooted.proofs.MergedWeights.{own-fewer}

@@ -20,7 +20,7 @@ use Rattle.forest_laws.proofs.Merging.{merged-append}
 use Rattle.forest_laws.proofs.VertexLabels.{VertexLabels, own, apart-vertices, merged-vertices}
 use Rattle.forest_laws.proofs.Loops.{AllKept}
 use Rattle.forest.specs.Arrays.{Agrees}
-use Rattle.unrooted.specs.Needs.{labelWeight}
+use Rattle.unrooted.specs.Given.{labelWeight}
 use Rattle.unrooted.specs.History.{sumTo, componentsSum, valueAt, HistoryKept, NoteAsked, EdgeMerged}
 use Rattle.unrooted.proofs.SumsTo.{sum-to-more, sum-to-zero}
 use Rattle.unrooted.proofs.MergedWeights.{label-no-more, own-kept}

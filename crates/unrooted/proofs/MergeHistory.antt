@@ -14,7 +14,7 @@ use Rattle.lists.proofs.AfterStore.{at-or-not}
 use Rattle.graph.specs.Graph.{Graph, oneEnd, otherEnd, weightOf}
 use Rattle.rules.specs.Labels.{Labels, mergeEdge}
 use Rattle.forest_laws.proofs.VertexLabels.{VertexLabels, own}
-use Rattle.unrooted.specs.Needs.{labelWeight}
+use Rattle.unrooted.specs.Given.{labelWeight}
 use Rattle.unrooted.specs.History.{sumTo, componentsSum, valueAt}
 use Rattle.unrooted.proofs.SumsTo.{sum-to-more, sum-to-same, sum-to-two}
 use Rattle.unrooted.proofs.MergedWeights.{is-own, own-kept, own-lost, own-other, added-kept, added-other, sum-merged}

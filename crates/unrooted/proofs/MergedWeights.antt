@@ -19,7 +19,7 @@ use Rattle.graph.specs.Graph.{Graph, oneEnd, otherEnd, weightOf}
 use Rattle.rules.specs.Walk.{totalWeight}
 use Rattle.rules.specs.Labels.{Labels, merge, mergeEdge}
 use Rattle.forest_laws.proofs.VertexLabels.{VertexLabels, own, Cases, merge-each}
-use Rattle.unrooted.specs.Needs.{labelWeight}
+use Rattle.unrooted.specs.Given.{labelWeight}
 use Rattle.unrooted.specs.History.{componentsSum}
 use Rattle.unrooted.proofs.SumsTo.{sum-next, sum-to-but, sum-to-two, sum-to-count}
 

@@ -3,7 +3,7 @@
 use Prim.Native.Nat.{ℕ, zero, suc, _+_, _-_, _≤_, _<_}
 use mathlib.Core.Path.{_≡_, refl, sym, ap, ap₂, _∙_}
 use mathlib.Core.Bool.{Bool, true, false, cond}
-use mathlib.Core.List.{List, [], _∷_, _++_, map, map-append, append-assoc, append-nil}
+use mathlib.Core.List.{List, [], _∷_, _++_, map, map-append, append-nil}
 use native.Mathlib.Omega.{arith}
 use lib.ListN.{length, getD, take, drop, length-append, length-map}
 use lib.Seq.{take-at, drop-at}
@@ -11,11 +11,9 @@ use lib.Dec.{eqb}
 use borrow.Author.Tests.{eq-eqb, ne-eqb}
 use Rattle.lists.specs.Count.{from}
 use Rattle.lists.specs.Lists.{flat}
-use Rattle.lists.specs.Put.{PutTo}
 use Rattle.lists.proofs.Numbered.{from-append}
-use Rattle.lists.proofs.Put.{put-behind, put-length}
-use Rattle.lists.proofs.PutOneByOne.{PutSoFar}
 use Rattle.lists.proofs.Runs.{length-from}
+use Rattle.lists.proofs.Sorting.{rise-length}
 use Rattle.graph.specs.Graph.{Graph}
 use Rattle.rules.specs.Cover.{Tree}
 use Rattle.rules.specs.Grow.{Rooted}
@@ -24,7 +22,6 @@ use Rattle.rules.specs.UnrootedTrial.{leftovers}
 use Rattle.split.specs.Pieces.{leftOf, withLeft, leftPlaces}
 use Rattle.split.proofs.PiecesOf.{piecesFor}
 use Rattle.unrooted.specs.TreePlaces.{run, treeEnd, treePlaces, treesOf}
-use Rattle.pieces.proofs.LaidLists.{rise-length}
 
 -- Where a component's trees end: behind its leftover, where this is the only piece,
 module _ (cuts : List ℕ) (first left : ℕ) where
@@ -55,17 +52,6 @@ end-most cuts first left = go (eqb first left) (eqb (getD cuts left 0) (getD cut
     go true t = omega arith
     go false true = omega arith
     go false false = omega arith
-
--- Of a list that is being put, one more run of it was put.
-pub so-far-run : {A : Type 0} {at : ℕ} {whole rest before after : List A} {next : ℕ} → PutSoFar at whole rest before after next
-    → {xs other last : List A} {r : ℕ} → rest ≡ xs ++ other → PutTo next xs after last r → PutSoFar at whole other before last r
-so-far-run w {xs} {other} q p =
-    record {
-      done = w .done ++ xs;
-      put = put-behind (w .put) p;
-      whole-is = w .whole-is ∙ ap (λ l. w .done ++ l) q ∙ sym (append-assoc (w .done) xs other);
-      same = put-length (p .put) ∙ w .same;
-    }
 
 -- One component more.
 pub places-next : (cuts : List ℕ) (first : ℕ) {rest later : List ℕ} {left : ℕ} → rest ≡ left ∷ later

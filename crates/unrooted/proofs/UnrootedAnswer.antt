@@ -11,14 +11,13 @@ use lib.Seq.{take-at}
 use Rattle.lists.specs.Put.{PutTo}
 use Rattle.lists.specs.Sort.{rise, sortBy}
 use Rattle.lists.proofs.Put.{put-count, put-taken}
-use Rattle.lists.proofs.Sorting.{sum-sort}
+use Rattle.lists.proofs.Sorting.{sort-length}
 use Rattle.lists.proofs.SumsAlike.{length-sum}
 use Rattle.graph.specs.Graph.{Graph}
 use Rattle.pieces.specs.Chosen.{byKey}
 use Rattle.unrooted.specs.Components.{PiecesGiven, SegmentsRisen, LowestSet, KeysWritten}
 use Rattle.unrooted.specs.TreePlaces.{treePlaces}
 use Rattle.unrooted.specs.Unrooted.{TreesOrdered}
-use Rattle.pieces.proofs.SortedImages.{sort-length}
 
 -- The same pieces, in arrays that are as long.
 pub given-on : {starts other cuts flat flat′ : List ℕ} {k : ℕ} → PiecesGiven starts cuts flat k → length flat′ ≡ length flat → k ≤ length other → PiecesGiven other cuts flat′ k

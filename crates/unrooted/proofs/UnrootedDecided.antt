@@ -23,7 +23,7 @@ use Rattle.rules.specs.Questions.{written, bufferAfter}
 use Rattle.forest_laws.proofs.Keeping.{kept-merges}
 use Rattle.pieces.specs.Replies.{said, Answers}
 use Rattle.pieces.specs.declared.reply.Reply.the-variants.{Cover, Needs}
-use Rattle.unrooted.specs.Needs.{ForestKept}
+use Rattle.unrooted.specs.Given.{ForestKept}
 use Rattle.unrooted.specs.Unrooted.{TreesWritten}
 use Rattle.unrooted.specs.declared.unrooted.Written.{Written}
 use Rattle.unrooted.proofs.WholeForest.{kept-apart, all-kept}

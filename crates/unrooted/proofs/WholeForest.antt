@@ -15,7 +15,7 @@ use Rattle.forest_laws.proofs.Roots.{together-none}
 use Rattle.forest_laws.proofs.Loops.{AllKept, whole-all-kept, kept-whole}
 use Rattle.forest_laws.proofs.FewEdges.{kept-few}
 use Rattle.pieces.specs.Whole.{WholeKept, LightForest}
-use Rattle.unrooted.specs.Needs.{ForestKept}
+use Rattle.unrooted.specs.Given.{ForestKept}
 use Rattle.unrooted.specs.History.{neededBy, HistoryKept, ReadAsked}
 
 module _ {b kept : List ℕ} (f : ForestKept b kept) where

@@ -10,7 +10,7 @@ use Rattle.graph.specs.Bytes.{graphOf}
 use Rattle.rules.specs.Labels.{apart}
 use Rattle.rules.specs.Forest.{forest}
 use Rattle.rules.specs.UnrootedTrial.{needed}
-use Rattle.unrooted.specs.Needs.{ForestKept}
+use Rattle.unrooted.specs.Given.{ForestKept}
 use Rattle.unrooted.specs.History.{HistoryKept}
 use Rattle.unrooted.specs.declared.answer.AtLimit.{AtLimit}
 

@@ -17,7 +17,7 @@ use Rattle.rules.specs.UnrootedTrial.{needed}
 use Rattle.forest.specs.Arrays.{Agrees}
 use Rattle.forest.specs.Keeping.{Labelable}
 use Rattle.forest_laws.proofs.VertexLabels.{own}
-use Rattle.unrooted.specs.Needs.{labelWeight, ForestKept}
+use Rattle.unrooted.specs.Given.{labelWeight, ForestKept}
 
 -- The sum of a value over the numbers below n.
 unfoldable pub sumTo : ℕ → (ℕ → ℕ) → ℕ

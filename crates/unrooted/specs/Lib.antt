@@ -1,6 +1,8 @@
 -- What the contracts of `unrooted` say, in reading order.
--- the components by their labels, and their lowest vertices
-pub mod Needs
+-- the forest that is given, and the components by their labels
+pub mod Given
+-- the lowest vertex of each component
+pub mod Roots
 -- what the components need at any limit, from the history of merges
 pub mod History
 -- the pieces of the components as trees

@@ -31,11 +31,6 @@ treePlaces cuts first (left ∷ lefts) = run first (treeEnd cuts first left) ++ 
 abbrev pub treesOf : Graph → ℕ → Rooted → List Tree
 treesOf g H t = split g H t .parts ++ leftovers (t .root) (split g H t .parts) (split g H t .left)
 
--- Numbers that two bytes hold, and room for them from a place on.
-pub record RunAsked (a b : ℕ) (out : List ℕ) (at : ℕ) : Type 0 where
-  pub small : b ≤ 65536
-  pub room : at + (b - a) ≤ length out
-
 -- The bounds of each leftover are there, and there is room for all numbers.
 pub record PlacesAsked (lefts cuts out : List ℕ) : Type 0 where
   pub cut : (j : ℕ) → j < length lefts → getD lefts j 0 + 1 < length cuts

@@ -10,7 +10,7 @@ ghost use Rattle.graph.specs.Bytes.{graphOf};
 ghost use Rattle.rules.specs.Cover.{unrooted};
 ghost use Rattle.rules.specs.Search.{accepts, noCover};
 ghost use Rattle.pieces.specs.Replies.{Answers};
-ghost use Rattle.unrooted.specs.Needs.{ForestKept};
+ghost use Rattle.unrooted.specs.Given.{ForestKept};
 ghost use Rattle.unrooted.specs.Answer.{HistoryReady, LimitKnown, UnrootedAsked};
 
 // What a limit makes of the whole forest: how many of its edges are within the limit, and how many trees the components there need.

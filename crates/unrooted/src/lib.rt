@@ -3,6 +3,6 @@
 pub mod answer;
 pub mod components;
 pub mod history;
-pub mod needs;
+pub mod roots;
 pub mod tree_places;
 pub mod unrooted;

@@ -1,26 +1,12 @@
 // The trees of an answer among the pieces that the splitting leaves, where each root's parts are followed by its leftover (document 01,
 // step 7): the parts, and "the leftovers that have lines or have no part in their component".
 use forest::index::wide;
+use pieces::pieces::put_run;
 ghost use mathlib.Core.Path.{_≡_};
 ghost use Prim.Native.Nat.{_+_, _<_};
 ghost use lib.ListN.{length};
 ghost use Rattle.lists.specs.Put.{PutTo};
-ghost use Rattle.unrooted.specs.TreePlaces.{run, treeEnd, treePlaces, RunAsked, PlacesAsked};
-
-// The numbers from one up to another, written from a place on. The answer is the place behind them.
-fn put_run(from: usize, to: usize, out: &mut [u16], at: usize) -> usize
-    requires { ⌜ RunAsked from to (now out) at ⌝ }
-    ensures { λ r. ⌜ PutTo at (run from to) (now (out .entry)) (now (out .exit)) r ⌝ }
-{
-    let mut c = from;
-    let mut next = at;
-    while c < to {
-        out[next] = c as u16;
-        next += 1;
-        c += 1;
-    }
-    next
-}
+ghost use Rattle.unrooted.specs.TreePlaces.{treeEnd, treePlaces, PlacesAsked};
 
 // Behind the last tree of a component: behind its leftover where this is a tree, and otherwise at it.
 fn tree_end(first: usize, left: usize, cuts: &[u16]) -> usize

@@ -3,7 +3,7 @@
 use crate::components::rise_segments;
 use crate::components::set_lowest;
 use crate::components::write_keys;
-use crate::needs::component_roots;
+use crate::roots::component_roots;
 use crate::tree_places::tree_places;
 use cover::heaviest::heaviest_chosen;
 use cover::write::write_cover;

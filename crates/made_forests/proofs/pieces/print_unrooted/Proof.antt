@@ -1,7 +1,7 @@
 -- `made_forests::pieces::print_unrooted` is safe: the roots are the lowest vertices of the components.
 -- Assumes nothing.
 use Prim.Native.Nat.{ℕ, _≤_}
-use mathlib.Core.Path.{sym}
+use mathlib.Core.Path.{refl, sym}
 use native.Mathlib.Omega.{arith}
 use lib.ListN.{length, length-replicate}
 use lib.Seq.{length-take-le}
@@ -54,7 +54,15 @@ slice-aggregate-lowest-of-each-2 : tie.Need-slice-aggregate-lowest-of-each-2
 slice-aggregate-lowest-of-each-2 c = search needs
 
 lowest-of-each-requires : tie.Need-lowest-of-each-requires
-lowest-of-each-requires c κs = search needs
+lowest-of-each-requires c κs =
+    let f = c .before .before .before .before in
+    let s = begin f in
+    record {
+      most = omega (arith, s .pre .vertices-are, s .pre .graph .valid .vertices-most);
+      labels-room = omega (arith, s .pre .vertices-are, s .pre .graph .valid .vertices-most);
+      labels-below = rw (s .pre .vertices-are) (f .print-forest .ensures .labels-below refl);
+      room = omega (arith, s .pre .vertices-are, s .pre .graph .valid .vertices-most);
+    }
 
 slice-aggregate-print-list : tie.Need-slice-aggregate-print-list
 slice-aggregate-print-list c = search needs

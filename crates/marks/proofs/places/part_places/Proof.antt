@@ -8,11 +8,12 @@ use borrow.Author.Needs.{needs}
 use lib.ListN.{length, getD, drop, length-append}
 use Rattle.lists.specs.Count.{from}
 use Rattle.lists.specs.Put.{PutTo}
-use Rattle.lists.proofs.PutOneByOne.{PutSoFar, so-far-none, so-far-all, so-far-behind}
+use Rattle.lists.proofs.PutOneByOne.{PutSoFar, so-far-none, so-far-on, so-far-all, so-far-behind}
 use Rattle.lists.proofs.Runs.{length-from}
 use Rattle.graph.specs.Bytes.{Reads}
-use Rattle.marks.specs.Places.{between, NumbersAsked}
-use Rattle.marks.proofs.PartsBetween.{between-next, between-none, so-far-on}
+use Rattle.pieces.specs.Pieces.{RunAsked}
+use Rattle.marks.specs.Places.{between}
+use Rattle.marks.proofs.PartsBetween.{between-next, between-none}
 use Rattle.marks.proofs.places.part_places.Statement.{statement}
 use Rattle.marks.proofs.places.part_places.Tie as tie
 
@@ -28,14 +29,13 @@ module _ (lefts : List ℕ) (first j : ℕ) {before after : List ℕ} {next left
   rest-is : between first (drop j lefts) ≡ from first (left - first) ++ between (left + 1) (drop (j + 1) lefts)
   rest-is = rw (w .is) (between-next first lefts j h)
 
-  asked : length (between 0 lefts) ≤ length before → NumbersAsked first left next (length after)
+  asked : length (between 0 lefts) ≤ length before → RunAsked first left next (length after)
   asked room =
       let many : length (between first (drop j lefts)) ≡ length (from first (left - first)) + length (between (left + 1) (drop (j + 1) lefts)) =
       rw rest-is (length-append (from first (left - first)) (between (left + 1) (drop (j + 1) lefts)))
       in
       record {
         small = omega (arith, w .small, w .is);
-        within = omega (arith, so-far-behind v, v .same);
         fits = omega (arith, so-far-behind v, v .same, many, length-from first (left - first));
       }
 
@@ -55,8 +55,8 @@ shared-slice-read-wide c = search needs
 wide-requires : tie.Need-wide-requires Inv-loop μ-loop
 wide-requires c κs = search needs
 
-put-numbers-requires : tie.Need-put-numbers-requires Inv-loop μ-loop
-put-numbers-requires c κs =
+put-run-requires : tie.Need-put-run-requires Inv-loop μ-loop
+put-run-requires c κs =
     let t = c .before .before .before in
     let l = t .before in
     asked (l .before .before .before .args .lefts .now) (l .loop .first) (l .loop .j) (t .before .loop .inv) (t .loop-test .taken) (c .before .wide .ensures) (t .before .before .before .before .pre)
@@ -76,7 +76,7 @@ loop-again c =
     let w = p .before .before in
     let t = w .before .before in
     let l = t .before in
-    next-tree (l .before .before .before .args .lefts .now) (l .loop .first) (l .loop .j) (t .before .loop .inv) (t .loop-test .taken) (w .wide .ensures) (p .put-numbers .ensures)
+    next-tree (l .before .before .before .args .lefts .now) (l .loop .first) (l .loop .j) (t .before .loop .inv) (t .loop-test .taken) (w .wide .ensures) (p .put-run .ensures)
 
 same-length : tie.Need-same-length Inv-loop μ-loop
 same-length c = search needs
@@ -97,7 +97,7 @@ part-places-spec =
     mul-wide
     shared-slice-read-wide
     wide-requires
-    put-numbers-requires
+    put-run-requires
     add-first
     add-j
     loop-less

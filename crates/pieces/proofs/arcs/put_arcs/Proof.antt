@@ -1,36 +1,44 @@
 -- `pieces::arcs::put_arcs` meets its contract: the arcs are put over a copy of the edges that rises. Assumes nothing.
-use Prim.Native.Nat.{ℕ, _+_, _*_, _≤_}
 use mathlib.Core.Path.{_≡_, sym, ap, _∙_}
-use mathlib.Core.List.{List}
 use native.Mathlib.Omega.{arith}
 use lib.ListN.{length, take}
 use Rattle.lists.specs.Sort.{rise}
-use Rattle.lists.proofs.Put.{put-count, put-taken, put-fits}
-use Rattle.lists.proofs.Sorting.{of-rise}
-use Rattle.pieces.proofs.LaidLists.{rise-length}
+use Rattle.lists.proofs.Put.{put-count, put-taken}
+use Rattle.lists.proofs.Sorting.{of-rise, rise-length}
 use borrow.Author.Needs.{needs}
 use Rattle.pieces.proofs.arcs.put_arcs.Statement.{statement}
 use Rattle.pieces.proofs.arcs.put_arcs.Tie as tie
 
 -- Where the edges rise.
-module _ (r : tie.After-put-risen) where
+module _ (r : tie.After-sweep-edges) where
   abbrev s : tie.Start
-  s = let d = r .before .before .before in d .before .before .before
+  s = let d = r .before .before .before .before in d .before .before .before
 
-  abbrev rises : take (r .put-risen .result) (r .put-risen .last .1 .0) ≡ rise (s .args .edges .now)
-  rises = put-taken (r .put-risen .ensures)
+  abbrev rises : take (r .sweep-edges .result) (r .sweep-edges .last .1 .1 .0) ≡ rise (s .args .edges .now)
+  rises = put-taken (r .sweep-edges .ensures)
 
-slice-aggregate-put-risen : tie.Need-slice-aggregate-put-risen
-slice-aggregate-put-risen c = search needs
+edge-count-requires : tie.Need-edge-count-requires
+edge-count-requires c κs = search needs
 
-put-risen-requires : tie.Need-put-risen-requires
-put-risen-requires c κs = search needs
+slice-aggregate-sweep-edges : tie.Need-slice-aggregate-sweep-edges
+slice-aggregate-sweep-edges c = search needs
+
+sweep-edges-requires : tie.Need-sweep-edges-requires
+sweep-edges-requires c κs =
+    let n = c .before in
+    let a = let d = n .before .before .before in d .before .before .pre in
+    record {
+      once = a .once;
+      inside = λ e m. omega (arith, a .inside e m, n .edge-count .ensures .is);
+      most = omega (arith, n .edge-count .ensures .is, a .graph .valid .edges-most);
+      room = a .few;
+    }
 
 array-share-prefix-rising : tie.Need-array-share-prefix-rising
 array-share-prefix-rising c = search needs
 
 slice-aggregate-put-around : tie.Need-slice-aggregate-put-around
-slice-aggregate-put-around c = let r = c .before .before in put-count (r .put-risen .ensures) ∙ sym (ap length (rises r))
+slice-aggregate-put-around c = let r = c .before .before in put-count (r .sweep-edges .ensures) ∙ sym (ap length (rises r))
 
 put-around-requires : tie.Need-put-around-requires
 put-around-requires c κs =
@@ -61,8 +69,9 @@ pub put-arcs-spec : {M : Type 1} → statement M
 put-arcs-spec =
     tie.close
     (tie.spec
-    slice-aggregate-put-risen
-    put-risen-requires
+    edge-count-requires
+    slice-aggregate-sweep-edges
+    sweep-edges-requires
     array-share-prefix-rising
     slice-aggregate-put-around
     put-around-requires

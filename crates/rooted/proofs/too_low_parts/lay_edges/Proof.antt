@@ -11,9 +11,10 @@ use Rattle.lists.specs.Segments.{segment}
 use Rattle.lists.specs.Sort.{rise}
 use Rattle.lists.proofs.Places.{at-place}
 use Rattle.lists.proofs.Put.{put-length}
+use Rattle.lists.proofs.Sorting.{rise-length}
 use Rattle.pieces.specs.Pieces.{Laid}
 use Rattle.rooted.specs.TooLowParts.{edgesOf}
-use Rattle.pieces.proofs.LaidLists.{laid-none, laid-more, sum-next, rise-length}
+use Rattle.pieces.proofs.LaidLists.{laid-none, laid-more, sum-next}
 use Rattle.rooted.proofs.too_low_parts.lay_edges.Statement.{statement}
 use Rattle.rooted.proofs.too_low_parts.lay_edges.Tie as tie
 

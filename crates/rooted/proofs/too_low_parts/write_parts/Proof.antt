@@ -11,12 +11,12 @@ use Rattle.lists.specs.Count.{below}
 use Rattle.lists.specs.Sort.{sortBy}
 use Rattle.lists.proofs.Put.{put-taken, put-count}
 use Rattle.lists.proofs.Runs.{length-below}
+use Rattle.lists.proofs.Sorting.{sort-length}
 use Rattle.rules.specs.Held.{treesAt, risen}
 use Rattle.cover.specs.Chosen.{Writable}
 use Rattle.pieces.specs.Chosen.{byKey}
 use Rattle.rooted.specs.TooLowParts.{bySmallest}
 use Rattle.rooted.proofs.ChosenLaid.{laid-in-order, laid-writable}
-use Rattle.pieces.proofs.SortedImages.{sort-length}
 use Rattle.rooted.proofs.too_low_parts.write_parts.Statement.{statement}
 use Rattle.rooted.proofs.too_low_parts.write_parts.Tie as tie
 

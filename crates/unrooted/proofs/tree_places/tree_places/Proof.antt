@@ -7,10 +7,10 @@ use native.Mathlib.Omega.{arith}
 use lib.ListN.{length, getD, drop, length-append}
 use borrow.Author.Needs.{needs}
 use Rattle.lists.proofs.NextPlace.{rest-next, rest-none}
-use Rattle.lists.proofs.PutOneByOne.{PutSoFar, so-far-none, so-far-all, so-far-behind}
+use Rattle.lists.proofs.PutOneByOne.{PutSoFar, so-far-none, so-far-on, so-far-all, so-far-behind}
 use Rattle.lists.proofs.Runs.{length-from}
 use Rattle.unrooted.specs.TreePlaces.{run, treeEnd, treePlaces}
-use Rattle.unrooted.proofs.TreesPlaced.{end-most, so-far-run, places-next, places-none}
+use Rattle.unrooted.proofs.TreesPlaced.{end-most, places-next, places-none}
 use Rattle.unrooted.proofs.tree_places.tree_places.Statement.{statement}
 use Rattle.unrooted.proofs.tree_places.tree_places.Tie as tie
 
@@ -84,7 +84,7 @@ put-run-requires c κs =
     let w = e .before in
     record {
       small = omega (arith, ends e, end-most (s w .args .cuts .now) (l w .loop .first) (left w), w .wide .ensures);
-      room = rw (ends e) (room w);
+      fits = rw (ends e) (room w);
     }
 
 add-first : tie.Need-add-first Inv-loop μ-loop
@@ -101,7 +101,7 @@ loop-again c =
     let p = c .before .before in
     let e = p .before .before in
     let w = e .before in
-    rw (w .wide .ensures .is) (so-far-run (l w .loop .inv) (next-is w) (rw (ends e) at (p .put-run .ensures)))
+    rw (w .wide .ensures .is) (so-far-on (l w .loop .inv) (next-is w) (rw (ends e) at (p .put-run .ensures)))
 
 same-length : tie.Need-same-length Inv-loop μ-loop
 same-length c = search needs

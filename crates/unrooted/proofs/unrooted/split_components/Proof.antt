@@ -5,6 +5,8 @@ use mathlib.Core.Path.{_≡_, sym, ap, _∙_}
 use native.Mathlib.Omega.{arith}
 use lib.ListN.{length}
 use Rattle.lists.proofs.Put.{put-count, put-taken}
+use Rattle.rules.specs.Labels.{apart}
+use Rattle.forest_laws.proofs.Forest.{forest-once}
 use Rattle.unrooted.proofs.ComponentsSplit.{forest-edges-few, forest-edges-inside, splittable, components-split}
 use borrow.Author.Needs.{needs}
 use Rattle.unrooted.proofs.unrooted.split_components.Statement.{statement}
@@ -44,6 +46,7 @@ put-arcs-requires c κs =
     record {
       graph = f .graph;
       inside = forest-edges-inside f;
+      once = rw (f .are) (forest-once _ apart _);
       few = omega (arith, forest-edges-few f);
       bounds-room = omega arith;
       arcs-room = omega (arith, forest-edges-few f);

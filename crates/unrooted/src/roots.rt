@@ -2,7 +2,7 @@
 use forest::lowest::lowest_of_each;
 use pieces::whole::label_edges;
 ghost use Rattle.graph.specs.Bytes.{graphOf};
-ghost use Rattle.unrooted.specs.Needs.{RootsAsked, RootsWritten};
+ghost use Rattle.unrooted.specs.Roots.{RootsAsked, RootsWritten};
 
 // The lowest vertex of each component that the edges make, rising, written to the front of the array. Says how many components there are.
 pub(crate) fn component_roots(b: &[u8], edges: &[u16], roots: &mut [u16]) -> usize

@@ -1,8 +1,10 @@
--- `unrooted::needs::component_roots` meets its contract: the labels that the edges make show the lowest vertices. Assumes nothing.
+-- `unrooted::roots::component_roots` meets its contract: the labels that the edges make show the lowest vertices. Assumes nothing.
+use native.Mathlib.Omega.{arith}
 use borrow.Author.Needs.{needs}
+use Rattle.forest.proofs.Labelling.{labels-below}
 use Rattle.unrooted.proofs.ComponentsLabelled.{roots-written}
-use Rattle.unrooted.proofs.needs.component_roots.Statement.{statement}
-use Rattle.unrooted.proofs.needs.component_roots.Tie as tie
+use Rattle.unrooted.proofs.roots.component_roots.Statement.{statement}
+use Rattle.unrooted.proofs.roots.component_roots.Tie as tie
 
 slice-aggregate-label-edges : tie.Need-slice-aggregate-label-edges
 slice-aggregate-label-edges c = search needs
@@ -20,7 +22,17 @@ vertex-count-requires : tie.Need-vertex-count-requires
 vertex-count-requires c κs = search needs
 
 lowest-of-each-requires : tie.Need-lowest-of-each-requires
-lowest-of-each-requires c κs = search needs
+lowest-of-each-requires c κs =
+    let v = c .before in
+    let l = v .before .before .before in
+    let s = let d = l .before .before .before in d .before .before .before in
+    let count = v .vertex-count .ensures .is in
+    record {
+      most = omega (arith, count, s .pre .graph .valid .vertices-most);
+      labels-room = search needs;
+      labels-below = rw count (labels-below (s .pre .graph .valid) (s .args .edges .now) (l .label-edges .last .1 .1 .1 .0) (l .label-edges .ensures .labels));
+      room = search needs;
+    }
 
 same-length : tie.Need-same-length
 same-length c = search needs
