@@ -97,9 +97,10 @@ module _ (b : List ℕ) (crews : Crews) (c : List ℕ) where
     one-fault none = refl
     one-fault (some k) = refl
 
-    pub cover-decides : crewFault crews (graphOf b .vertices) ≡ none → answer (graphOf b) c (coverFault (graphOf b) crews c) ≡ askCheck b crews c
+    pub cover-decides : crewFault crews (graphOf b .vertices) ≡ none → {said : reply.Verdict} → said ≡ answer (graphOf b) c (coverFault (graphOf b) crews c)
+        → said ≡ askCheck b crews c
     unfolding askCheck sheetFault numberIn firstFault
-    cover-decides t = rw (q, t) (ap (answer (graphOf b) c) (sym (one-fault (coverFault (graphOf b) crews c))))
+    cover-decides t d = rw (q, t) (d ∙ ap (answer (graphOf b) c) (sym (one-fault (coverFault (graphOf b) crews c))))
 
 -- Yes is no number.
 not-number : {h k : ℕ} → reply.yes h ≡ reply.number k → ⊥

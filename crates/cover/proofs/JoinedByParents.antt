@@ -62,12 +62,12 @@ module _ {parents : List ℕ} (p : Parents parents) (x y : ℕ) (inside : x < 25
           };
         }
 
-  -- Both stood for others, x for b and y for a, or the other way round: a and b are joined.
-  module _ (label : Labels) (w : Spells parents label) (below : y < 256) (stands-x : Stands parents x) (stands-y : Stands parents y) (a b : ℕ) where
+  -- x stood for one of a and b, and y is joined to the other: a and b are joined.
+  module _ (label : Labels) (w : Spells parents label) (stands-x : Stands parents x) (a b : ℕ) where
     linked : (merge label a b y ≡ merge label a b x)
         → ((u v : ℕ) → u < 256 → v < 256 → Stands after u → Stands after v → (label u ≡ label a) × (label b ≡ label v) → u ≡ v)
         → Spells after (merge label a b)
-    linked tie apart =
+    linked tie only =
         record {
           up = λ v h.
               at-or-not (λ k. merge label a b (getD after k 0) ≡ merge label a b k) x v (ap (merge label a b) here ∙ tie)
@@ -78,8 +78,8 @@ module _ {parents : List ℕ} (p : Parents parents) (x y : ℕ) (inside : x < 25
         go : (u v : ℕ) → u < 256 → v < 256 → Stands after u → Stands after v
             → (label u ≡ label v) ⊎ ((label u ≡ label a) × (label b ≡ label v)) ⊎ ((label u ≡ label b) × (label a ≡ label v)) → u ≡ v
         go u v hu hv su sv (inl q) = w .once u v hu hv (stood u su) (stood v sv) q
-        go u v hu hv su sv (inr (inl q)) = apart u v hu hv su sv q
-        go u v hu hv su sv (inr (inr q)) = sym (apart v u hv hu sv su (sym (q .1), sym (q .0)))
+        go u v hu hv su sv (inr (inl q)) = only u v hu hv su sv q
+        go u v hu hv su sv (inr (inr q)) = sym (only v u hv hu sv su (sym (q .1), sym (q .0)))
 
     -- x stands for b.
     pub linked-second : label y ≡ label a → label x ≡ label b → Spells after (merge label a b)
@@ -182,8 +182,8 @@ module _ (g : Graph) (e : ℕ) {before between after : List ℕ} {u v : ℕ} (on
           parents = lowered (short .parents) v u (omega (arith, second .below)) h;
           new = not-yet;
           labels = λ label w.
-              linked-second (short .parents) v u (omega (arith, second .below)) h label (now-spells label w) (omega (arith, first .below))
-              (second .stands) stands-first (oneEnd g e) (otherEnd g e) (for-first label w) (for-second label w);
+              linked-second (short .parents) v u (omega (arith, second .below)) h label (now-spells label w)
+              (second .stands) (oneEnd g e) (otherEnd g e) (for-first label w) (for-second label w);
         }
 
     pub lower-second : v < u → EndsJoined g e before (set after u v) true
@@ -193,6 +193,6 @@ module _ (g : Graph) (e : ℕ) {before between after : List ℕ} {u v : ℕ} (on
           parents = lowered (short .parents) u v (omega (arith, first .below)) h;
           new = not-yet;
           labels = λ label w.
-              linked-first (short .parents) u v (omega (arith, first .below)) h label (now-spells label w) (omega (arith, second .below))
-              stands-first (second .stands) (oneEnd g e) (otherEnd g e) (for-second label w) (for-first label w);
+              linked-first (short .parents) u v (omega (arith, first .below)) h label (now-spells label w)
+              stands-first (oneEnd g e) (otherEnd g e) (for-second label w) (for-first label w);
         }

@@ -1,7 +1,7 @@
 -- The weights of lists of edges, edge by edge, and the heaviest of trees, tree by tree.
 -- Assumes nothing.
 use Prim.Native.Nat.{ℕ, _+_, _≤_, _<_, max}
-use mathlib.Core.Path.{_≡_, refl, sym, ap, _∙_}
+use mathlib.Core.Path.{_≡_, refl, sym, ap, ap₂, _∙_}
 use mathlib.Core.List.{List, [], _∷_, _++_, map}
 use native.Mathlib.Omega.{arith}
 use lib.ListN.{length, take, getD}
@@ -54,10 +54,10 @@ module _ (g : Graph) where
 
     -- A tree weighs what its run does.
     pub heaviest-next : (j from to : ℕ) → treeIn c j ≡ record { start = startIn c j; edges = runEdges c from to }
-        → max (heaviestBefore j) (totalWeight g (runEdges c from to)) ≡ heaviestBefore (j + 1)
+        → {most weight : ℕ} → most ≡ heaviestBefore j → weight ≡ totalWeight g (runEdges c from to) → max most weight ≡ heaviestBefore (j + 1)
     unfolding treeWeight
-    heaviest-next j from to q =
-        ap (max (heaviestBefore j)) (sym (ap (treeWeight g) q))
+    heaviest-next j from to q before run =
+        ap₂ max before (run ∙ sym (ap (treeWeight g) q))
         ∙ sym (ap (largest (treeWeight g)) (map-below-more (treeIn c) (treeIn c) j (treeIn c j) (λ i h. refl) refl)
         ∙ largest-more (treeWeight g) (map (treeIn c) (Count.below j)) (treeIn c j))
 

@@ -3,7 +3,6 @@
 ghost use mathlib.Core.Path.{_≡_};
 ghost use Prim.Native.Nat.{_<_};
 ghost use lib.ListN.{length, getD};
-ghost use Rattle.graph.specs.Graph.{Graph};
 ghost use Rattle.graph.specs.Bytes.{graphOf, Reads};
 ghost use Rattle.cover.specs.Parents.{AllStand, Parents, Found, Joinable, EndsJoined};
 

@@ -75,9 +75,9 @@ returns-3 c =
     let q = sheet-passed t ∙ ap sheet.says (t .n .given .1) in
     let g = s t .args in
     promised (g .kind) (g .k) (g .b .now) (g .c .now) (c .check-filed .result) (cover-bytes (checked t .before))
-    (c .check-filed .ensures
-    ∙ cover-decides (g .b .now) (crewsOf (g .kind) (g .k)) (g .c .now) q
-    (ap (crewFault (crewsOf (g .kind) (g .k))) (sym (yes-graph (g .b .now) q .vertices-are)) ∙ r .ensures .right (not-false (r .result) (c .before .if1 .left))))
+    (cover-decides (g .b .now) (crewsOf (g .kind) (g .k)) (g .c .now) q
+    (ap (crewFault (crewsOf (g .kind) (g .k))) (sym (yes-graph (g .b .now) q .vertices-are)) ∙ r .ensures .right (not-false (r .result) (c .before .if1 .left)))
+    (c .check-filed .ensures))
 
 pub check-cover-spec : {M : Type 1} → statement M
 check-cover-spec =

@@ -1,7 +1,7 @@
 -- `cover::heaviest::heaviest_tree` meets its contract. The loop's invariant: `most` is the heaviest of the trees before j, and the entries of
 -- tree j begin at `from`. The measure is how many trees are left. Assumes nothing.
-use Prim.Native.Nat.{_-_, _≤_, max}
-use mathlib.Core.Path.{_≡_, ap₂, _∙_}
+use Prim.Native.Nat.{_-_, _≤_}
+use mathlib.Core.Path.{_≡_, _∙_}
 use native.Mathlib.Omega.{arith}
 use Rattle.graph.specs.Graph.{Graph, edgeCount}
 use Rattle.graph.specs.Bytes.{graphOf}
@@ -64,8 +64,8 @@ loop-again c =
     let s = start l in (
       omega arith,
       begins-next (s .args .c .now) (edgeCount (g (start l))) (s .pre .entries) (l .loop .inv .1) (run .run-end .ensures),
-      c .larger .ensures ∙ ap₂ max (l .loop .inv .2) (c .before .run-weight .ensures)
-          ∙ heaviest-next (g (start l)) (s .args .c .now) (l .loop .j) (l .loop .from) (run .run-end .result) (run-is-tree run),
+      c .larger .ensures ∙ heaviest-next (g (start l)) (s .args .c .now) (l .loop .j) (l .loop .from) (run .run-end .result) (run-is-tree run)
+          (l .loop .inv .2) (c .before .run-weight .ensures),
     )
 
 returns : tie.Need-returns Inv-loop μ-loop
