@@ -4,7 +4,7 @@ use Prim.Native.Nat.{ℕ, _≤_}
 use mathlib.Core.Path.{_≡_, sym, subst}
 use mathlib.Core.List.{List}
 use native.Mathlib.Omega.{arith}
-use lib.ListN.{length, take, replicate, length-replicate}
+use lib.ListN.{length, take}
 use Rattle.lists.proofs.Put.{put-taken, put-fits, put-length}
 use Rattle.graph.specs.Bytes.{graphOf}
 use Rattle.forest.specs.Around.{Arcs}
@@ -12,12 +12,12 @@ use Rattle.split.specs.WalkPut.{WalkAsked, WalkPut}
 use Rattle.rooted.specs.Prepared.{Decidable, WholeWalked}
 
 module _ {b roots kept bounds arcs table : List ℕ} (d : Decidable b roots kept bounds arcs table) {n : ℕ} (n-is : n ≡ graphOf b .vertices) where
-  pub walk-asked : WalkAsked n bounds arcs roots (replicate 256 0)
-  walk-asked =
+  pub walk-asked : {walk : List ℕ} → length walk ≡ 256 → WalkAsked n bounds arcs roots walk
+  walk-asked size =
       record {
         around = subst (λ m. Arcs m bounds arcs) (sym n-is) (d .around .sound);
         roots-inside = λ j h. omega (arith, d .roots-inside j h);
-        room = omega (arith, d .graph .valid .vertices-most, length-replicate {A = ℕ} 256 0);
+        room = omega (arith, d .graph .valid .vertices-most);
       }
 
   pub walk-written : {before walk : List ℕ} {r : ℕ} → WalkPut n bounds arcs roots before walk r → WholeWalked b roots (take r walk)
