@@ -16,7 +16,8 @@ use Rattle.lists.proofs.Member.{in-map, of-map}
 use Rattle.lists.proofs.InOrder.{rising-once}
 use Rattle.lists.proofs.Below.{of-below, in-below}
 use Rattle.lists.proofs.First.{first-none, first-some}
-use Rattle.lists.proofs.Lengths.{length-within, map-once, some-member}
+use Rattle.lists.proofs.Images.{images-once}
+use Rattle.lists.proofs.Lengths.{length-within, some-member}
 use Rattle.graph.specs.Graph.{Graph}
 use Rattle.graph.specs.Valid.{Valid}
 use Rattle.rules.specs.Walk.{Linked}
@@ -81,7 +82,7 @@ module _ (g : Graph) (k : ℕ) where
         cover .starts .1,
         length-map (lowest g (whole g)) (whole g),
         length-map trees (λ (t : Tree). whole g (t .start)),
-        length-within (map-once (whole g) (rising-once (lowest-rising g (whole g))) (λ u v m n. lowest-alike g (whole g) m n)) among,
+        length-within (images-once (whole g) (rising-once (lowest-rising g (whole g))) (λ u v m n. lowest-alike g (whole g) m n)) among,
       )
     where
       among : (x : ℕ) → x ∈ map (whole g) (lowest g (whole g)) → x ∈ map (λ (t : Tree). whole g (t .start)) trees
