@@ -1,10 +1,9 @@
 -- A run of entries taken edge by edge: what is known of its loops and its labels after each edge.
 -- Assumes nothing.
-use Prim.Native.Nat.{ℕ, suc, _+_, _-_, _≤_, _<_}
+use Prim.Native.Nat.{ℕ, _+_, _≤_, _<_}
 use mathlib.Core.Path.{_≡_, refl, sym, ap, _∙_}
 use mathlib.Core.Bool.{Bool, true, false, _&&_}
-use mathlib.Core.List.{List, [], _∷_, _++_, map, map-append}
-use native.Mathlib.Numerals.{add-one}
+use mathlib.Core.List.{List, [], _∷_}
 use native.Mathlib.Omega.{arith}
 use Rattle.lists.specs.Count as Count
 use Rattle.graph.specs.Graph.{Graph}
@@ -15,33 +14,7 @@ use Rattle.forest_laws.proofs.Merging.{merged-append}
 use Rattle.cover.specs.Runs.{runEdges}
 use Rattle.cover.specs.Parents.{Parents, Spells, EndsJoined}
 use Rattle.cover.specs.Trees.{RunTaken}
-use Rattle.cover.proofs.TreeRuns.{from-split}
-
-module _ (c : List ℕ) where
-  -- An empty run.
-  pub run-none : (from to : ℕ) → to ≤ from → runEdges c from to ≡ []
-  unfolding Count.from
-  run-none from to h =
-      let none : to - from ≡ 0 = omega arith in
-      rw none
-
-  -- A run begins with its first entry.
-  pub run-first : (i to : ℕ) → i < to → runEdges c i to ≡ entryEdge c i ∷ runEdges c (i + 1) to
-  unfolding Count.from
-  run-first i to h =
-      let some : to - i ≡ suc (to - suc i) = omega arith in
-      rw (add-one, some)
-
-  -- A run up to the next entry ends with this one.
-  pub run-last : (from i : ℕ) → from ≤ i → runEdges c from (i + 1) ≡ runEdges c from i ++ (entryEdge c i ∷ [])
-  unfolding Count.from
-  run-last from i h =
-      let more : i + 1 - from ≡ (i - from) + 1 = omega arith in
-      let there : from + (i - from) ≡ i = omega arith in
-      ap (λ n. map (entryEdge c) (Count.from from n)) more
-      ∙ ap (map (entryEdge c)) (from-split from (i - from) 1)
-      ∙ map-append (entryEdge c) (Count.from from (i - from)) (Count.from (from + (i - from)) 1)
-      ∙ ap (λ k. runEdges c from i ++ (entryEdge c k ∷ [])) there
+use Rattle.cover.proofs.TreeRuns.{run-none, run-first, run-last}
 
 -- What is known after the entries before i: the rest decides about loops, from the labels that those before have made.
 pub record RunSoFar (g : Graph) (c : List ℕ) (from to i : ℕ) (before after : List ℕ) : Type 0 where

@@ -3,9 +3,10 @@
 use Prim.Native.Nat.{ℕ, zero, suc, _+_, _-_, _≤_, _<_}
 use mathlib.Core.Path.{_≡_, refl, ap, _∙_}
 use mathlib.Core.Bool.{Bool, true, _&&_}
-use mathlib.Core.List.{List, [], _∷_, _++_, map, append-nil}
+use mathlib.Core.List.{List, [], _∷_, _++_, map, append-nil, map-append}
 use mathlib.Core.Logic.{_⊎_, inl, inr}
 use native.Mathlib.Decide.{decLt}
+use native.Mathlib.Numerals.{add-one}
 use native.Mathlib.Omega.{arith}
 use lib.Dec.{eqb, ltb}
 use borrow.Author.Tests.{ltb-true, eqb-true, eq-eqb, ne-eqb}
@@ -135,3 +136,29 @@ module _ (c : List ℕ) where
       -- So its edges are those of its run.
       pub tree-is-run : treeIn c j ≡ record { start = startIn c j; edges = runEdges c at to }
       tree-is-run = run-tree b r higher-after
+
+module _ (c : List ℕ) where
+  -- An empty run.
+  pub run-none : (from to : ℕ) → to ≤ from → runEdges c from to ≡ []
+  unfolding Count.from
+  run-none from to h =
+      let none : to - from ≡ 0 = omega arith in
+      rw none
+
+  -- A run begins with its first entry.
+  pub run-first : (i to : ℕ) → i < to → runEdges c i to ≡ entryEdge c i ∷ runEdges c (i + 1) to
+  unfolding Count.from
+  run-first i to h =
+      let some : to - i ≡ suc (to - suc i) = omega arith in
+      rw (add-one, some)
+
+  -- A run up to the next entry ends with this one.
+  pub run-last : (from i : ℕ) → from ≤ i → runEdges c from (i + 1) ≡ runEdges c from i ++ (entryEdge c i ∷ [])
+  unfolding Count.from
+  run-last from i h =
+      let more : i + 1 - from ≡ (i - from) + 1 = omega arith in
+      let there : from + (i - from) ≡ i = omega arith in
+      ap (λ n. map (entryEdge c) (Count.from from n)) more
+      ∙ ap (map (entryEdge c)) (from-split from (i - from) 1)
+      ∙ map-append (entryEdge c) (Count.from from (i - from)) (Count.from (from + (i - from)) 1)
+      ∙ ap (λ k. runEdges c from i ++ (entryEdge c k ∷ [])) there

@@ -19,7 +19,7 @@ use Rattle.rules.specs.CoverBytes.{treesIn, startIn, entryEdge, treeIn, decode}
 use Rattle.rules.specs.Held.{treeAt, treesAt}
 use Rattle.cover.specs.Chosen.{HeaviestChosen}
 use Rattle.cover.specs.Runs.{runEdges}
-use Rattle.cover.proofs.RunTests.{run-none, run-last}
+use Rattle.cover.proofs.TreeRuns.{run-none, run-last}
 
 module _ (g : Graph) where
   -- No edge weighs nothing, and one edge more adds its weight.

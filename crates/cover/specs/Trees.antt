@@ -6,13 +6,13 @@ use mathlib.Core.Bool.{Bool, true}
 use mathlib.Core.List.{List}
 use lib.ListN.{length}
 use Rattle.lists.specs.Lists.{all}
-use Rattle.graph.specs.Graph.{Graph, edgeCount, oneEnd}
+use Rattle.graph.specs.Graph.{Graph, oneEnd}
 use Rattle.graph.specs.Bytes.{graphOf}
 use Rattle.graph.specs.Valid.{IsGraph}
 use Rattle.rules.specs.Labels.{Labels, joined, mergeAll}
 use Rattle.rules.specs.CoverBytes.{startIn}
-use Rattle.rules.specs.CheckCover.{startsBelow, entriesRight, loopFree}
-use Rattle.cover.specs.Runs.{runEdges}
+use Rattle.rules.specs.CheckCover.{loopFree}
+use Rattle.cover.specs.Runs.{runEdges, CoverGiven}
 use Rattle.cover.specs.Parents.{Parents, Spells}
 
 -- Whatever labels the parents spelled: r says whether the run's edges close no loop, and where they close none all their ends are joined.
@@ -32,13 +32,7 @@ pub record TreeGiven (b c : List ℕ) (j from to : ℕ) (parents : List ℕ) : T
   pub start : startIn c j < graphOf b .vertices
   pub forward : from ≤ to
 
--- The graph's bytes, and a cover whose starts and entries passed their tests.
-pub record CoverGiven (b c : List ℕ) : Type 0 where
-  pub graph : IsGraph b
-  pub starts : startsBelow (graphOf b .vertices) c ≡ true
-  pub entries : entriesRight (edgeCount (graphOf b)) c ≡ true
-
--- The same, with a place for each vertex's parent.
+-- A cover whose starts and entries passed their tests, with a place for each vertex's parent.
 pub record TreesGiven (b c parents : List ℕ) : Type 0 where
   pub cover : CoverGiven b c
   pub room : length parents ≡ 256

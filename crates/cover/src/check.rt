@@ -14,7 +14,7 @@ ghost use mathlib.Core.Path.{_≡_};
 ghost use Rattle.graph.specs.Bytes.{graphOf};
 ghost use Rattle.graph.specs.Valid.{IsGraph};
 ghost use Rattle.rules.specs.CheckCover.{startsRight, coverFault};
-ghost use Rattle.cover.specs.Trees.{CoverGiven};
+ghost use Rattle.cover.specs.Runs.{CoverGiven};
 ghost use Rattle.cover.specs.Crews.{crewsOf};
 ghost use Rattle.cover.specs.Promise.{says, answer, treesFault, CheckPromise};
 

@@ -3,7 +3,7 @@ use crate::index::edges_at;
 use crate::index::number_at;
 use crate::read::entry_edge;
 use crate::read::trees_in;
-use crate::trees::run_end;
+use crate::runs::run_end;
 ghost use mathlib.Core.Path.{_≡_};
 ghost use Prim.Native.Nat.{_^_, _<_, max};
 ghost use lib.ListN.{length};
@@ -12,8 +12,7 @@ ghost use Rattle.rules.specs.Walk.{totalWeight};
 ghost use Rattle.rules.specs.Cover.{heaviest};
 ghost use Rattle.rules.specs.CoverBytes.{decode};
 ghost use Rattle.cover.specs.Chosen.{AllHeld, HeaviestChosen};
-ghost use Rattle.cover.specs.Runs.{runEdges, InEntries};
-ghost use Rattle.cover.specs.Trees.{CoverGiven};
+ghost use Rattle.cover.specs.Runs.{runEdges, InEntries, CoverGiven};
 
 // The weight of the edges of a run of entries.
 pub fn run_weight(b: &[u8], c: &[u8], from: usize, to: usize) -> u64

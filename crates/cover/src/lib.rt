@@ -7,6 +7,7 @@ pub mod heaviest;
 mod index;
 mod parents;
 pub mod read;
+pub mod runs;
 pub mod starts;
 pub mod trees;
 pub mod vertices;

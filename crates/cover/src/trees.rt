@@ -3,35 +3,18 @@
 use crate::parents::join_ends;
 use crate::parents::set_apart;
 use crate::parents::stands_for;
-use crate::read::entries_in;
 use crate::read::entry_edge;
-use crate::read::entry_tree;
 use crate::read::start_in;
 use crate::read::trees_in;
+use crate::runs::run_end;
 ghost use mathlib.Core.Path.{_≡_};
 ghost use Prim.Native.Nat.{_≤_, _<_};
 ghost use Rattle.graph.specs.Bytes.{graphOf};
-ghost use Rattle.rules.specs.CoverBytes.{entriesIn, startIn, decode};
+ghost use Rattle.rules.specs.CoverBytes.{startIn, decode};
 ghost use Rattle.rules.specs.CheckCover.{treeRight, treesRight};
-ghost use Rattle.cover.specs.Runs.{RunOf, runEdges};
+ghost use Rattle.cover.specs.Runs.{runEdges};
 ghost use Rattle.cover.specs.Parents.{Joinable};
 ghost use Rattle.cover.specs.Trees.{RunTaken, RunJoined, TreeGiven, TreesGiven};
-
-// Where the entries of tree j end that begin at an entry.
-pub fn run_end(c: &[u8], j: usize, from: usize) -> usize
-    requires { ⌜ from ≤ entriesIn (now c) ⌝ }
-    ensures { λ r. ⌜ RunOf (now (c .entry)) j from r ⌝ }
-{
-    let q = entries_in(c);
-    let mut i = from;
-    while i < q {
-        if entry_tree(c, i) != j {
-            return i;
-        }
-        i += 1;
-    }
-    i
-}
 
 // Joins the ends of the edges of a run of entries, one edge after the other, as long as they are not yet joined. Says whether none were.
 fn run_loop_free(b: &[u8], c: &[u8], from: usize, to: usize, parents: &mut [u8]) -> bool

@@ -11,7 +11,7 @@ ghost use Rattle.graph.specs.Bytes.{graphOf};
 ghost use Rattle.rules.specs.CoverBytes.{treesIn, entriesIn, startIn, decode};
 ghost use Rattle.rules.specs.CheckCover.{verticesCovered};
 ghost use Rattle.forest.specs.Keeping.{Labelable};
-ghost use Rattle.cover.specs.Trees.{CoverGiven};
+ghost use Rattle.cover.specs.Runs.{CoverGiven};
 ghost use Rattle.cover.specs.Vertices.{StartsMarked, EndsMarked};
 
 // Marks the starts of the trees.

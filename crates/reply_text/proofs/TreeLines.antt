@@ -11,7 +11,7 @@ use Rattle.graph.specs.Graph.{Graph}
 use Rattle.rules.specs.Cover.{Tree, treeWeight}
 use Rattle.rules.specs.CoverBytes.{treesIn, entryEdge, treeIn, decode}
 use Rattle.cover.specs.Runs.{runEdges}
-use Rattle.cover.proofs.RunTests.{run-none, run-first}
+use Rattle.cover.proofs.TreeRuns.{run-none, run-first}
 use Rattle.reply_text.specs.Lines.{bytesOf, spaced, allSpaced, ended, line}
 use Rattle.reply_text.specs.Text.{treeLine, treeLines}
 use Rattle.reply_text.proofs.LineEnds.{spaced-none, spaced-next, ended-next}

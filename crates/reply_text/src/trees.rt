@@ -6,7 +6,7 @@ use cover::heaviest::run_weight;
 use cover::read::entry_edge;
 use cover::read::start_in;
 use cover::read::trees_in;
-use cover::trees::run_end;
+use cover::runs::run_end;
 ghost use Prim.Native.Nat.{_+_, _≤_};
 ghost use lib.ListN.{length};
 ghost use Rattle.lists.specs.Put.{PutTo};

@@ -1,12 +1,12 @@
--- `cover::trees::run_end` meets its contract. The loop's invariant: the entries before i name tree j. The measure is how many entries are left.
+-- `cover::runs::run_end` meets its contract. The loop's invariant: the entries before i name tree j. The measure is how many entries are left.
 -- Assumes nothing.
 use Prim.Native.Nat.{ℕ, _-_, _≤_, _<_}
 use mathlib.Core.Path.{_≡_, sym, _∙_}
 use native.Mathlib.Omega.{arith}
 use borrow.Author.Count.{below-more}
 use Rattle.rules.specs.CoverBytes.{entryTree}
-use Rattle.cover.proofs.trees.run_end.Statement.{statement}
-use Rattle.cover.proofs.trees.run_end.Tie as tie
+use Rattle.cover.proofs.runs.run_end.Statement.{statement}
+use Rattle.cover.proofs.runs.run_end.Tie as tie
 
 abbrev Inv-loop : tie.InvT-loop
 Inv-loop c j from q i₀ i = (from ≤ i) × (i ≤ q) × ((k : ℕ) → k < i → from ≤ k → entryTree c k ≡ j)
