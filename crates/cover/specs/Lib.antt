@@ -3,13 +3,5 @@
 pub mod Chosen
 -- runs of entries
 pub mod Runs
--- vertices joined by parents
-pub mod Parents
--- one tree and its run of entries
-pub mod Trees
--- marked vertices
-pub mod Vertices
 -- crews of either kind
 pub mod Crews
--- what the check promises
-pub mod Promise

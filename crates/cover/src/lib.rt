@@ -1,14 +1,8 @@
 // The bytes of a cover: reading and writing them, and the check of a filed cover (31 to 35).
 // The words of the contracts stand in specs/ and in the definitions of `rules`.
-pub mod check;
 pub mod crews;
-pub mod entries;
 pub mod heaviest;
 mod index;
-mod parents;
 pub mod read;
 pub mod runs;
-pub mod starts;
-pub mod trees;
-pub mod vertices;
 pub mod write;

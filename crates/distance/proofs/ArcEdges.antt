@@ -21,9 +21,9 @@ use Rattle.graph.specs.Graph.{Graph, edgeCount, oneEnd, otherEnd, weightOf}
 use Rattle.graph.specs.Valid.{Valid}
 use Rattle.rules.specs.Grow.{farEnd}
 use Rattle.rules.specs.Walk.{Joins, onward, back}
-use Rattle.forest.specs.Around.{arcOf, arcEdge, arcHead, arcWeight, touches, arcsAt, Around}
+use Rattle.edges.specs.Around.{arcOf, arcEdge, arcHead, arcWeight, touches, arcsAt, Around}
 use Rattle.distance.specs.Relaxing.{ArcAt}
-use Rattle.forest.proofs.Arcs.{arc-edge, valid-arc-head, valid-arc-weight}
+use Rattle.edges.proofs.Arcs.{arc-edge, valid-arc-head, valid-arc-weight}
 
 -- An edge that touches u joins it to its far end.
 touches-joins : (g : Graph) (u e : ℕ) → touches g u e ≡ true → Joins g e u (farEnd g e u)

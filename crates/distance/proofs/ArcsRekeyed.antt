@@ -8,7 +8,7 @@ use native.Mathlib.Omega.{arith}
 use lib.ListN.{length, getD, set}
 use lib.Seq.{getD-set-same, getD-set-other}
 use Rattle.lists.proofs.AfterStore.{at-or-not}
-use Rattle.forest.specs.Around.{arcHead}
+use Rattle.edges.specs.Around.{arcHead}
 use Rattle.distance.specs.Waiting.{keyOf, Blocks, KeyGiven}
 use Rattle.distance.specs.Relaxing.{ArcRelaxed, kept, lowered, Rekeyed, key-kept, key-new}
 use Rattle.distance.proofs.WhoWaits.{key-nearer}

@@ -12,7 +12,7 @@ use lib.Seq.{getD-set-same, getD-set-other}
 use borrow.Author.Tests.{eqb-true, eqb-false}
 use Rattle.lists.proofs.AfterStore.{at-or-not}
 use Rattle.lists.proofs.Member.{either}
-use Rattle.forest.specs.Around.{arcEdge, arcHead, arcWeight}
+use Rattle.edges.specs.Around.{arcEdge, arcHead, arcWeight}
 use Rattle.distance.specs.Trail.{lastOf}
 use Rattle.distance.specs.Shortest.{unreached}
 use Rattle.distance.specs.Relaxing.{ArcIn, ArcRelaxed, kept, lowered, Becomes, same, nearer, Relaxed}

@@ -20,7 +20,7 @@ use Rattle.distance_laws.proofs.Shortening.{shortened}
 use Rattle.distance_laws.proofs.Bounding.{joins-inside}
 use Rattle.distance_laws.proofs.Least.{distanceTo, distance-reached, distance-most}
 use Rattle.distance_laws.proofs.PathWeights.{turned-weight, weight-most}
-use Rattle.forest.specs.Around.{arcEdge, arcHead, arcWeight, Around}
+use Rattle.edges.specs.Around.{arcEdge, arcHead, arcWeight, Around}
 use Rattle.distance.specs.Trail.{lastOf, lastEdge, vertexBefore, IsTrail, home, over}
 use Rattle.distance.specs.Shortest.{unreached, SaysDistance, nowhere, there, IsPathBack, Shortest}
 use Rattle.distance.proofs.Trails.{trail-of}

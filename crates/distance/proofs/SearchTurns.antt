@@ -12,7 +12,7 @@ use lib.Dec.{ltb}
 use borrow.Author.Tests.{ltb-true, ltb-false}
 use Rattle.lists.proofs.Member.{either}
 use Rattle.lists.proofs.Put.{only-first, only-first-length, only-first-rest}
-use Rattle.forest.specs.Around.{arcHead, Arcs}
+use Rattle.edges.specs.Around.{arcHead, Arcs}
 use Rattle.distance.specs.Shortest.{unreached, Searchable, Searched}
 use Rattle.distance.specs.Waiting.{keyOf, vertexOf, nobody, LeastFrom, Blocks, KeyPut, Started}
 use Rattle.distance.specs.Relaxing.{ArcAt, Becomes, same, nearer, Relaxed, Relaxable, Rekeyed, key-kept, key-new, AllRelaxed}

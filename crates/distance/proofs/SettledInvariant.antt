@@ -8,7 +8,7 @@ use mathlib.Core.Logic.{_⊎_, inl, inr, dite}
 use native.Mathlib.Decide.{ℕ-discrete}
 use native.Mathlib.Omega.{arith}
 use lib.ListN.{getD}
-use Rattle.forest.specs.Around.{arcEdge, arcHead, arcWeight}
+use Rattle.edges.specs.Around.{arcEdge, arcHead, arcWeight}
 use Rattle.distance.specs.Trail.{lastOf}
 use Rattle.distance.specs.Shortest.{unreached}
 use Rattle.distance.specs.Relaxing.{ArcAt, Becomes, same, nearer, Relaxed}

@@ -5,7 +5,7 @@ use mathlib.Core.Path.{_≡_}
 use mathlib.Core.Bool.{Bool, true, false}
 use mathlib.Core.List.{List}
 use lib.ListN.{length, getD, set}
-use Rattle.forest.specs.Around.{arcEdge, arcHead, arcWeight}
+use Rattle.edges.specs.Around.{arcEdge, arcHead, arcWeight}
 use Rattle.distance.specs.Trail.{lastOf}
 use Rattle.distance.specs.Shortest.{unreached}
 use Rattle.distance.specs.Waiting.{keyOf, Blocks}

@@ -11,7 +11,7 @@ use Rattle.lists.specs.Put.{OnlyFirst}
 use Rattle.graph.specs.Graph.{Graph, edgeCount}
 use Rattle.rules.specs.Walk.{Walk, totalWeight}
 use Rattle.rules.specs.Distance.{Distance, distances}
-use Rattle.forest.specs.Around.{Arcs, Around}
+use Rattle.edges.specs.Around.{Arcs, Around}
 use Rattle.distance.specs.Trail.{HasTrail, trailOf}
 
 -- What stands in the array of distances where there is none. Every distance is below it.

@@ -2,7 +2,7 @@
 use crate::last::last_of;
 use crate::wait::key_of;
 use crate::wait::put_key;
-use forest::index::wide;
+use edges::index::wide;
 ghost use Rattle.graph.specs.Bytes.{Reads};
 ghost use Rattle.distance.specs.Relaxing.{ArcRelaxable, ArcRelaxed, Relaxable, AllRelaxed};
 
@@ -19,14 +19,14 @@ fn relax_arc(a: u64, u: usize, d: u64, dist: &mut [u32], last: &mut [u32]) -> bo
     requires { ⌜ ArcRelaxable a u d (now dist) (now last) ⌝ }
     ensures { λ r. ⌜ ArcRelaxed a u d (now (dist .entry)) (now (last .entry)) (now (dist .exit)) (now (last .exit)) r ⌝ }
 {
-    let v = forest::arc::arc_head(a);
-    let over = d + forest::arc::arc_weight(a);
+    let v = edges::arc::arc_head(a);
+    let over = d + edges::arc::arc_weight(a);
     let before = dist[v];
     if wide_distance(before) <= over {
         return false;
     }
     dist[v] = over as u32;
-    last[v] = last_of(forest::arc::arc_edge(a), u);
+    last[v] = last_of(edges::arc::arc_edge(a), u);
     true
 }
 
@@ -53,7 +53,7 @@ pub(crate) fn relax_arcs(
         if !relax_arc(a, u, d, dist, last) {
             continue;
         }
-        let v = forest::arc::arc_head(a);
+        let v = edges::arc::arc_head(a);
         put_key(v, key_of(dist[v], v), wait, low);
     }
 }

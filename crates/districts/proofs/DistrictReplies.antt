@@ -9,9 +9,9 @@ use Rattle.lists.specs.Put.{PutTo}
 use Rattle.graph.specs.Bytes.{graphOf}
 use Rattle.rules.specs.Reply as rules
 use Rattle.cover.specs.declared.crews.Kind.{Kind}
-use Rattle.cover.specs.declared.check.Verdict.{Verdict}
-use Rattle.cover.specs.declared.check.Verdict.the-variants.{Yes}
-use Rattle.cover.specs.Promise.{says}
+use Rattle.filed.specs.declared.check.Verdict.{Verdict}
+use Rattle.filed.specs.declared.check.Verdict.the-variants.{Yes}
+use Rattle.filed.specs.Promise.{says}
 use Rattle.pieces.specs.declared.reply.Reply.{Reply}
 use Rattle.reply_text.specs.Lines.{line}
 use Rattle.reply_text.specs.Text.{textOf}

@@ -5,8 +5,8 @@
 // implementation. The replies in full go to standard error, as bytes, for a judge that knows which choices are free.
 mod text;
 
-use cover::check::check_cover;
 use cover::crews::Kind;
+use filed::check::check_cover;
 use gate_replies::file::file_reply;
 use gate_replies::full::filled;
 use gate_replies::full::room;

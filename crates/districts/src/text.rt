@@ -1,6 +1,6 @@
 // What is printed of a reply, and of the check's answer.
-use cover::check::Verdict;
 use cover::crews::Kind;
+use filed::check::Verdict;
 use gate_replies::fixed::write_fixed;
 use pieces::reply::Reply;
 use reply_text::lines::put_line;
@@ -9,7 +9,7 @@ use reply_text::reply::write_reply;
 ghost use Prim.Native.Nat.{_≤_};
 ghost use lib.ListN.{length};
 ghost use Rattle.lists.specs.Put.{PutTo};
-ghost use Rattle.cover.specs.Promise.{says};
+ghost use Rattle.filed.specs.Promise.{says};
 ghost use Rattle.reply_text.specs.Replies.{TextAsked};
 ghost use Rattle.districts.specs.Text.{DistrictWritten, verdictText};
 

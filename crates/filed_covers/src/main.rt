@@ -1,8 +1,8 @@
 // Puts filed covers to the check and prints its answers, a line each: `yes` with the heaviest weight, or the number.
 // Standard input holds records, one behind the other: kind (1 rooted, otherwise unrooted), k, the sheet's length, the cover's length
 // (2 bytes each, lowest byte first), the sheet, the cover.
-use cover::check::Verdict;
 use cover::crews::Kind;
+use filed::check::Verdict;
 use libc::STDIN_FILENO;
 use libc::STDOUT_FILENO;
 
@@ -40,7 +40,7 @@ fn print_verdict(verdict: Verdict) {
 fn answer_filed(kind: Kind, k: usize, sheet: &mut [u8], filed: &mut [u8]) {
     io::read_full(STDIN_FILENO, sheet);
     io::read_full(STDIN_FILENO, filed);
-    print_verdict(cover::check::check_cover(kind, k, sheet, filed));
+    print_verdict(filed::check::check_cover(kind, k, sheet, filed));
 }
 
 // Reads one record and answers it; says whether there was one.

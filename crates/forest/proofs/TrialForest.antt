@@ -16,7 +16,7 @@ use Rattle.forest_laws.proofs.Ordering.{ordered-by-weight}
 use Rattle.forest_laws.proofs.Limit.{forest-within}
 use Rattle.forest.specs.Arrays.{Agrees}
 use Rattle.forest.specs.Keeping.{KeptWritten}
-use Rattle.forest.specs.Light.{lightOf, LightFront}
+use Rattle.edges.specs.Light.{lightOf, LightFront}
 
 -- The whole forest stands by weight, as `light_count` asks.
 pub forest-by-weight : (g : Graph) (label : Labels) → ByWeight g (keep g label (ordered g))

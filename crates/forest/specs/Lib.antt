@@ -7,15 +7,5 @@ pub mod Labelled
 pub mod Keeping
 -- the lowest vertex joined to no root, and the lowest of each component
 pub mod Lowest
--- edges within a limit
-pub mod Light
--- all edges by weight, then number
-pub mod Order
--- edges by rising number
-pub mod Sweep
 -- vertices marked
 pub mod Marks
--- the edges around each vertex
-pub mod Around
--- the edges around each vertex, as they are put
-pub mod PutAround

@@ -1,6 +1,6 @@
 // Edges taken one after the other, and kept where their ends are not yet joined.
-use crate::index::wide;
 use crate::labels::merge_labels;
+use edges::index::wide;
 ghost use Rattle.graph.specs.Bytes.{graphOf};
 ghost use Rattle.forest.specs.Labelled.{Joined};
 ghost use Rattle.forest.specs.Keeping.{Labelable, Keepable, KeptWritten};

@@ -1,5 +1,5 @@
 // Labels of the vertices, in a lent array: two vertices are joined where their labels are equal.
-use crate::index::wide;
+use edges::index::wide;
 ghost use mathlib.Core.Path.{_≡_};
 ghost use mathlib.Core.Bool.{cond};
 ghost use Prim.Native.Nat.{_≤_, _<_};

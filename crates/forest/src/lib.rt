@@ -2,14 +2,7 @@
 // vertices ("stops") are joined, the edges that are kept, and the edges around each vertex.
 // Index arrays are lent by the caller as slices of u16; the graph is read from its bytes.
 // The words of the contracts stand in specs/ and in the definitions of the crate `rules`.
-pub mod arc;
-pub mod around;
-mod buckets;
-pub mod index;
 pub mod keep;
 pub mod labels;
-pub mod light;
 pub mod lowest;
 pub mod marks;
-pub mod order;
-pub mod sweep;

@@ -1,5 +1,5 @@
 // The lowest vertex joined to no root, and the lowest vertex of each component.
-use crate::index::wide;
+use edges::index::wide;
 ghost use Prim.Native.Nat.{_≤_, _<_};
 ghost use lib.ListN.{length};
 ghost use Rattle.forest.specs.Lowest.{Unjoined, LowestAsked, Components};

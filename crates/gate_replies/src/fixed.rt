@@ -1,8 +1,8 @@
 // The text of replies in which the rules leave a choice: only what they fix, and whether the check of a filed cover says yes to what was written.
-use cover::check::Verdict;
-use cover::check::check_cover;
 use cover::crews::Kind;
 use cover::read::cover_length;
+use filed::check::Verdict;
+use filed::check::check_cover;
 use pieces::reply::Reply;
 use reply_text::lines::put_last;
 use reply_text::lines::put_spaced;
@@ -12,7 +12,7 @@ ghost use mathlib.Core.Path.{_≡_};
 ghost use Prim.Native.Nat.{_+_, _≤_};
 ghost use lib.ListN.{length};
 ghost use Rattle.lists.specs.Put.{PutTo};
-ghost use Rattle.cover.specs.Promise.{says};
+ghost use Rattle.filed.specs.Promise.{says};
 ghost use Rattle.reply_text.specs.Replies.{TextAsked};
 ghost use Rattle.gate_replies.specs.Fixed.{isYes, confirmed, yesWord, sureLine, FixedWritten};
 

@@ -10,7 +10,7 @@ use Rattle.lists.specs.Segments.{Bounded}
 use Rattle.graph.specs.Graph.{edgeCount}
 use Rattle.graph.specs.Bytes.{graphOf}
 use Rattle.graph.specs.Valid.{IsGraph}
-use Rattle.forest.specs.Around.{Arcs, Around}
+use Rattle.edges.specs.Around.{Arcs, Around}
 use Rattle.distance.specs.Shortest.{Shortest}
 
 -- The bytes of a graph of n vertices, and a limit that four bytes hold.

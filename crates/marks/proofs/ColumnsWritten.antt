@@ -13,7 +13,7 @@ use Rattle.lists.proofs.AfterStore.{at-or-not}
 use Rattle.lists.proofs.SegmentSizes.{slice-taken}
 use Rattle.lists.proofs.Stores.{slice-same}
 use Rattle.graph.specs.Graph.{Graph, edgeCount}
-use Rattle.forest.specs.Around.{Around}
+use Rattle.edges.specs.Around.{Around}
 use Rattle.distance.specs.Shortest.{Shortest}
 use Rattle.marks.specs.Near.{distanceIn}
 use Rattle.marks.specs.Tabled.{rowOf}

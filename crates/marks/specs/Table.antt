@@ -6,7 +6,7 @@ use mathlib.Core.List.{List}
 use lib.ListN.{length, getD}
 use Rattle.lists.specs.Count.{below}
 use Rattle.graph.specs.Graph.{Graph, edgeCount}
-use Rattle.forest.specs.Around.{Arcs, Around}
+use Rattle.edges.specs.Around.{Arcs, Around}
 use Rattle.distance.specs.Shortest.{Shortest}
 use Rattle.marks.specs.Near.{distanceIn}
 use Rattle.marks.specs.Tabled.{DistancesTabled, LastsTabled}

@@ -1,7 +1,7 @@
 // Which roots are near a part (document 01, step 5: "a yard whose distance to the part's nearest stop is at most B").
 // Distances stand in one table, vertex by vertex: that of vertex v from root j at v * k + j, so that all roots' distances to one vertex
 // are looked at side by side.
-use forest::index::wide;
+use edges::index::wide;
 ghost use mathlib.Core.Path.{_≡_};
 ghost use mathlib.Core.Bool.{cond};
 ghost use Prim.Native.Nat.{_+_, _*_, _≤_};

@@ -1,6 +1,6 @@
 // The vertex of a part that is nearest to a root (document 01, step 5: "the part's nearest stop"), by a table of distances: that of
 // vertex v from root j of k stands at v * k + j.
-use forest::index::wide;
+use edges::index::wide;
 ghost use mathlib.Core.Path.{_≡_};
 ghost use mathlib.Core.Bool.{cond};
 ghost use lib.Dec.{ltb};

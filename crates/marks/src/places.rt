@@ -1,6 +1,6 @@
 // The places of the parts among the pieces that the splitting leaves, where each root's parts are followed by its leftover
 // (document 01, step 4): every number that is not a leftover's.
-use forest::index::wide;
+use edges::index::wide;
 use pieces::pieces::put_run;
 ghost use Prim.Native.Nat.{_≤_};
 ghost use lib.ListN.{length};

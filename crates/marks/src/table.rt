@@ -2,7 +2,7 @@
 // vertex by vertex: that of vertex v from root j of k at v * k + j. Last edges stand root by root: that of vertex v for root j of n vertices
 // at j * n + v.
 use distance::distances_from;
-use forest::index::wide;
+use edges::index::wide;
 ghost use mathlib.Core.Path.{_≡_};
 ghost use lib.ListN.{length};
 ghost use Rattle.marks.specs.Table.{ColumnAsked, ColumnWritten, RootAsked, RootFilled, TableAsked, TableFilled};

@@ -15,7 +15,7 @@ use Rattle.forest_laws.proofs.Keeping.{kept-in-order}
 use Rattle.forest_laws.proofs.Limit.{forest-within}
 use Rattle.forest.specs.Labelled.{Started}
 use Rattle.forest.specs.Keeping.{KeptWritten}
-use Rattle.forest.specs.Light.{LightFront}
+use Rattle.edges.specs.Light.{LightFront}
 use Rattle.forest.specs.Lowest.{Unjoined}
 use Rattle.forest.specs.declared.lowest.Found.{Found}
 use Rattle.pieces.specs.Whole.{AllJoined, EdgesLabelled, StopFound, WholeForest, WholeKept, LightForest}

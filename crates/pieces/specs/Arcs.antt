@@ -9,7 +9,7 @@ use Rattle.lists.specs.Sort.{rise}
 use Rattle.graph.specs.Graph.{Graph, edgeCount}
 use Rattle.graph.specs.Bytes.{graphOf}
 use Rattle.graph.specs.Valid.{IsGraph}
-use Rattle.forest.specs.Around.{Around}
+use Rattle.edges.specs.Around.{Around}
 
 -- The bytes are a graph's, the edges are as a forest has them, few and none twice, and there is room for their arcs.
 pub record ArcsAsked (b edges bounds arcs : List ℕ) : Type 0 where

@@ -1,6 +1,6 @@
 // The edges around each vertex over a forest's edges, by rising number: what growing and splitting walk over.
-use forest::around::put_around;
-use forest::sweep::sweep_edges;
+use edges::around::put_around;
+use edges::sweep::sweep_edges;
 ghost use Rattle.graph.specs.Bytes.{graphOf};
 ghost use Rattle.pieces.specs.Arcs.{ArcsAsked, ArcsPut};
 

@@ -1,6 +1,6 @@
 // Lists of edges held one after the other in one array, cut by bounds: reading the list of a number, and putting one more behind the others.
-use forest::index::wide;
-use forest::order::rise_edges;
+use edges::index::wide;
+use edges::order::rise_edges;
 ghost use mathlib.Core.Path.{_≡_};
 ghost use Prim.Native.Nat.{_+_, _-_, _≤_};
 ghost use lib.ListN.{length, getD};

@@ -1,10 +1,10 @@
 // The forest of the whole graph and the labels that edges make (document 01, steps 1 and 2). One forest serves all limits of a question: at a
 // limit it is the whole forest's edges within the limit.
-use forest::index::wide;
+use edges::index::wide;
+use edges::light::light_count;
 use forest::keep::join_ends;
 use forest::keep::keep_edges;
 use forest::labels::start_labels;
-use forest::light::light_count;
 use forest::lowest::Found;
 use forest::lowest::lowest_unjoined;
 ghost use Rattle.graph.specs.Bytes.{graphOf};

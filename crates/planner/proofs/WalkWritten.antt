@@ -7,7 +7,7 @@ use native.Mathlib.Omega.{arith}
 use lib.ListN.{length, take}
 use Rattle.lists.proofs.Put.{put-taken, put-fits, put-length}
 use Rattle.graph.specs.Bytes.{graphOf}
-use Rattle.forest.specs.Around.{Arcs}
+use Rattle.edges.specs.Around.{Arcs}
 use Rattle.split.specs.WalkPut.{WalkAsked, WalkPut}
 use Rattle.rooted.specs.Prepared.{Decidable, WholeWalked}
 

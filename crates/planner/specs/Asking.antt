@@ -22,7 +22,7 @@ use Rattle.pieces.specs.declared.reply.Reply.{Reply}
 use Rattle.pieces.specs.Replies.{Replied}
 use Rattle.marks.specs.Tabled.{LastsTabled}
 use Rattle.rooted.specs.Decide.{NoCoverAsked}
-use Rattle.unrooted.specs.Given.{ForestKept}
+use Rattle.needs.specs.Given.{ForestKept}
 use Rattle.planner.specs.declared.ask.Asked.{Asked}
 use Rattle.planner.specs.declared.ask.Asked.the-variants.{At, Best}
 use Rattle.planner.specs.Crews.{RootsGiven, CrewsReady}

@@ -1,12 +1,12 @@
 // What depends on the graph and the crews alone, prepared once a question: the edges in order and the whole forest; with roots the edges around each
 // vertex of it and the distances from all roots; without roots the history of its merges. Each kind prepares only what it reads.
-use forest::around::put_around;
-use forest::order::order_edges;
+use edges::around::put_around;
+use edges::order::order_edges;
 use marks::table::fill_table;
+use needs::history::record_merges;
 use pieces::arcs::put_arcs;
 use pieces::pieces::number_up;
 use pieces::whole::keep_whole;
-use unrooted::history::record_merges;
 ghost use lib.ListN.{length};
 ghost use Rattle.graph.specs.Bytes.{graphOf};
 ghost use Rattle.marks.specs.Table.{Tabled};

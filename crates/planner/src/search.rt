@@ -1,7 +1,7 @@
 // The search for the best limit (document 01, "The best limit"): each trial in it only decides.
 use crate::decide::accepts_at;
 use cover::crews::Kind;
-use forest::index::weight_of;
+use edges::index::weight_of;
 use split::steps::put_walk;
 ghost use mathlib.Core.Path.{_≡_};
 ghost use Prim.Native.Nat.{_≤_};

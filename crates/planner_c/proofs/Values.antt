@@ -8,10 +8,10 @@ use native.Mathlib.Omega.{arith}
 use lib.ListN.{length, set}
 use types.Run.{OneOf, miss}
 use denote.Enum.Declared.{tagOf}
-use Rattle.cover.proofs.check.Verdict as verdict
+use Rattle.filed.proofs.check.Verdict as verdict
 use Rattle.cover.specs.declared.crews.Kind.the-variants.{Unrooted}
-use Rattle.cover.specs.declared.check.Verdict.{Verdict}
-use Rattle.cover.specs.declared.check.Verdict.the-variants.{Yes, Sheet, Crews, Length, Starts, Entries, Trees, Vertices}
+use Rattle.filed.specs.declared.check.Verdict.{Verdict}
+use Rattle.filed.specs.declared.check.Verdict.the-variants.{Yes, Sheet, Crews, Length, Starts, Entries, Trees, Vertices}
 use Rattle.pieces.proofs.reply.Reply as reply
 use Rattle.pieces.specs.declared.reply.Reply.{Reply}
 use Rattle.pieces.specs.declared.reply.Reply.the-variants as replies

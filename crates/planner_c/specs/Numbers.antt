@@ -7,8 +7,8 @@ use lib.ListN.{length, drop}
 use Rattle.rules.specs.Reply as rules
 use Rattle.cover.specs.declared.crews.Kind.{Kind}
 use Rattle.cover.specs.declared.crews.Kind.the-variants.{Rooted, Unrooted}
-use Rattle.cover.specs.declared.check.Verdict.{Verdict}
-use Rattle.cover.specs.Promise as check
+use Rattle.filed.specs.declared.check.Verdict.{Verdict}
+use Rattle.filed.specs.Promise as check
 use Rattle.pieces.specs.Replies.{Said, said}
 
 -- 0 is rooted ("yard"), every other number unrooted ("roving").

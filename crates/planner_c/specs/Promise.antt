@@ -4,8 +4,8 @@
 use Prim.Native.Nat.{ℕ}
 use mathlib.Core.Path.{_≡_}
 use mathlib.Core.List.{List}
-use Rattle.cover.specs.declared.check.Verdict.{Verdict}
-use Rattle.cover.specs.Promise.{CheckPromise}
+use Rattle.filed.specs.declared.check.Verdict.{Verdict}
+use Rattle.filed.specs.Promise.{CheckPromise}
 use Rattle.pieces.specs.declared.reply.Reply.{Reply}
 use Rattle.pieces.specs.Replies.{says}
 use Rattle.planner.specs.Promise.{TrialPromise, BestPromise}

@@ -52,7 +52,7 @@ pub extern "C" fn planner_check(
 ) -> u32
     ensures { λ r. ⌜ CheckExported kind k (now (graph .entry)) (now (cover .entry)) (now (values .entry)) (now (values .exit)) r ⌝ }
 {
-    let verdict = cover::check::check_cover(kind_of(kind), k, graph, cover);
+    let verdict = filed::check::check_cover(kind_of(kind), k, graph, cover);
     put_heaviest(verdict, values);
     verdict_number(verdict)
 }

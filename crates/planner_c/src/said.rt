@@ -1,6 +1,6 @@
 // What crosses to C as numbers: the kind of a question, and what a reply and a verdict say.
-use cover::check::Verdict;
 use cover::crews::Kind;
+use filed::check::Verdict;
 use pieces::reply::Reply;
 ghost use mathlib.Core.Path.{_≡_};
 ghost use lib.ListN.{length};

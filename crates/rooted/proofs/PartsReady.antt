@@ -18,8 +18,8 @@ use Rattle.split.specs.Steps.{partsCounted}
 use Rattle.split.specs.WalkPut.{Countable}
 use Rattle.planner_laws.proofs.RootedPrepared.{pieces-of-whole}
 use Rattle.rooted.specs.Decide.{TrialAsked, PartsReady, CountReady, FewReady}
-use Rattle.rooted.specs.Parts.{PieceArrays, arraysOf, PiecesAsked, PiecesPlaced, FewHeld, RowsAsked, PartsAsked}
-use Rattle.rooted.proofs.AssignmentsAlike.{too-many}
+use Rattle.rooted_parts.specs.Parts.{PieceArrays, arraysOf, PiecesAsked, PiecesPlaced, FewHeld, RowsAsked, PartsAsked}
+use Rattle.rooted_parts.proofs.AssignmentsAlike.{too-many}
 
 -- Where every vertex is joined to a root within the limit, a trial may place its parts.
 pub parts-ready : {b roots : List ℕ} {limit : ℕ} {kept bounds arcs table : List ℕ} → TrialAsked b roots limit kept bounds arcs table

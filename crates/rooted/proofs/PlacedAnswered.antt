@@ -18,12 +18,12 @@ use Rattle.pieces.specs.Replies.{Answers}
 use Rattle.pieces.specs.declared.reply.Reply.{Reply}
 use Rattle.pieces.specs.declared.reply.Reply.the-variants.{Cover}
 use Rattle.rooted.specs.Answer.{AnswerAsked, JoinedAsked, PlacedGiven, SetReplied}
-use Rattle.rooted.specs.CoverTrees.{CoverAsked, CoverAtLimits}
+use Rattle.rooted_cover.specs.CoverTrees.{CoverAsked, CoverAtLimits}
 use Rattle.rooted.specs.Decide.{PartsReady}
-use Rattle.rooted.specs.Placed.{TrialArrays, trialArrays, PartsPlaced}
-use Rattle.rooted.specs.TooLowParts.{SetGiven}
+use Rattle.rooted_parts.specs.Placed.{TrialArrays, trialArrays, PartsPlaced}
+use Rattle.rooted_parts.specs.TooLowParts.{SetGiven}
 use Rattle.rooted.proofs.RootedAnswers.{answers-cover, answers-parts}
-use Rattle.rooted.proofs.TooLowPlaced.{too-low-given, too-low-written}
+use Rattle.rooted_parts.proofs.TooLowPlaced.{too-low-given, too-low-written}
 
 -- Where every vertex is joined to a root, the parts answer.
 pub joined-asked : {b roots : List ℕ} {limit : ℕ} {order kept bounds arcs table lasts : List ℕ} {room : ℕ}

@@ -22,8 +22,8 @@ use Rattle.rules.specs.Search.{trial}
 use Rattle.planner_laws.proofs.SomeChoices.{some-choices}
 use Rattle.pieces.specs.Replies.{Answers}
 use Rattle.pieces.specs.declared.reply.Reply.the-variants.{Cover, Stop, Parts}
-use Rattle.rooted.specs.declared.too_low_parts.Deficient.{Deficient}
-use Rattle.rooted.specs.TooLowParts.{DeficientWritten}
+use Rattle.rooted_parts.specs.declared.too_low_parts.Deficient.{Deficient}
+use Rattle.rooted_parts.specs.TooLowParts.{DeficientWritten}
 
 -- What is put at the front stands before the rest of what was there.
 front-is : {xs before after : List ℕ} → Put 0 xs before after → after ≡ xs ++ drop (length xs) before

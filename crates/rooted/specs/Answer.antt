@@ -14,11 +14,11 @@ use Rattle.rules.specs.Forest.{keep}
 use Rattle.rules.specs.RootedTrial.{unjoinedAt}
 use Rattle.pieces.specs.declared.reply.Reply.{Reply}
 use Rattle.pieces.specs.declared.reply.Reply.the-variants.{Parts}
-use Rattle.rooted.specs.declared.too_low_parts.Deficient.{Deficient}
+use Rattle.rooted_parts.specs.declared.too_low_parts.Deficient.{Deficient}
 use Rattle.marks.specs.Tabled.{DistancesTabled, LastsTabled}
-use Rattle.rooted.specs.Placed.{TrialArrays, PartsPlaced}
+use Rattle.rooted_parts.specs.Placed.{TrialArrays, PartsPlaced}
 use Rattle.rooted.specs.Prepared.{Prepared}
-use Rattle.rooted.specs.TooLowParts.{SetWritten}
+use Rattle.rooted_parts.specs.TooLowParts.{SetWritten}
 
 -- What the answer at a limit asks: what is prepared, a root, a limit no larger than document 01 has it, and a large buffer.
 pub record AnswerAsked (b roots : List ℕ) (limit : ℕ) (order kept bounds arcs table lasts : List ℕ) (room : ℕ) : Type 0 where

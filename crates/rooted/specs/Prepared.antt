@@ -11,7 +11,7 @@ use Rattle.graph.specs.Valid.{IsGraph}
 use Rattle.rules.specs.Order.{ordered}
 use Rattle.rules.specs.Labels.{together}
 use Rattle.rules.specs.Forest.{keep}
-use Rattle.forest.specs.Around.{Around}
+use Rattle.edges.specs.Around.{Around}
 use Rattle.split.specs.WalkPut.{Walk}
 use Rattle.marks.specs.Tabled.{DistancesTabled, LastsTabled}
 

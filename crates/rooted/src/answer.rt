@@ -1,18 +1,18 @@
 // The answer of a trial by crews with roots at a limit (document 01, a "yard" trial, steps 2 to 6), over what is prepared once a question.
-use crate::cover_trees::write_rooted;
-use crate::parts::place_parts;
-use crate::too_low_parts::write_deficient;
 use forest::lowest::Found;
 use pieces::reply::Reply;
 use pieces::whole::light_forest;
 use pieces::whole::stop_at;
+use rooted_cover::cover_trees::write_rooted;
+use rooted_parts::parts::place_parts;
+use rooted_parts::too_low_parts::write_deficient;
 ghost use lib.ListN.{length};
 ghost use Rattle.graph.specs.Bytes.{graphOf};
 ghost use Rattle.rules.specs.Cover.{rooted};
 ghost use Rattle.pieces.specs.Replies.{Answers};
 ghost use Rattle.rooted.specs.Answer.{AnswerAsked, JoinedAsked, PlacedGiven, SetReplied};
-ghost use Rattle.rooted.specs.Placed.{trialArrays};
-ghost use Rattle.rooted.specs.TooLowParts.{SetGiven};
+ghost use Rattle.rooted_parts.specs.Placed.{trialArrays};
+ghost use Rattle.rooted_parts.specs.TooLowParts.{SetGiven};
 
 // "Too low, parts T, yards D": the parts of the set are written.
 fn reply_deficient(

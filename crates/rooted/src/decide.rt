@@ -1,10 +1,10 @@
 // Whether there is a cover at all, and whether a limit is accepted (document 01, a "yard" trial, steps 2 to 5), over what is prepared once a
 // question. A vertex is joined to a root within the limit exactly where no edge of the whole forest is above the limit.
-use crate::parts::assign_parts;
-use crate::parts::place_pieces;
 use forest::lowest::Found;
 use pieces::whole::light_forest;
 use pieces::whole::stop_at;
+use rooted_parts::parts::assign_parts;
+use rooted_parts::parts::place_pieces;
 use split::steps::count_parts;
 ghost use mathlib.Core.Path.{_≡_};
 ghost use Rattle.graph.specs.Bytes.{graphOf};
@@ -12,7 +12,7 @@ ghost use Rattle.rules.specs.Cover.{rooted};
 ghost use Rattle.rules.specs.RootedTrial.{isAssignable};
 ghost use Rattle.rules.specs.Search.{accepts, noCover};
 ghost use Rattle.rooted.specs.Decide.{NoCoverAsked, DecisionAsked, FewReady, CountReady};
-ghost use Rattle.rooted.specs.Parts.{FewHeld};
+ghost use Rattle.rooted_parts.specs.Parts.{FewHeld};
 
 // Whether some vertex is joined to no root by any edge ("no cover"). The whole forest joins what all edges join.
 pub fn no_cover_rooted(b: &[u8], roots: &[u16], kept: &[u16]) -> bool

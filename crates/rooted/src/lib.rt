@@ -1,8 +1,4 @@
 // The steps of a trial by crews with roots (document 01, a "yard" trial).
 // The words of the contracts stand in specs/ and in the definitions of the crate `rules`.
 pub mod answer;
-pub mod cover_trees;
 pub mod decide;
-pub mod parts;
-pub mod too_low_parts;
-pub mod tree;

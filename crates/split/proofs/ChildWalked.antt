@@ -10,7 +10,7 @@ use native.Mathlib.Omega.{arith}
 use lib.ListN.{length, take, drop, getD, set, length-set}
 use lib.Seq.{slice, slice-empty, slice-cons, take-take, take-set-le, getD-take, getD-set-same}
 use Rattle.lists.specs.Segments.{segment}
-use Rattle.forest.specs.Around.{arcEdge, arcHead, arcWeight, Arcs}
+use Rattle.edges.specs.Around.{arcEdge, arcHead, arcWeight, Arcs}
 use Rattle.split.specs.Store.{Store, Added}
 use Rattle.split.specs.Settles.{Load, load, Settles, stacked, Settleable, ChildSettled}
 use Rattle.split.specs.SplitBelow.{unmarked, unvisited, pieceOf, SplitBelow, done, past, child}

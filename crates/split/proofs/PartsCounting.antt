@@ -14,7 +14,7 @@ use lib.ListN.{length, drop, getD, set, replicate, length-set, length-replicate}
 use lib.Seq.{drop-cons, drop-length, getD-set-same, getD-set-other}
 use Rattle.lists.proofs.Zeros.{zeros-at}
 use Rattle.rules.specs.Split.{reachesWeight}
-use Rattle.forest.specs.Around.{arcEdge, arcHead, arcWeight}
+use Rattle.edges.specs.Around.{arcEdge, arcHead, arcWeight}
 use Rattle.split.specs.Steps.{Tally, tallyStep, tally, partsCounted}
 
 -- With threshold 0 nothing is split.

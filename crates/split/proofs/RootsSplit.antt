@@ -15,7 +15,7 @@ use Rattle.graph.specs.Graph.{Graph}
 use Rattle.rules.specs.Cover.{Tree}
 use Rattle.rules.specs.Grow.{Rooted, Grown, growNode, growFrom, grow}
 use Rattle.rules.specs.Split.{Pieces, partAt, split}
-use Rattle.forest.specs.Around.{Arcs, Around}
+use Rattle.edges.specs.Around.{Arcs, Around}
 use Rattle.split.specs.Pieces.{leftOf, withLeft, leftPlaces}
 use Rattle.split.specs.Store.{Store, Added}
 use Rattle.split.specs.PiecePut.{Puttable, PiecePut}

@@ -25,8 +25,8 @@ use Rattle.split_laws.proofs.Leads.{leads-on}
 use Rattle.split_laws.proofs.Filtered.{grow-filtered}
 use Rattle.split_laws.proofs.Grown.{kept, node-grows}
 use Rattle.split_laws.proofs.Deep.{unpassed, unpassed-more, unpassed-fewer, unpassed-below}
-use Rattle.forest.specs.Around.{arcOf, arcEdge, arcHead, arcWeight, touches, arcsAt, Around}
-use Rattle.forest.proofs.Arcs.{arc-edge, far-end-below, valid-arc-head, valid-arc-weight}
+use Rattle.edges.specs.Around.{arcOf, arcEdge, arcHead, arcWeight, touches, arcsAt, Around}
+use Rattle.edges.proofs.Arcs.{arc-edge, far-end-below, valid-arc-head, valid-arc-weight}
 use Rattle.split.specs.Settles.{Load, load, Settles, alone, full, joins}
 use Rattle.split.specs.SplitBelow.{unmarked, pieceOf, SplitBelow, done, past, child}
 use Rattle.split.proofs.Unvisited.{marks-kept, marked-now}

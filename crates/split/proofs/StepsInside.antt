@@ -8,7 +8,7 @@ use native.Mathlib.Omega.{arith}
 use lib.ListN.{length, getD, set, length-set}
 use Rattle.lists.specs.Member.{_∈_}
 use Rattle.lists.proofs.Places.{at-place}
-use Rattle.forest.specs.Around.{arcEdge, arcHead, arcWeight}
+use Rattle.edges.specs.Around.{arcEdge, arcHead, arcWeight}
 use Rattle.split.specs.Steps.{stepOf}
 use Rattle.split.specs.StepsBelow.{StepsBelow, steps-done, steps-past, steps-child, StepsFrom, no-roots, steps-root}
 use Rattle.split.specs.WalkPut.{StepsInside}

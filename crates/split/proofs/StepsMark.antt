@@ -11,7 +11,7 @@ use lib.ListN.{length, set, length-set}
 use Rattle.lists.specs.Member.{_∈_}
 use Rattle.lists.specs.Segments.{segment}
 use Rattle.lists.proofs.Member.{either}
-use Rattle.forest.specs.Around.{arcHead}
+use Rattle.edges.specs.Around.{arcHead}
 use Rattle.split.specs.SplitBelow.{unmarked}
 use Rattle.split.specs.StepsBelow.{StepsBelow, steps-done, steps-past, steps-child}
 use Rattle.split.proofs.Unvisited.{marks-kept, marked-now}

@@ -11,7 +11,7 @@ use lib.Seq.{slice, slice-cons, slice-empty, append-snoc}
 use Rattle.lists.specs.Put.{PutTo}
 use Rattle.lists.specs.Segments.{segment}
 use Rattle.lists.proofs.Put.{put-length, put-behind, put-more, put-to-none}
-use Rattle.forest.specs.Around.{arcHead, arcWeight}
+use Rattle.edges.specs.Around.{arcHead, arcWeight}
 use Rattle.split.specs.SplitBelow.{unmarked, unvisited}
 use Rattle.split.specs.Steps.{stepOf}
 use Rattle.split.specs.StepsBelow.{StepsBelow, steps-done, steps-past, steps-child}

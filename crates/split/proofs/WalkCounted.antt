@@ -18,7 +18,7 @@ use Rattle.lists.proofs.Zeros.{zeros-at}
 use Rattle.graph.specs.Graph.{Graph}
 use Rattle.rules.specs.Grow.{Rooted, Grown, growNode, growFrom, grow}
 use Rattle.rules.specs.Split.{Pieces, split, allParts}
-use Rattle.forest.specs.Around.{arcHead, Around}
+use Rattle.edges.specs.Around.{arcHead, Around}
 use Rattle.split.specs.Settles.{Load, load}
 use Rattle.split.specs.SplitBelow.{unmarked, done, past}
 use Rattle.split.specs.Steps.{Tally, tally, partsCounted}

@@ -9,7 +9,7 @@ use native.Mathlib.Omega.{arith}
 use lib.ListN.{length, getD}
 use lib.Seq.{slice, slice-cons, slice-empty}
 use Rattle.lists.specs.Segments.{segment}
-use Rattle.forest.specs.Around.{arcHead, arcWeight}
+use Rattle.edges.specs.Around.{arcHead, arcWeight}
 use Rattle.split.specs.Store.{Store}
 use Rattle.split.specs.Settles.{ChildSettled}
 use Rattle.split.specs.SplitBelow.{unmarked, unvisited}

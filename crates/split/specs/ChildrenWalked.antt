@@ -6,7 +6,7 @@ use mathlib.Core.List.{List}
 use lib.ListN.{length, take, set}
 use Rattle.lists.specs.Segments.{segment}
 use Rattle.rules.specs.Cover.{Tree}
-use Rattle.forest.specs.Around.{Arcs}
+use Rattle.edges.specs.Around.{Arcs}
 use Rattle.split.specs.Store.{Store, storeOf, Sound, Filled, Added}
 use Rattle.split.specs.Settles.{stacked, WithinEdges}
 use Rattle.split.specs.SplitBelow.{unvisited, SplitBelow}

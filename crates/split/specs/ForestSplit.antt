@@ -12,7 +12,7 @@ use Rattle.graph.specs.Graph.{Graph}
 use Rattle.rules.specs.Held.{treesAt, risen}
 use Rattle.rules.specs.Grow.{grow}
 use Rattle.rules.specs.Split.{split}
-use Rattle.forest.specs.Around.{Arcs, Around}
+use Rattle.edges.specs.Around.{Arcs, Around}
 use Rattle.split.specs.Pieces.{piecesOf, leftPlaces}
 
 -- The arrays that are lent: the starts, the bounds and the edges of the pieces, and the number of each root's leftover.

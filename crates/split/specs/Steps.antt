@@ -6,7 +6,7 @@ use mathlib.Core.Bool.{cond}
 use mathlib.Core.List.{List, [], _∷_}
 use lib.ListN.{getD, set, replicate}
 use Rattle.rules.specs.Split.{reachesWeight}
-use Rattle.forest.specs.Around.{arcEdge, arcHead, arcWeight}
+use Rattle.edges.specs.Around.{arcEdge, arcHead, arcWeight}
 
 -- A step: a child, the vertex above it, and the weight of the edge between them. It is packed as an arc is, with the child in the edge's place.
 unfoldable pub stepOf : ℕ → ℕ → ℕ → ℕ

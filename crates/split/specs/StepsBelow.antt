@@ -7,7 +7,7 @@ use mathlib.Core.Bool.{true, false}
 use mathlib.Core.List.{List, [], _∷_, _++_}
 use lib.ListN.{length, set}
 use Rattle.lists.specs.Segments.{segment}
-use Rattle.forest.specs.Around.{arcHead, arcWeight}
+use Rattle.edges.specs.Around.{arcHead, arcWeight}
 use Rattle.split.specs.SplitBelow.{unmarked}
 use Rattle.split.specs.Steps.{stepOf}
 

@@ -9,7 +9,7 @@ use Rattle.lists.specs.Segments.{segment}
 use Rattle.graph.specs.Graph.{Graph}
 use Rattle.rules.specs.Grow.{grow}
 use Rattle.rules.specs.Split.{split, allParts}
-use Rattle.forest.specs.Around.{arcEdge, arcHead, Arcs, Around}
+use Rattle.edges.specs.Around.{arcEdge, arcHead, Arcs, Around}
 use Rattle.split.specs.SplitBelow.{unvisited}
 use Rattle.split.specs.Steps.{partsCounted}
 use Rattle.split.specs.StepsBelow.{StepsBelow}

@@ -1,9 +1,9 @@
 // The trees of a forest as a list of steps, written once, and the number of parts at a threshold in one pass over them.
 // A step is a child, the vertex above it and the weight of the edge between, packed as an arc is, with the child in the edge's place.
-use forest::arc::arc;
-use forest::arc::arc_edge;
-use forest::arc::arc_head;
-use forest::arc::arc_weight;
+use edges::arc::arc;
+use edges::arc::arc_edge;
+use edges::arc::arc_head;
+use edges::arc::arc_weight;
 ghost use mathlib.Core.Path.{_≡_};
 ghost use lib.ListN.{length};
 ghost use Rattle.split.specs.Steps.{partsCounted};

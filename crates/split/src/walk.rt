@@ -4,9 +4,9 @@
 use crate::Progress;
 use crate::bunch::Bunch;
 use crate::bunch::settle;
-use forest::arc::arc_edge;
-use forest::arc::arc_head;
-use forest::arc::arc_weight;
+use edges::arc::arc_edge;
+use edges::arc::arc_head;
+use edges::arc::arc_weight;
 ghost use lib.ListN.{length};
 ghost use Rattle.split.specs.ChildrenWalked.{stateOf, passing, Walkable, NodeWalked};
 

@@ -18,8 +18,8 @@ use Rattle.forest_laws.proofs.FewForest.{forest-few}
 use Rattle.forest_laws.proofs.Forest.{forest-light}
 use Rattle.split_laws.proofs.Lowest.{lowest-inside}
 use Rattle.split.specs.ForestSplit.{lent, Splittable, Splits, ForestSplit}
-use Rattle.unrooted.specs.Given.{ForestGiven}
-use Rattle.unrooted.specs.Roots.{RootsWritten}
+use Rattle.needs.specs.Given.{ForestGiven}
+use Rattle.needs.specs.Roots.{RootsWritten}
 use Rattle.pieces.specs.Arcs.{ArcsPut}
 use Rattle.unrooted.specs.Unrooted.{SplitAsked, ComponentsSplit}
 

@@ -23,11 +23,11 @@ use Rattle.rules.specs.Questions.{written, bufferAfter}
 use Rattle.forest_laws.proofs.Keeping.{kept-merges}
 use Rattle.pieces.specs.Replies.{said, Answers}
 use Rattle.pieces.specs.declared.reply.Reply.the-variants.{Cover, Needs}
-use Rattle.unrooted.specs.Given.{ForestKept}
+use Rattle.needs.specs.Given.{ForestKept}
 use Rattle.unrooted.specs.Unrooted.{TreesWritten}
 use Rattle.unrooted.specs.declared.unrooted.Written.{Written}
-use Rattle.unrooted.proofs.WholeForest.{kept-apart, all-kept}
-use Rattle.unrooted.proofs.HistoryNeeds.{components-left}
+use Rattle.needs.proofs.WholeForest.{kept-apart, all-kept}
+use Rattle.needs.proofs.HistoryNeeds.{components-left}
 
 module _ {b kept : List ℕ} (f : ForestKept b kept) where
   -- The components that the whole forest makes are those of all edges, so their number tells whether there is a cover.

@@ -10,8 +10,8 @@ use Rattle.graph.specs.Bytes.{graphOf}
 use Rattle.rules.specs.Labels.{apart}
 use Rattle.rules.specs.Forest.{forest}
 use Rattle.rules.specs.UnrootedTrial.{needed}
-use Rattle.unrooted.specs.Given.{ForestKept}
-use Rattle.unrooted.specs.History.{HistoryKept}
+use Rattle.needs.specs.Given.{ForestKept}
+use Rattle.needs.specs.History.{HistoryKept}
 use Rattle.unrooted.specs.declared.answer.AtLimit.{AtLimit}
 
 -- A graph's bytes, its whole forest, and the history of its merges.

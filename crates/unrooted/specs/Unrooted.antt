@@ -18,7 +18,7 @@ use Rattle.rules.specs.Forest.{forest, labelsAt, lowest}
 use Rattle.rules.specs.Split as rules
 use Rattle.rules.specs.UnrootedTrial.{components, needed, unrootedTrees}
 use Rattle.split.specs.Pieces.{piecesOf, leftPlaces}
-use Rattle.unrooted.specs.Given.{ForestGiven}
+use Rattle.needs.specs.Given.{ForestGiven}
 use Rattle.pieces.specs.Chosen.{byKey}
 use Rattle.unrooted.specs.Components.{PiecesGiven, SegmentsRisen, LowestSet, KeysWritten}
 use Rattle.unrooted.specs.TreePlaces.{treePlaces, PlacesAsked}

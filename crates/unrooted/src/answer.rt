@@ -1,7 +1,7 @@
 // The answer of a trial by crews without roots (document 01, a "roving" trial, step 7), and the decisions that the best limit asks: all from the
 // whole forest and the history of its merges, which are prepared once a question.
-use crate::history::needed_by_history;
 use crate::unrooted::unrooted_trees;
+use needs::history::needed_by_history;
 use pieces::reply::Reply;
 use pieces::whole::light_forest;
 ghost use mathlib.Core.Path.{_≡_};
@@ -10,7 +10,7 @@ ghost use Rattle.graph.specs.Bytes.{graphOf};
 ghost use Rattle.rules.specs.Cover.{unrooted};
 ghost use Rattle.rules.specs.Search.{accepts, noCover};
 ghost use Rattle.pieces.specs.Replies.{Answers};
-ghost use Rattle.unrooted.specs.Given.{ForestKept};
+ghost use Rattle.needs.specs.Given.{ForestKept};
 ghost use Rattle.unrooted.specs.Answer.{HistoryReady, LimitKnown, UnrootedAsked};
 
 // What a limit makes of the whole forest: how many of its edges are within the limit, and how many trees the components there need.

@@ -1,7 +1,7 @@
 // The pieces of the components as trees (document 01, step 7: "start is the lowest stop of the tree, and order is by start, then by smallest
 // line"). Piece i has the start starts[i] and the edges flat[cuts[i] .. cuts[i + 1]].
-use forest::index::wide;
-use forest::order::rise_edges;
+use edges::index::wide;
+use edges::order::rise_edges;
 ghost use mathlib.Core.Path.{_≡_};
 ghost use Prim.Native.Nat.{min};
 ghost use Rattle.graph.specs.Bytes.{graphOf};

@@ -2,7 +2,5 @@
 // The words of the contracts stand in specs/ and in the definitions of the crate `rules`.
 pub mod answer;
 pub mod components;
-pub mod history;
-pub mod roots;
 pub mod tree_places;
 pub mod unrooted;

@@ -1,6 +1,6 @@
 // The trees of an answer among the pieces that the splitting leaves, where each root's parts are followed by its leftover (document 01,
 // step 7): the parts, and "the leftovers that have lines or have no part in their component".
-use forest::index::wide;
+use edges::index::wide;
 use pieces::pieces::put_run;
 ghost use mathlib.Core.Path.{_≡_};
 ghost use Prim.Native.Nat.{_+_, _<_};

@@ -3,10 +3,10 @@
 use crate::components::rise_segments;
 use crate::components::set_lowest;
 use crate::components::write_keys;
-use crate::roots::component_roots;
 use crate::tree_places::tree_places;
 use cover::heaviest::heaviest_chosen;
 use cover::write::write_cover;
+use needs::roots::component_roots;
 use pieces::arcs::put_arcs;
 use pieces::chosen::sort_chosen;
 use split::split_forest;

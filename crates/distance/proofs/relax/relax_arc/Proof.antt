@@ -3,7 +3,7 @@
 use native.Mathlib.Omega.{arith}
 use borrow.Author.Tests.{leb-true, leb-false}
 use borrow.Author.Needs.{needs}
-use Rattle.forest.specs.Around.{arcWeight}
+use Rattle.edges.specs.Around.{arcWeight}
 use Rattle.distance.proofs.ArcsRelaxed.{arc-kept, arc-changed}
 use Rattle.distance.proofs.relax.relax_arc.Statement.{statement}
 use Rattle.distance.proofs.relax.relax_arc.Tie as tie

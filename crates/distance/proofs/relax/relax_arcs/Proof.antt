@@ -7,7 +7,7 @@ use native.Mathlib.Omega.{arith}
 use lib.ListN.{getD, length, length-set}
 use borrow.Author.Tests.{not-true, not-false}
 use borrow.Author.Needs.{needs}
-use Rattle.forest.specs.Around.{arcHead}
+use Rattle.edges.specs.Around.{arcHead}
 use Rattle.distance.specs.Waiting.{Blocks}
 use Rattle.distance.specs.Relaxing.{ArcAt, Relaxed, key-kept}
 use Rattle.distance.proofs.ArcsRelaxed.{relaxed-none, relaxed-more}

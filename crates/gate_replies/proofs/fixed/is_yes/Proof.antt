@@ -6,10 +6,10 @@ use mathlib.Core.Bool.{false}
 use mathlib.Core.List.{[], _∷_}
 use denote.Enum.Declared.{tagOf}
 use types.Run.{OneOf, miss}
-use Rattle.cover.proofs.check.Verdict as verdict
-use Rattle.cover.specs.declared.check.Verdict.{Verdict}
-use Rattle.cover.specs.declared.check.Verdict.the-variants.{Yes, Sheet, Crews, Length, Starts, Entries, Trees, Vertices}
-use Rattle.cover.specs.Promise.{says}
+use Rattle.filed.proofs.check.Verdict as verdict
+use Rattle.filed.specs.declared.check.Verdict.{Verdict}
+use Rattle.filed.specs.declared.check.Verdict.the-variants.{Yes, Sheet, Crews, Length, Starts, Entries, Trees, Vertices}
+use Rattle.filed.specs.Promise.{says}
 use Rattle.gate_replies.specs.Fixed.{isYes}
 use borrow.Author.Needs.{needs}
 use Rattle.gate_replies.proofs.fixed.is_yes.Statement.{statement}

@@ -10,16 +10,16 @@ use borrow.Fn.Kinds.{In}
 use borrow.Fn.PlainCycle.{Measures, is, falls, and}
 use lib.ListN.{length, getD, set, length-set}
 use Rattle.lists.proofs.Put.{put-length}
-use Rattle.forest.specs.Around.{arcHead, arcWeight}
+use Rattle.edges.specs.Around.{arcHead, arcWeight}
 use Rattle.split.specs.SplitBelow.{unmarked, unvisited}
 use Rattle.split.specs.Steps.{stepOf}
 use Rattle.split.proofs.StepsUnderway.{StepsUnderway, steps-first, steps-all, steps-past-by, below-fewer, below-asked, step-room, step-fits, steps-child-by}
 use Rattle.split.proofs.steps.put_steps.Reads as put-steps
 use Rattle.split.proofs.steps.put_steps.Kinds as put-steps-kinds
 use Rattle.split.proofs.steps.+put_steps.Lts-put_steps as lts
-use Rattle.forest.proofs.arc.arc.Reads as arc-reads
-use Rattle.forest.proofs.arc.arc_head.Reads as arc-head-reads
-use Rattle.forest.proofs.arc.arc_weight.Reads as arc-weight-reads
+use Rattle.edges.proofs.arc.arc.Reads as arc-reads
+use Rattle.edges.proofs.arc.arc_head.Reads as arc-head-reads
+use Rattle.edges.proofs.arc.arc_weight.Reads as arc-weight-reads
 use Rattle.split.proofs.steps.+put_steps.{statement}
 use Rattle.split.proofs.steps.+put_steps.Tie.{close}
 

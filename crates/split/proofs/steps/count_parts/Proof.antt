@@ -5,7 +5,7 @@ use mathlib.Core.Path.{_≡_, refl, sym, ap, _∙_}
 use native.Mathlib.Omega.{arith}
 use borrow.Author.Needs.{needs}
 use lib.ListN.{length, getD}
-use Rattle.forest.specs.Around.{arcEdge, arcHead, arcWeight}
+use Rattle.edges.specs.Around.{arcEdge, arcHead, arcWeight}
 use Rattle.split.proofs.PartsCounting.{Counting, none-counted, counting-first, counting-done, counting-alone, counting-full, counting-joins}
 use Rattle.split.proofs.steps.count_parts.Statement.{statement}
 use Rattle.split.proofs.steps.count_parts.Tie as tie

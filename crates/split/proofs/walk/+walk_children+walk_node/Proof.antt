@@ -10,7 +10,7 @@ use borrow.Fn.Kinds.{In}
 use borrow.Fn.PlainCycle.{Measures, is, falls, and}
 use lib.ListN.{length, getD, set, length-set}
 use Rattle.lists.proofs.Put.{only-first-length}
-use Rattle.forest.specs.Around.{arcWeight}
+use Rattle.edges.specs.Around.{arcWeight}
 use Rattle.split.specs.SplitBelow.{unmarked, unvisited}
 use Rattle.split.specs.ChildrenWalked.{stateOf}
 use Rattle.split.proofs.ChildWalked.{IsChild, walked-of, child-less, edge-fits, pushed-length, child-walkable, child-settleable}
@@ -21,9 +21,9 @@ use Rattle.split.proofs.walk.+walk_children+walk_node.Lts-walk_children
 use Rattle.split.proofs.walk.walk_node.Reads as walk-node
 use Rattle.split.proofs.walk.walk_node.Kinds as walk-node-kinds
 use Rattle.split.proofs.walk.+walk_children+walk_node.Lts-walk_node as node
-use Rattle.forest.proofs.arc.arc_edge.Reads as arc-edge-reads
-use Rattle.forest.proofs.arc.arc_head.Reads as arc-head-reads
-use Rattle.forest.proofs.arc.arc_weight.Reads as arc-weight-reads
+use Rattle.edges.proofs.arc.arc_edge.Reads as arc-edge-reads
+use Rattle.edges.proofs.arc.arc_head.Reads as arc-head-reads
+use Rattle.edges.proofs.arc.arc_weight.Reads as arc-weight-reads
 use Rattle.split.proofs.bunch.settle.Reads as settle-reads
 use Rattle.split.proofs.walk.+walk_children+walk_node.{statement}
 use Rattle.split.proofs.walk.+walk_children+walk_node.Tie.{close}

@@ -4,8 +4,8 @@ use native.Mathlib.Omega.{arith}
 use Rattle.graph.specs.Graph.{Graph}
 use Rattle.graph.specs.Bytes.{graphOf}
 use Rattle.rules.specs.UnrootedTrial.{needed}
-use Rattle.unrooted.specs.History.{neededBy, ReadAsked}
-use Rattle.unrooted.proofs.WholeForest.{read-asked, history-tells}
+use Rattle.needs.specs.History.{neededBy, ReadAsked}
+use Rattle.needs.proofs.WholeForest.{read-asked, history-tells}
 use Rattle.unrooted.proofs.UnrootedDecided.{decided, refused}
 use borrow.Author.Needs.{needs}
 use Rattle.unrooted.proofs.answer.accepts_unrooted.Statement.{statement}

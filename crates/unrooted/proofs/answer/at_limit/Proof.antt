@@ -1,7 +1,7 @@
 -- `unrooted::answer::at_limit` meets its contract: the front of the whole forest is the forest at the limit, and the history tells what its components
 -- need. Assumes nothing.
 use borrow.Author.Needs.{needs}
-use Rattle.unrooted.proofs.WholeForest.{whole-kept, front-is, read-asked, history-tells}
+use Rattle.needs.proofs.WholeForest.{whole-kept, front-is, read-asked, history-tells}
 use Rattle.unrooted.proofs.answer.at_limit.Statement.{statement}
 use Rattle.unrooted.proofs.answer.at_limit.Tie as tie
 

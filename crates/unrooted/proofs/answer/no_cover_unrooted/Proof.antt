@@ -1,7 +1,7 @@
 -- `unrooted::answer::no_cover_unrooted` meets its contract: each edge of the whole forest leaves one component fewer. Assumes nothing.
 use native.Mathlib.Omega.{arith}
 use borrow.Author.Needs.{needs}
-use Rattle.unrooted.proofs.WholeForest.{kept-fewer}
+use Rattle.needs.proofs.WholeForest.{kept-fewer}
 use Rattle.unrooted.proofs.UnrootedDecided.{none-at-all}
 use Rattle.unrooted.proofs.answer.no_cover_unrooted.Statement.{statement}
 use Rattle.unrooted.proofs.answer.no_cover_unrooted.Tie as tie

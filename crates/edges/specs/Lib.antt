@@ -1,0 +1,11 @@
+-- What the contracts of `edges` say, in reading order.
+-- edges within a limit
+pub mod Light
+-- all edges by weight, then number
+pub mod Order
+-- edges by rising number
+pub mod Sweep
+-- the edges around each vertex
+pub mod Around
+-- the edges around each vertex, as they are put
+pub mod PutAround

@@ -1,0 +1,9 @@
+-- What the contracts of the check cite, in reading order.
+-- vertices joined by parents
+pub mod Parents
+-- one tree and its run of entries
+pub mod Trees
+-- marked vertices
+pub mod Vertices
+-- what the check promises
+pub mod Promise

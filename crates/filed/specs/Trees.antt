@@ -1,0 +1,38 @@
+-- What the functions over one tree's run of entries say of it.
+-- Assumes nothing.
+use Prim.Native.Nat.{ℕ, _≤_, _<_}
+use mathlib.Core.Path.{_≡_}
+use mathlib.Core.Bool.{Bool, true}
+use mathlib.Core.List.{List}
+use lib.ListN.{length}
+use Rattle.lists.specs.Lists.{all}
+use Rattle.graph.specs.Graph.{Graph, oneEnd}
+use Rattle.graph.specs.Bytes.{graphOf}
+use Rattle.graph.specs.Valid.{IsGraph}
+use Rattle.rules.specs.Labels.{Labels, joined, mergeAll}
+use Rattle.rules.specs.CoverBytes.{startIn}
+use Rattle.rules.specs.CheckCover.{loopFree}
+use Rattle.cover.specs.Runs.{runEdges, CoverGiven}
+use Rattle.filed.specs.Parents.{Parents, Spells}
+
+-- Whatever labels the parents spelled: r says whether the run's edges close no loop, and where they close none all their ends are joined.
+pub record RunTaken (g : Graph) (c : List ℕ) (from to : ℕ) (before after : List ℕ) (r : Bool) : Type 0 where
+  pub parents : Parents after
+  pub free : (label : Labels) → Spells before label → r ≡ loopFree g label (runEdges c from to)
+  pub labels : (label : Labels) → Spells before label → r ≡ true → Spells after (mergeAll g label (runEdges c from to))
+
+-- r says whether each edge of the run is joined to the start.
+pub record RunJoined (g : Graph) (c : List ℕ) (from to start : ℕ) (parents : List ℕ) (r : Bool) : Type 0 where
+  pub is : (label : Labels) → Spells parents label → r ≡ all (λ e. joined label start (oneEnd g e)) (runEdges c from to)
+
+-- The graph's bytes with a place for each vertex's parent, a start that is a vertex, and a run that does not end before it begins.
+pub record TreeGiven (b c : List ℕ) (j from to : ℕ) (parents : List ℕ) : Type 0 where
+  pub graph : IsGraph b
+  pub room : length parents ≡ 256
+  pub start : startIn c j < graphOf b .vertices
+  pub forward : from ≤ to
+
+-- A cover whose starts and entries passed their tests, with a place for each vertex's parent.
+pub record TreesGiven (b c parents : List ℕ) : Type 0 where
+  pub cover : CoverGiven b c
+  pub room : length parents ≡ 256

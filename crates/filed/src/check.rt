@@ -1,0 +1,102 @@
+// The check of a filed cover: the graph's bytes (11 to 16), the crews (21), then the cover's bytes (31 to 35), in that order.
+use crate::entries::entries_right;
+use crate::starts::starts_at_most;
+use crate::starts::starts_at_roots;
+use crate::starts::starts_below;
+use crate::trees::trees_right;
+use crate::vertices::vertices_covered;
+use cover::crews::Kind;
+use cover::crews::crews_right;
+use cover::heaviest::heaviest_tree;
+use cover::read::cover_length;
+use graph::Checked;
+ghost use mathlib.Core.Path.{_≡_};
+ghost use Rattle.graph.specs.Bytes.{graphOf};
+ghost use Rattle.graph.specs.Valid.{IsGraph};
+ghost use Rattle.rules.specs.CheckCover.{startsRight, coverFault};
+ghost use Rattle.cover.specs.Runs.{CoverGiven};
+ghost use Rattle.cover.specs.Crews.{crewsOf};
+ghost use Rattle.filed.specs.Promise.{says, answer, treesFault, CheckPromise};
+
+// What the check answers, by cause.
+pub enum Verdict {
+    // The bytes are a cover's, whose heaviest tree weighs so much.
+    Yes(u64),
+    // The graph's bytes have a fault.
+    Sheet(graph::Fault),
+    // There are no crews, too many, or more roots than vertices.
+    Crews,
+    // The length is not that of so many trees and entries.
+    Length,
+    // The number of trees or a start breaks the kind's rule, or a start is no vertex.
+    Starts,
+    // An entry names no tree or no edge, or stands out of order.
+    Entries,
+    // A tree has a loop, or an edge that is not joined to its start.
+    Trees,
+    // A vertex is not covered.
+    Vertices,
+}
+
+// Says whether the number of trees and their starts keep the kind's rule.
+fn starts_right(kind: Kind, k: usize, c: &[u8]) -> bool
+    ensures { λ r. ⌜ r ≡ startsRight (crewsOf kind k) (now (c .entry)) ⌝ }
+{
+    match kind {
+        Kind::Rooted => starts_at_roots(c, k),
+        Kind::Unrooted => starts_at_most(c, k),
+    }
+}
+
+// The check of the trees and the vertices, where starts and entries passed their tests.
+fn check_trees(b: &[u8], c: &[u8]) -> Verdict
+    requires { ⌜ CoverGiven (now b) (now c) ⌝ }
+    ensures { λ r. ⌜ says r ≡ answer (graphOf (now (b .entry))) (now (c .entry)) (treesFault (graphOf (now (b .entry))) (now (c .entry))) ⌝ }
+{
+    let mut parents = [0u8; 256];
+    if !trees_right(b, c, &mut parents) {
+        return Verdict::Trees;
+    }
+    if !vertices_covered(b, c) {
+        return Verdict::Vertices;
+    }
+    Verdict::Yes(heaviest_tree(b, c))
+}
+
+// The check of the cover's bytes, for a graph.
+fn check_filed(kind: Kind, k: usize, b: &[u8], c: &[u8]) -> Verdict
+    requires { ⌜ IsGraph (now b) ⌝ }
+    ensures { λ r. ⌜ says r ≡ answer (graphOf (now (b .entry))) (now (c .entry)) (coverFault (graphOf (now (b .entry))) (crewsOf kind k) (now (c .entry))) ⌝ }
+{
+    if c.len() < 4 {
+        return Verdict::Length;
+    }
+    if c.len() != cover_length(c) {
+        return Verdict::Length;
+    }
+    if !starts_right(kind, k, c) {
+        return Verdict::Starts;
+    }
+    if !starts_below(c, graph::vertex_count(b)) {
+        return Verdict::Starts;
+    }
+    if !entries_right(c, graph::edge_count(b)) {
+        return Verdict::Entries;
+    }
+    check_trees(b, c)
+}
+
+// The check: whether c is the bytes of a cover of the graph by the crews, and how much its heaviest tree weighs.
+pub fn check_cover(kind: Kind, k: usize, b: &[u8], c: &[u8]) -> Verdict
+    ensures { λ r. ⌜ CheckPromise kind k (now (b .entry)) (now (c .entry)) r ⌝ }
+{
+    match graph::check_graph(b) {
+        Checked::Refused(f) => Verdict::Sheet(f),
+        Checked::Counts(n, _) => {
+            if !crews_right(kind, k, n) {
+                return Verdict::Crews;
+            }
+            check_filed(kind, k, b, c)
+        }
+    }
+}

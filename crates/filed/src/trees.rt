@@ -1,0 +1,80 @@
+// The trees of a filed cover (34): no tree has a loop, or an edge that is not joined to its start. The entries of one tree stand side by
+// side, so that one walk through the entries serves all trees.
+use crate::parents::join_ends;
+use crate::parents::set_apart;
+use crate::parents::stands_for;
+use cover::read::entry_edge;
+use cover::read::start_in;
+use cover::read::trees_in;
+use cover::runs::run_end;
+ghost use mathlib.Core.Path.{_≡_};
+ghost use Prim.Native.Nat.{_≤_, _<_};
+ghost use Rattle.graph.specs.Bytes.{graphOf};
+ghost use Rattle.rules.specs.CoverBytes.{startIn, decode};
+ghost use Rattle.rules.specs.CheckCover.{treeRight, treesRight};
+ghost use Rattle.cover.specs.Runs.{runEdges};
+ghost use Rattle.filed.specs.Parents.{Joinable};
+ghost use Rattle.filed.specs.Trees.{RunTaken, RunJoined, TreeGiven, TreesGiven};
+
+// Joins the ends of the edges of a run of entries, one edge after the other, as long as they are not yet joined. Says whether none were.
+fn run_loop_free(b: &[u8], c: &[u8], from: usize, to: usize, parents: &mut [u8]) -> bool
+    requires { ⌜ (from ≤ to) × Joinable (now b) (now parents) ⌝ }
+    ensures { λ r. ⌜ RunTaken (graphOf (now (b .entry))) (now (c .entry)) from to (now (parents .entry)) (now (parents .exit)) r ⌝ }
+{
+    let mut i = from;
+    while i < to {
+        if !join_ends(b, entry_edge(c, i), parents) {
+            return false;
+        }
+        i += 1;
+    }
+    true
+}
+
+// Says whether each edge of a run of entries is joined to the start.
+fn run_joined(b: &[u8], c: &[u8], from: usize, to: usize, start: usize, parents: &mut [u8]) -> bool
+    requires { ⌜ (start < graphOf (now b) .vertices) × Joinable (now b) (now parents) ⌝ }
+    ensures { λ r. ⌜ RunJoined (graphOf (now (b .entry))) (now (c .entry)) from to start (now (parents .entry)) r ⌝ }
+{
+    let home = stands_for(parents, start);
+    let mut i = from;
+    while i < to {
+        let u = graph::one_end(b, entry_edge(c, i));
+        if stands_for(parents, u) != home {
+            return false;
+        }
+        i += 1;
+    }
+    true
+}
+
+// Says whether tree j, whose entries are the run, has no loop and no edge that is not joined to its start.
+fn tree_right(b: &[u8], c: &[u8], j: usize, from: usize, to: usize, parents: &mut [u8]) -> bool
+    requires { ⌜ TreeGiven (now b) (now c) j from to (now parents) ⌝ }
+    ensures { λ r. ⌜ r ≡ treeRight (graphOf (now (b .entry))) (record { start = startIn (now (c .entry)) j; edges = runEdges (now (c .entry)) from to }) ⌝ }
+{
+    set_apart(parents);
+    if !run_loop_free(b, c, from, to, parents) {
+        return false;
+    }
+    run_joined(b, c, from, to, start_in(c, j), parents)
+}
+
+// Says whether every tree is so. The parents are scratch.
+pub fn trees_right(b: &[u8], c: &[u8], parents: &mut [u8]) -> bool
+    requires { ⌜ TreesGiven (now b) (now c) (now parents) ⌝ }
+    ensures { λ r. ⌜ r ≡ treesRight (graphOf (now (b .entry))) (decode (now (c .entry))) ⌝ }
+{
+    let t = trees_in(c);
+    let mut from = 0;
+    let mut j = 0;
+    while j < t {
+        let to = run_end(c, j, from);
+        if !tree_right(b, c, j, from, to, parents) {
+            return false;
+        }
+        from = to;
+        j += 1;
+    }
+    true
+}

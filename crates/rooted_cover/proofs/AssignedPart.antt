@@ -1,0 +1,161 @@
+-- The part that a root is assigned: its piece is among those placed, a path leads back from its nearest vertex, and that path, turned round,
+-- is a shortest one (document 01, steps 5 and 6).
+-- Assumes nothing.
+use Prim.Native.Nat.{ℕ, _≤_, _<_}
+use mathlib.Core.Path.{_≡_, refl, sym, ap, _∙_}
+use mathlib.Core.Bool.{true}
+use mathlib.Core.List.{List, [], map-map}
+use native.Mathlib.Omega.{arith}
+use lib.ListN.{length, getD, take, length-take, length-drop}
+use lib.Seq.{getD-take, length-take-le}
+use lib.Dec.{leb}
+use borrow.Author.Tests.{leb-true}
+use Rattle.lists.specs.Member.{_∈_}
+use Rattle.lists.specs.Segments.{segment}
+use Rattle.lists.specs.Sort.{rise}
+use Rattle.lists.proofs.Member.{any-found}
+use Rattle.lists.proofs.Places.{at-place, map-at}
+use Rattle.lists.proofs.Sorting.{in-rise, of-rise}
+use Rattle.graph.specs.Graph.{Graph, edgeCount}
+use Rattle.graph.specs.Valid.{Valid}
+use Rattle.matching.specs.Assignment.{IsAssignment}
+use Rattle.rules.specs.Cover.{Tree}
+use Rattle.rules.specs.Distance.{treeVertices, reachesPart, IsShortestPath}
+use Rattle.rules.specs.Held.{treeAt, treesAt, risen}
+use Rattle.rules.specs.Labels.{together}
+use Rattle.rules.specs.RootedTrial.{rootedPieces, rootedParts, partOf, leftAt, mayGo}
+use Rattle.rules.proofs.Linked.{turned}
+use Rattle.forest_laws.proofs.Forest.{forest-light}
+use Rattle.planner_laws.proofs.RootedPieces.{part-at, rooted-left}
+use Rattle.distance.specs.Trail.{trailOf}
+use Rattle.distance.specs.Shortest.{unreached}
+use Rattle.pieces.specs.Pieces.{treeOf}
+use Rattle.marks.specs.Near.{distanceIn, nearOne}
+use Rattle.marks.specs.Nearest.{Nearest}
+use Rattle.marks.specs.Tabled.{DistancesTabled, LastsTabled, rowOf}
+use Rattle.rooted_parts.specs.Placed.{TrialArrays, PartsPlaced}
+use Rattle.rooted_cover.specs.Tree.{BackGiven}
+use Rattle.rooted_parts.proofs.NearMeansMayGo.{near-reaches, more-edges, around-inside}
+use Rattle.marks.proofs.RootPath.{nearest-back, nearest-shortest-path}
+use Rattle.marks.proofs.RowMarks.{row-room}
+
+-- The piece at place i.
+abbrev pub pieceAt : TrialArrays → ℕ → Tree
+pieceAt a i = treeOf (getD (a .starts) (getD (a .places) i 0) 0) (segment (a .cuts) (a .flat) (getD (a .places) i 0))
+
+-- A tree covers the same vertices once its edges rise,
+vertices-risen : (g : Graph) (t : Tree) {v : ℕ} → v ∈ treeVertices g t → v ∈ treeVertices g (risen t)
+unfolding treeVertices risen
+vertices-risen g t {v} m = more-edges g (t .start) (t .edges) (rise (t .edges)) (λ e. in-rise) v m
+
+risen-vertices : (g : Graph) (t : Tree) {v : ℕ} → v ∈ treeVertices g (risen t) → v ∈ treeVertices g t
+unfolding treeVertices risen
+risen-vertices g t {v} m = more-edges g (t .start) (rise (t .edges)) (t .edges) (λ e. of-rise (t .edges)) v m
+
+-- so a shortest path to it is still one.
+path-risen : {g : Graph} {r : ℕ} {t : Tree} {path : List ℕ} → IsShortestPath g r t path → IsShortestPath g r (risen t) path
+path-risen {g} {r} {t} p =
+    record {
+      inside = p .inside;
+      end = p .end;
+      in-part = vertices-risen g t (p .in-part);
+      leads = p .leads;
+      shortest = λ v other m w. p .shortest v other (risen-vertices g t m) w;
+    }
+
+-- The vertices of a tree are the graph's where its start is.
+vertices-inside : {g : Graph} → Valid g → (t : Tree) → t .start < g .vertices → (v : ℕ) → v ∈ treeVertices g t → v < g .vertices
+unfolding treeVertices
+vertices-inside {g} valid t h v m = around-inside g (t .start) valid h (t .edges) v m
+
+module _ {g : Graph} {roots : List ℕ} {limit : ℕ} {a : TrialArrays} {parts : ℕ} (p : PartsPlaced g roots limit a parts true) where
+  abbrev pub given : IsAssignment parts (length roots) (mayGo g roots limit) (take parts (a .out))
+  given = p .assignment refl
+
+  -- The assignment, by the array of bytes.
+  pub byte : (i : ℕ) → i < parts → getD (take parts (a .out)) i 0 ≡ getD (a .out) i 0
+  byte i h = getD-take parts (a .out) i 0 h
+
+  pub bytes-room : parts ≤ length (a .out)
+  bytes-room = omega (arith, given .each, length-take parts (a .out))
+
+  pub byte-is-root : (i : ℕ) → i < parts → getD (a .out) i 0 < length roots
+  byte-is-root i h = rw (byte i h) at (given .is-root i h)
+
+  pub bytes-apart : (i j : ℕ) → i < parts → j < parts → getD (a .out) i 0 ≡ getD (a .out) j 0 → i ≡ j
+  bytes-apart i j h l q = given .apart i j h l (byte i h ∙ q ∙ sym (byte j l))
+
+  may-go : (i : ℕ) → i < parts → mayGo g roots limit i (getD (a .out) i 0) ≡ true
+  may-go i h = rw (byte i h) at (given .may i h)
+
+  -- The parts are the pieces at the places, their edges rising.
+  pub places-many : length (take parts (a .places)) ≡ parts
+  places-many = length-take-le parts (a .places) (p .parts-room)
+
+  pub placed-part : (i : ℕ) → i < parts → partOf (rootedParts g roots limit) i ≡ risen (pieceAt a i)
+  unfolding partOf treesAt treeAt
+  placed-part i h =
+      let nothing : Tree = record { start = 0; edges = [] } in
+      let tree : ℕ → Tree = treeAt (a .starts) (a .cuts) (a .flat) in
+      ap (λ (l : List Tree). getD l i nothing) (sym (p .parts-are) ∙ map-map risen tree (take parts (a .places)))
+      ∙ map-at (λ c. risen (tree c)) 0 nothing (take parts (a .places)) i (omega (arith, places-many))
+      ∙ ap (λ c. risen (tree c)) (getD-take parts (a .places) i 0 h)
+
+  pub place-in : (i : ℕ) → i < parts → getD (a .places) i 0 ∈ take parts (a .places)
+  place-in i h = rw (getD-take parts (a .places) i 0 h) at (at-place 0 (take parts (a .places)) i (omega (arith, places-many)))
+
+  pub start-in : (i : ℕ) → i < parts → pieceAt a i .start < g .vertices
+  start-in i h = p .starts-inside _ (place-in i h)
+
+  -- Edges of the parts and of the leftovers are edges of the graph.
+  pub part-edge : (i : ℕ) → i < parts → (e : ℕ) → e ∈ segment (a .cuts) (a .flat) (getD (a .places) i 0) → e < edgeCount g
+  unfolding risen
+  part-edge i h e m =
+      let is : partOf (rootedParts g roots limit) i .edges ≡ rise (segment (a .cuts) (a .flat) (getD (a .places) i 0)) = ap (λ (t : Tree). t .edges) (placed-part i h) in
+      forest-light g (together roots) limit e (part-at g roots limit i (omega (arith, p .parts-count)) .in-forest (rw is (in-rise m))) .0
+
+  pub left-edge : (j : ℕ) → j < length roots → (e : ℕ) → e ∈ segment (a .cuts) (a .flat) (getD (a .lefts) j 0) → e < edgeCount g
+  left-edge j h e m =
+      forest-light g (together roots) limit e
+      (rooted-left g roots limit j h .in-forest (of-rise (leftAt (rootedPieces g roots limit) j) (rw (p .lefts-are j h) at (in-rise m)))) .0
+
+  module _ (valid : Valid g) {table : List ℕ} (tabled : DistancesTabled g roots table) (small : limit < unreached) (i : ℕ) (h : i < parts) where
+    abbrev root : ℕ
+    root = getD roots (getD (a .out) i 0) 0
+
+    near-one : nearOne table (length roots) limit (treeVertices g (pieceAt a i)) (getD (a .out) i 0) ≡ true
+    unfolding mayGo
+    near-one =
+        near-reaches valid tabled limit small (pieceAt a i) (start-in i h) (getD (a .out) i 0) (byte-is-root i h)
+        ∙ ap (λ t. reachesPart g limit root t) (sym (placed-part i h))
+        ∙ may-go i h
+
+    -- So the nearest vertex of the part has a distance from its root.
+    nearest-reached : {v : ℕ} → Nearest g table (length roots) (getD (a .out) i 0) (pieceAt a i) v → distanceIn table (length roots) v (getD (a .out) i 0) < unreached
+    unfolding nearOne
+    nearest-reached n =
+        let (u, m, t) = any-found (λ v. leb (distanceIn table (length roots) v (getD (a .out) i 0)) limit) (treeVertices g (pieceAt a i)) near-one in
+        omega (arith, n .nearest u m, leb-true (distanceIn table (length roots) u (getD (a .out) i 0)) limit t)
+
+    module _ {lasts : List ℕ} (last : LastsTabled g roots table lasts) {v : ℕ} (n : Nearest g table (length roots) (getD (a .out) i 0) (pieceAt a i) v) where
+      abbrev row : List ℕ
+      row = rowOf (g .vertices) lasts (getD (a .out) i 0)
+
+      -- A path leads back from it,
+      pub part-back : BackGiven row root v 2048
+      part-back =
+          let (dist, same, s) = last .each (getD (a .out) i 0) (byte-is-root i h) in
+          let fits = row-room (getD (a .out) i 0) (length roots) (g .vertices) (length lasts) (byte-is-root i h) (last .room) in
+          let low = nearest-reached n in
+          let size : g .vertices ≤ length row = simp (length-take, length-drop) (omega (arith, fits)) in
+          record {
+            trail = nearest-back s same n low size (omega (arith, valid .vertices-most));
+            marks = λ e m. omega (arith, s .path v (n .inside) (rw (same v (n .inside)) low) .inside e m, valid .edges-most);
+          }
+
+      -- and it is a shortest path to the part.
+      pub part-path : root < g .vertices → IsShortestPath g root (partOf (rootedParts g roots limit) i) (turned (trailOf row root v))
+      part-path inside =
+          let (dist, same, s) = last .each (getD (a .out) i 0) (byte-is-root i h) in
+          rw (placed-part i h)
+          (path-risen (nearest-shortest-path s same n (nearest-reached n) valid inside (vertices-inside valid (pieceAt a i) (start-in i h))))

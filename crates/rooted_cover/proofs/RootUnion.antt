@@ -1,0 +1,62 @@
+-- Where the piece left at a root, its part and the path to it are marked, the edges kept are those of the union's tree.
+-- Assumes nothing.
+use Prim.Native.Nat.{ℕ, _<_}
+use mathlib.Core.Path.{_≡_, refl, sym, ap, _∙_}
+use mathlib.Core.Bool.{Bool, true, false, cond, _||_}
+use mathlib.Core.List.{List, [], _++_}
+use native.Mathlib.Omega.{arith}
+use lib.ListN.{length, getD, replicate, length-replicate}
+use lib.Dec.{eqb}
+use Rattle.lists.specs.Lists.{any, member}
+use Rattle.lists.specs.Put.{PutTo}
+use Rattle.lists.specs.Segments.{segment}
+use Rattle.lists.proofs.AnyOn.{any-on}
+use Rattle.lists.proofs.Zeros.{zeros-at}
+use Rattle.graph.specs.Graph.{Graph, edgeCount}
+use Rattle.graph.specs.Valid.{Valid}
+use Rattle.distance.specs.Trail.{trailOf}
+use Rattle.marks.specs.Near.{Marked}
+use Rattle.rooted_cover.specs.Tree.{AssignedMarked, nobody, somebody, AssignedAre, none, part, TreeKept, RootWritten}
+use Rattle.marks.proofs.RowMarks.{marked-same}
+use Rattle.marks.proofs.TreeMarks.{marked-both}
+use Rattle.marks.proofs.UnionEdges.{union-edges}
+
+or-swap : (p q : Bool) → p || q ≡ q || p
+or-swap true true = refl
+or-swap true false = refl
+or-swap false true = refl
+or-swap false false = refl
+
+member-swap : (e : ℕ) (xs ys : List ℕ) → member e (xs ++ ys) ≡ member e (ys ++ xs)
+unfolding member
+member-swap e xs ys = any-on (eqb e) xs ys ∙ or-swap (any (eqb e) xs) (any (eqb e) ys) ∙ sym (any-on (eqb e) ys xs)
+
+-- Nothing is marked for no edges.
+marked-none : {a b : List ℕ} → b ≡ a → Marked (λ e. member e []) a b
+unfolding member any
+marked-none q = record { size = ap length q; each = λ j h. ap (λ l. getD l j 0) q }
+
+module _ {g : Graph} {table last : List ℕ} {root : ℕ} {starts cuts flat places out : List ℕ} {k j : ℕ} where
+  -- The edges that were marked.
+  assigned-edges : {a b : List ℕ} → AssignedMarked g table last root starts cuts flat places out k j a b
+      → (edges : List ℕ) × (AssignedAre g table last root starts cuts flat places out k j edges) × Marked (λ e. member e edges) a b
+  assigned-edges (nobody h q) = ([], none h refl, marked-none q)
+  assigned-edges (somebody i h f m) = (_, part i (m .vertex) h f (m .nearest) refl, m .marks)
+
+  pub root-written : Valid g → (left : ℕ) {a b before after : List ℕ} {r : ℕ} → Marked (λ e. member e (segment cuts flat left)) (replicate 2048 0) a
+      → AssignedMarked g table last root starts cuts flat places out k j a b → TreeKept g b before after r
+      → RootWritten g table last root starts cuts flat left places out k j before after r
+  root-written valid left {b = b} m n t =
+      let (edges, are, marks) = assigned-edges n in
+      let all = marked-both (segment cuts flat left) edges m marks in
+      let each : (e : ℕ) → e < edgeCount g → getD b e 0 ≡ cond (member e (edges ++ segment cuts flat left)) 1 0 =
+      λ e h.
+      all .each e (omega (arith, valid .edges-most, length-replicate {A = ℕ} 2048 0))
+      ∙ ap (cond (member e (segment cuts flat left ++ edges)) 1) (zeros-at 2048 e)
+      ∙ ap (λ t. cond t 1 0) (member-swap e (segment cuts flat left) edges) in
+      record {
+        edges = edges;
+        assigned = are;
+        written = rw (union-edges g root (edges ++ segment cuts flat left) b each) at (t .kept);
+        fewer = t .fewer;
+      }

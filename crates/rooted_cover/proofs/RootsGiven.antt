@@ -1,0 +1,63 @@
+-- Where the parts are placed and assigned, each root's tree may be made.
+-- Assumes nothing.
+use Prim.Native.Nat.{ℕ, _<_}
+use mathlib.Core.Path.{_≡_, ap, _∙_}
+use mathlib.Core.List.{List}
+use native.Mathlib.Omega.{arith}
+use lib.ListN.{length, getD, take}
+use lib.Seq.{getD-take}
+use Rattle.lists.specs.Count.{below}
+use Rattle.lists.specs.Segments.{segment}
+use Rattle.lists.proofs.Runs.{length-below}
+use Rattle.lists.proofs.Sorting.{sort-length}
+use Rattle.graph.specs.Graph.{Graph, edgeCount}
+use Rattle.graph.specs.Bytes.{graphOf}
+use Rattle.rules.specs.Order.{comesBefore, ordered}
+use Rattle.marks.specs.Tabled.{rowOf}
+use Rattle.rooted_cover.specs.Tree.{ReachGiven}
+use Rattle.rooted_cover.specs.CoverTrees.{RootsGiven, CoverAsked}
+use Rattle.rooted_cover.proofs.AssignedPart.{bytes-room, places-many, start-in, part-edge, left-edge, part-back}
+
+-- As many edges stand in order as there are.
+ordered-count : (g : Graph) → length (ordered g) ≡ edgeCount g
+unfolding ordered
+ordered-count g = sort-length (comesBefore g) (below (edgeCount g)) ∙ length-below (edgeCount g)
+
+module _ {b order table lasts roots starts cuts flat lefts places : List ℕ} {parts : ℕ} {out : List ℕ} {room : ℕ}
+    (asked : CoverAsked b order table lasts roots starts cuts flat lefts places parts out room) where
+  abbrev g : Graph
+  g = graphOf b
+
+  -- The part of a root may be marked, with the path to it.
+  reach : (j : ℕ) → j < length roots → (i : ℕ) → i < parts → getD out i 0 ≡ j
+      → ReachGiven b table (rowOf (g .vertices) lasts j) (length roots) j (getD roots j 0) (getD starts (getD places i 0) 0) (segment cuts flat (getD places i 0)) 2048
+  reach j h i l q =
+      let p = asked .placed in
+      let valid = asked .graph .valid in
+      rw (← q) (record {
+        part = record { part = record { given = record { graph = asked .graph; room = asked .distances .room }; start-inside = start-in p i l }; root = omega arith };
+        marks = λ e m. omega (arith, part-edge p i l e m, valid .edges-most);
+        back = λ v n. part-back p valid (asked .distances) (omega (arith, asked .limit-small)) i l (asked .last-edges) n;
+      })
+
+  pub roots-given : RootsGiven b order table lasts roots starts cuts flat lefts (take parts places) out
+  roots-given =
+      let p = asked .placed in
+      let valid = asked .graph .valid in
+      let many = places-many p in
+      record {
+        graph = asked .graph;
+        last-room = asked .last-edges .room;
+        each =
+            λ j h room l.
+            record {
+              asked = record { graph = asked .graph; in-order = asked .in-order; few = omega (arith, ap length (asked .in-order), ordered-count g, valid .edges-most); room = l };
+              piece = record { held = p .lefts-held j h; marks = λ e m. omega (arith, left-edge p j h e m, valid .edges-most) };
+              assigned =
+                  record {
+                    bytes = omega (arith, bytes-room p);
+                    held = p .parts-held;
+                    reach = λ i w q. rw (getD-take parts places i 0 (omega arith)) (reach j h i (omega arith) q);
+                  };
+            };
+      }

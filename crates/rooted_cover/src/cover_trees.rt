@@ -1,0 +1,151 @@
+// The trees of an accepted rooted trial (document 01, step 6), made root by root, laid one after the other, and written as a cover's bytes.
+use crate::tree::rooted_tree;
+use cover::heaviest::heaviest_chosen;
+use cover::write::write_cover;
+use edges::index::wide;
+use pieces::pieces::element_at;
+use pieces::pieces::number_up;
+ghost use lib.ListN.{length, getD};
+ghost use Rattle.graph.specs.Bytes.{graphOf};
+ghost use Rattle.rooted_cover.specs.CoverTrees.{TreeGivenAt, TreePut, LayRootsGiven, TreesLaid, CoverAsked, CoverAtLimits};
+
+// Puts the edges of root j's tree into the array from a place on. Says where they end.
+fn put_tree(
+    b: &[u8],
+    order: &[u16],
+    table: &[u32],
+    lasts: &[u32],
+    roots: &[u16],
+    starts: &[u16],
+    cuts: &[u16],
+    flat: &[u16],
+    lefts: &[u16],
+    places: &[u16],
+    out: &[u8],
+    j: usize,
+    edges: &mut [u16],
+    at: usize,
+) -> usize
+    requires { ⌜ TreeGivenAt (now b) (now order) (now table) (now lasts) (now roots) (now starts) (now cuts) (now flat) (now lefts) (now places) (now out) j at
+        (length (now edges)) ⌝ }
+    ensures { λ r. ⌜ TreePut (graphOf (now (b .entry))) (now (table .entry)) (now (lasts .entry)) (now (roots .entry)) (now (starts .entry)) (now (cuts .entry))
+        (now (flat .entry)) (now (lefts .entry)) (now (places .entry)) (now (out .entry)) j at (now (edges .entry)) (now (edges .exit)) r ⌝ }
+{
+    let n = graph::vertex_count(b);
+    let k = roots.len();
+    let root = wide(roots[j]);
+    let left = element_at(lefts, j);
+    let from = j * n;
+    let to = from + n;
+    let r = rooted_tree(
+        b,
+        order,
+        table,
+        &lasts[from..to],
+        root,
+        starts,
+        cuts,
+        flat,
+        left,
+        places,
+        out,
+        k,
+        j,
+        &mut edges[at..],
+    );
+    at + r
+}
+
+// The edges of the trees of all roots, each tree's rising, laid one tree after the other.
+fn lay_trees(
+    b: &[u8],
+    order: &[u16],
+    table: &[u32],
+    lasts: &[u32],
+    roots: &[u16],
+    starts: &[u16],
+    cuts: &[u16],
+    flat: &[u16],
+    lefts: &[u16],
+    places: &[u16],
+    out: &[u8],
+    bounds: &mut [u16],
+    edges: &mut [u16],
+)
+    requires { ⌜ LayRootsGiven (now b) (now order) (now table) (now lasts) (now roots) (now starts) (now cuts) (now flat) (now lefts) (now places) (now out)
+        (length (now bounds)) (length (now edges)) ⌝ }
+    ensures { λ _. ⌜ TreesLaid (graphOf (now (b .entry))) (now (table .entry)) (now (lasts .entry)) (now (roots .entry)) (now (starts .entry)) (now (cuts .entry))
+        (now (flat .entry)) (now (lefts .entry)) (now (places .entry)) (now (out .entry)) (length (now (roots .entry)))
+        (getD (now (bounds .exit)) (length (now (roots .entry))) 0) (now (bounds .exit)) (now (edges .exit)) ⌝ }
+{
+    bounds[0] = 0;
+    let mut at = 0;
+    let mut j = 0;
+    while j < roots.len() {
+        at = put_tree(
+            b,
+            order,
+            table,
+            lasts,
+            roots,
+            starts,
+            cuts,
+            flat,
+            lefts,
+            places,
+            out,
+            j,
+            edges,
+            at,
+        );
+        j += 1;
+        bounds[j] = at as u16;
+    }
+}
+
+// The cover of an accepted trial, one tree for each root, as the buffer's first bytes. Everything behind the bytes stays. Says the weight of
+// the heaviest tree.
+pub fn write_rooted(
+    b: &[u8],
+    order: &[u16],
+    table: &[u32],
+    lasts: &[u32],
+    roots: &[u16],
+    starts: &[u16],
+    cuts: &[u16],
+    flat: &[u16],
+    lefts: &[u16],
+    places: &[u16],
+    parts: usize,
+    out: &[u8],
+    buf: &mut [u8],
+) -> u64
+    requires { ⌜ CoverAsked (now b) (now order) (now table) (now lasts) (now roots) (now starts) (now cuts) (now flat) (now lefts) (now places) parts (now out)
+        (length (now buf)) ⌝ }
+    ensures { λ r. ⌜ CoverAtLimits (graphOf (now (b .entry))) (now (roots .entry)) (now (starts .entry)) (now (cuts .entry)) (now (flat .entry))
+        (now (lefts .entry)) (now (places .entry)) parts (now (out .entry)) (now (buf .entry)) (now (buf .exit)) r ⌝ }
+{
+    let mut bounds = [0u16; 33];
+    let mut edges = [0u16; 8192];
+    let mut numbers = [0u16; 32];
+    let k = roots.len();
+    lay_trees(
+        b,
+        order,
+        table,
+        lasts,
+        roots,
+        starts,
+        cuts,
+        flat,
+        lefts,
+        &places[..parts],
+        out,
+        &mut bounds,
+        &mut edges,
+    );
+    number_up(k, &mut numbers);
+    let heaviest = heaviest_chosen(b, &bounds, &edges, &numbers[..k]);
+    write_cover(buf, roots, &bounds, &edges, &numbers[..k]);
+    heaviest
+}

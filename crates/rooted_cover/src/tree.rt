@@ -1,0 +1,162 @@
+// The tree of one root (document 01, step 6): "a tree is the union of its part if any, a shortest path to it, and what is left at the yard".
+// The union's edges are marked, kept in order, and put by rising number.
+use distance::path_back;
+use edges::index::wide;
+use edges::order::rise_edges;
+use marks::nearest::nearest_vertex;
+use marks::union::keep_union;
+use marks::union::mark_edges;
+use pieces::pieces::element_at;
+use pieces::pieces::piece_edges;
+ghost use mathlib.Core.Path.{_≡_};
+ghost use Prim.Native.Nat.{_≤_};
+ghost use lib.ListN.{length, getD};
+ghost use Rattle.lists.specs.Lists.{member};
+ghost use Rattle.lists.specs.Segments.{segment};
+ghost use Rattle.graph.specs.Bytes.{graphOf};
+ghost use Rattle.distance.specs.Trail.{trailOf};
+ghost use Rattle.marks.specs.Near.{Marked};
+ghost use Rattle.rooted_cover.specs.Tree.{FirstWith, PieceGiven, BackGiven, TreeAsked, TreeKept, ReachGiven, ReachMarked, AssignedGiven, AssignedMarked, RootGiven, RootWritten};
+
+// The first place below a bound where the byte stands; the bound where there is none.
+fn place_with(bytes: &[u8], bound: usize, j: usize) -> usize
+    requires { ⌜ bound ≤ length (now bytes) ⌝ }
+    ensures { λ r. ⌜ FirstWith (now (bytes .entry)) bound j r ⌝ }
+{
+    let mut i = 0;
+    while i < bound {
+        if bytes[i] as usize == j {
+            return i;
+        }
+        i += 1;
+    }
+    bound
+}
+
+// Marks the edges of piece c.
+fn mark_piece(cuts: &[u16], flat: &[u16], c: u16, marks: &mut [u8])
+    requires { ⌜ PieceGiven (now cuts) (now flat) c (length (now marks)) ⌝ }
+    ensures { λ _. ⌜ Marked (λ e. member e (segment (now (cuts .entry)) (now (flat .entry)) c)) (now (marks .entry)) (now (marks .exit)) ⌝ }
+{
+    mark_edges(piece_edges(cuts, flat, c), marks);
+}
+
+// Marks the edges of the path from vertex v back to the root.
+fn mark_back(last: &[u32], root: usize, v: usize, marks: &mut [u8])
+    requires { ⌜ BackGiven (now last) root v (length (now marks)) ⌝ }
+    ensures { λ _. ⌜ Marked (λ e. member e (trailOf (now (last .entry)) root v)) (now (marks .entry)) (now (marks .exit)) ⌝ }
+{
+    let mut path = [0u16; 256];
+    let r = path_back(last, root, v, &mut path);
+    mark_edges(&path[..r], marks);
+}
+
+// The marked edges in order, kept where their ends are not yet joined, written to the front of the array by rising number. Says how many.
+fn keep_risen(b: &[u8], order: &[u16], marks: &[u8], tree: &mut [u16]) -> usize
+    requires { ⌜ TreeAsked (now b) (now order) (now tree) ⌝ }
+    ensures { λ r. ⌜ TreeKept (graphOf (now (b .entry))) (now (marks .entry)) (now (tree .entry)) (now (tree .exit)) r ⌝ }
+{
+    let r = keep_union(b, order, marks, tree);
+    rise_edges(&mut tree[..r]);
+    r
+}
+
+// Marks the edges of a part, and of the path from its vertex nearest to root j back to the root.
+fn mark_reach(
+    b: &[u8],
+    table: &[u32],
+    last: &[u32],
+    k: usize,
+    j: usize,
+    root: usize,
+    start: usize,
+    edges: &[u16],
+    marks: &mut [u8],
+)
+    requires { ⌜ ReachGiven (now b) (now table) (now last) k j root start (now edges) (length (now marks)) ⌝ }
+    ensures { λ _. ⌜ ReachMarked (graphOf (now (b .entry))) (now (table .entry)) (now (last .entry)) k j root start (now (edges .entry))
+        (now (marks .entry)) (now (marks .exit)) ⌝ }
+{
+    let v = nearest_vertex(b, table, k, j, start, edges);
+    mark_edges(edges, marks);
+    mark_back(last, root, v, marks);
+}
+
+// Marks the edges of the part that root j has, if it has one, and of the path to it.
+fn mark_assigned(
+    b: &[u8],
+    table: &[u32],
+    last: &[u32],
+    root: usize,
+    starts: &[u16],
+    cuts: &[u16],
+    flat: &[u16],
+    places: &[u16],
+    out: &[u8],
+    k: usize,
+    j: usize,
+    marks: &mut [u8],
+)
+    requires { ⌜ AssignedGiven (now b) (now table) (now last) root (now starts) (now cuts) (now flat) (now places) (now out) k j (length (now marks)) ⌝ }
+    ensures { λ _. ⌜ AssignedMarked (graphOf (now (b .entry))) (now (table .entry)) (now (last .entry)) root (now (starts .entry)) (now (cuts .entry)) (now (flat .entry))
+        (now (places .entry)) (now (out .entry)) k j (now (marks .entry)) (now (marks .exit)) ⌝ }
+{
+    let i = place_with(out, places.len(), j);
+    if places.len() <= i {
+        return;
+    }
+    let c = places[i];
+    let start = wide(element_at(starts, wide(c)));
+    mark_reach(
+        b,
+        table,
+        last,
+        k,
+        j,
+        root,
+        start,
+        piece_edges(cuts, flat, c),
+        marks,
+    );
+}
+
+// The edges of root j's tree, written by rising number to the front of the array: of its part if it has one, a shortest path to it, and the
+// piece left at the root. Says how many.
+pub fn rooted_tree(
+    b: &[u8],
+    order: &[u16],
+    table: &[u32],
+    last: &[u32],
+    root: usize,
+    starts: &[u16],
+    cuts: &[u16],
+    flat: &[u16],
+    left: u16,
+    places: &[u16],
+    out: &[u8],
+    k: usize,
+    j: usize,
+    tree: &mut [u16],
+) -> usize
+    requires { ⌜ RootGiven (now b) (now order) (now table) (now last) root (now starts) (now cuts) (now flat) left (now places) (now out) k j (now tree) ⌝ }
+    ensures { λ r. ⌜ RootWritten (graphOf (now (b .entry))) (now (table .entry)) (now (last .entry)) root (now (starts .entry)) (now (cuts .entry)) (now (flat .entry)) left
+        (now (places .entry)) (now (out .entry)) k j (now (tree .entry)) (now (tree .exit)) r ⌝ }
+{
+    let mut marks = [0u8; 2048];
+    mark_piece(cuts, flat, left, &mut marks);
+    mark_assigned(
+        b,
+        table,
+        last,
+        root,
+        starts,
+        cuts,
+        flat,
+        places,
+        out,
+        k,
+        j,
+        &mut marks,
+    );
+    keep_risen(b, order, &marks, tree)
+}

@@ -1,0 +1,176 @@
+-- The pieces of a rooted trial, held in arrays after the trees of the whole forest are split: the parts and the leftovers by their numbers.
+-- Assumes nothing.
+use Prim.Native.Nat.{ℕ, zero, suc, _+_, _-_, _≤_, _<_}
+use mathlib.Core.Path.{_≡_, refl, sym, ap, subst, _∙_}
+use mathlib.Core.List.{List, [], _∷_, _++_, map, List·Memᴰ·append-cases, List·Memᴰ·not-nil}
+use mathlib.Core.Logic.{_⊎_, inl, inr}
+use native.Mathlib.Omega.{arith}
+use lib.ListN.{length, getD, take, length-map, length-append}
+use lib.Seq.{getD-take, length-take-le}
+use Rattle.lists.specs.Count.{from}
+use Rattle.lists.specs.Lists.{flat}
+use Rattle.lists.specs.Member.{_∈_}
+use Rattle.lists.specs.Put.{PutTo}
+use Rattle.lists.specs.Segments.{segment}
+use Rattle.lists.specs.Sort.{rise}
+use Rattle.lists.proofs.Below.{of-from}
+use Rattle.lists.proofs.Places.{at-place, place-of}
+use Rattle.lists.proofs.Put.{put-count, put-taken, put-fits, put-length, only-first-length}
+use Rattle.lists.proofs.Runs.{length-from}
+use Rattle.graph.specs.Graph.{Graph}
+use Rattle.graph.specs.Valid.{Valid}
+use Rattle.rules.specs.Cover.{Tree}
+use Rattle.rules.specs.Grow.{Rooted, grow}
+use Rattle.rules.specs.Held.{treeAt, treesAt, risen}
+use Rattle.rules.specs.Split.{Pieces, partAt, split, allParts}
+use Rattle.rules.specs.Order.{ordered}
+use Rattle.rules.specs.Labels.{together}
+use Rattle.rules.specs.Forest.{keep}
+use Rattle.rules.specs.RootedTrial.{rootedPieces, rootedParts, partOf, leftAt}
+use Rattle.edges.specs.Around.{Arcs}
+use Rattle.split.specs.Pieces.{leftPlaces, partPlaces}
+use Rattle.split.specs.ForestSplit.{lent, Splittable, Splits, ForestSplit}
+use Rattle.split.proofs.ByNumber as numbered
+use Rattle.cover.specs.Chosen.{IsHeld}
+use Rattle.planner_laws.proofs.RootedPrepared.{pieces-of-whole}
+use Rattle.planner_laws.proofs.RootedSize.{rooted-parts-few}
+use Rattle.marks.specs.Near.{TreeHeld}
+use Rattle.marks.specs.Places.{between}
+use Rattle.rooted_parts.specs.Parts.{PieceArrays, arraysOf, PiecesAsked, PiecesPlaced}
+use Rattle.marks.proofs.PartsBetween.{between-lefts}
+
+-- The number of a part is below that of all pieces,
+part-below : (ps : List Pieces) (first : ℕ) {c : ℕ} → c ∈ partPlaces first ps → c < first + (length (allParts ps) + length ps)
+unfolding partPlaces allParts flat
+part-below [] first m = absurd (List·Memᴰ·not-nil m)
+part-below (p ∷ ps) first {c} m = go (λ k. part-below ps (first + length (p .parts) + 1) k) (List·Memᴰ·append-cases (from first (length (p .parts))) m)
+  where
+    many : length (allParts (p ∷ ps)) ≡ length (p .parts) + length (allParts ps)
+    many = length-append (p .parts) (allParts ps)
+
+    go : (c ∈ partPlaces (first + length (p .parts) + 1) ps → c < first + length (p .parts) + 1 + (length (allParts ps) + length ps))
+        → (c ∈ from first (length (p .parts))) ⊎ (c ∈ partPlaces (first + length (p .parts) + 1) ps) → c < first + (length (allParts (p ∷ ps)) + suc (length ps))
+    go ih (inl k) = omega (arith, many, of-from first (length (p .parts)) k)
+    go ih (inr k) = omega (arith, many, ih k)
+
+-- and so is that of a leftover.
+left-below : (ps : List Pieces) (first j : ℕ) → j < length ps → getD (leftPlaces first ps) j 0 < first + (length (allParts ps) + length ps)
+unfolding leftPlaces allParts flat
+left-below [] first j h = absurd (omega arith)
+left-below (p ∷ ps) first zero h = omega (arith, length-append (p .parts) (allParts ps))
+left-below (p ∷ ps) first (suc j) h =
+    omega (arith, length-append (p .parts) (allParts ps), left-below ps (first + length (p .parts) + 1) j (omega arith))
+
+-- The trees of the whole forest can be split.
+pub can-split : {g : Graph} {b roots : List ℕ} {limit : ℕ} {bounds arcs starts cuts flat lefts places : List ℕ} {n : ℕ}
+    → PiecesAsked g b roots limit bounds arcs (arraysOf starts cuts flat lefts places) → n ≡ g .vertices → Splittable n bounds arcs roots (lent starts cuts flat lefts)
+can-split {bounds = bounds} {arcs = arcs} asked q =
+    record {
+      around = subst (λ m. Arcs m bounds arcs) (sym q) (asked .around .sound);
+      roots-inside = λ j h. omega (arith, asked .roots-inside j h);
+      roots-few = omega (arith, asked .roots-few);
+      starts-room = omega (arith, asked .starts-room);
+      cuts-room = omega (arith, asked .cuts-room);
+      flat-room = omega (arith, asked .flat-room);
+      lefts-room = asked .lefts-room;
+    }
+
+module _ {g : Graph} {b roots : List ℕ} {limit : ℕ} {bounds arcs starts cuts flat lefts places : List ℕ}
+    (asked : PiecesAsked g b roots limit bounds arcs (arraysOf starts cuts flat lefts places))
+    {starts′ cuts′ flat′ lefts′ : List ℕ} {n r : ℕ} (n-is : n ≡ g .vertices)
+    (x : ForestSplit n bounds arcs roots limit (lent starts cuts flat lefts) (lent starts′ cuts′ flat′ lefts′) r) where
+  -- The edges of the whole forest, and what its trees are split into: the trial's pieces.
+  abbrev edges : List ℕ
+  edges = rise (keep g (together roots) (ordered g))
+
+  abbrev pieces : List Pieces
+  pieces = map (split g limit) (grow g edges roots)
+
+  valid : Valid g
+  valid = asked .around .valid
+
+  pieces-are : rootedPieces g roots limit ≡ pieces
+  pieces-are = pieces-of-whole g roots limit valid (asked .joined)
+
+  parts-all : rootedParts g roots limit ≡ allParts pieces
+  unfolding rootedParts
+  parts-all = ap allParts pieces-are
+
+  splits : Splits g edges roots limit (lent starts cuts flat lefts) (lent starts′ cuts′ flat′ lefts′) r (x .used)
+  splits = x .of-graph g edges (asked .around) (sym n-is)
+
+  -- Every piece is held.
+  below-r : {c : ℕ} → c < 0 + (length (allParts pieces) + length pieces) → c < r
+  below-r h = omega (arith, numbered.all-count splits, numbered.pieces-count splits)
+
+  is-held : {c : ℕ} → c < r → IsHeld cuts′ flat′ c
+  is-held {c} h =
+      record {
+        forward = x .bounded .rising c h;
+        inside = omega (arith, x .bounded .within (c + 1) (omega arith), x .used-few, n-is, asked .flat-room, only-first-length (x .flat-rest));
+      }
+
+  tree-held : {c : ℕ} → c < r → TreeHeld (g .vertices) starts′ cuts′ flat′ c
+  tree-held {c} h =
+      record {
+        start-room = omega (arith, x .few, x .used-few, n-is, asked .starts-room, only-first-length (x .starts-rest));
+        cuts-room = omega (arith, x .few, x .used-few, n-is, asked .cuts-room, only-first-length (x .cuts-rest));
+        held = is-held h;
+        start-inside = omega (arith, x .starts-inside c h, n-is);
+      }
+
+  -- The numbers of the parts are those between the leftovers'.
+  lefts-taken : take (length roots) lefts′ ≡ leftPlaces 0 pieces
+  lefts-taken = put-taken (splits .lefts)
+
+  places-are : between 0 (take (length roots) lefts′) ≡ partPlaces 0 pieces
+  places-are = ap (between 0) lefts-taken ∙ between-lefts pieces 0
+
+  many : length (partPlaces 0 pieces) ≡ length (rootedParts g roots limit)
+  unfolding treesAt
+  many =
+      sym (length-map (partPlaces 0 pieces) (treeAt starts′ cuts′ flat′))
+      ∙ sym (length-map (treesAt starts′ cuts′ flat′ (partPlaces 0 pieces)) risen)
+      ∙ ap length (numbered.parts-are splits)
+      ∙ ap length (sym parts-all)
+
+  pub places-fit : length (between 0 (take (length roots) lefts′)) ≤ length places
+  places-fit = omega (arith, ap length places-are, many, rooted-parts-few g roots limit valid, asked .places-room)
+
+  module _ {places′ : List ℕ} {p : ℕ} (put : PutTo 0 (between 0 (take (length roots) lefts′)) places places′ p) where
+    taken : take p places′ ≡ partPlaces 0 pieces
+    taken = put-taken put ∙ places-are
+
+    count : p ≡ length (rootedParts g roots limit)
+    count = put-count put ∙ ap length places-are ∙ many
+
+    place-here : (i : ℕ) → i < p → getD places′ i 0 ≡ getD (partPlaces 0 pieces) i 0
+    place-here i h = sym (getD-take p places′ i 0 h) ∙ ap (λ l. getD l i 0) taken
+
+    place-below : (i : ℕ) → i < p → getD places′ i 0 < r
+    place-below i h = rw (place-here i h) (below-r (part-below pieces 0 (at-place 0 (partPlaces 0 pieces) i (omega (arith, count, many)))))
+
+    this-left : (j : ℕ) → j < length roots
+        → rise (segment cuts′ flat′ (getD lefts′ j 0)) ≡ rise (leftAt (rootedPieces g roots limit) j)
+    unfolding risen treeAt partAt
+    this-left j h = ap (λ (t : Tree). t .edges) (numbered.left-is splits j h) ∙ ap (λ ps. rise (leftAt ps j)) (sym pieces-are)
+
+    left-inside : (j : ℕ) → j < length roots → getD lefts′ j 0 < r
+    left-inside j h =
+        rw (numbered.left-place splits j h) (below-r (left-below pieces 0 j (omega (arith, numbered.pieces-count splits))))
+
+    pub pieces-placed : PiecesPlaced g roots limit (arraysOf starts′ cuts′ flat′ lefts′ places′) p
+    pieces-placed =
+        record {
+          parts-are = ap (λ l. map risen (treesAt starts′ cuts′ flat′ l)) taken ∙ numbered.parts-are splits ∙ sym parts-all;
+          parts-count = count;
+          parts-room = omega (arith, put-fits put, put-length (put .put));
+          part-is =
+              λ i h.
+              ap (λ ts. partOf ts i) parts-all
+              ∙ numbered.part-is splits i (omega (arith, count, ap length parts-all))
+              ∙ ap (λ c. risen (treeAt starts′ cuts′ flat′ c)) (sym (place-here i h));
+          trees = λ i h. tree-held (place-below i h);
+          lefts-are = this-left;
+          lefts-held = λ j h. is-held (left-inside j h);
+        }

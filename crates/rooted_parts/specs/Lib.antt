@@ -1,0 +1,7 @@
+-- What the contracts of `rooted_parts` say, in reading order.
+-- the parts of a rooted trial, placed
+pub mod Placed
+-- what placing the parts asks, step by step
+pub mod Parts
+-- the parts of a deficient set, written
+pub mod TooLowParts

@@ -1,0 +1,135 @@
+// The parts of a rooted trial, placed (document 01, steps 4 and 5): the forest's trees are split with the limit as threshold, the roots near
+// each part are marked, and each part is given a root of its own; or else a set of parts is marked that has too few roots.
+use marks::near::mark_parts;
+use marks::places::part_places;
+use matching::Answer;
+use matching::assign;
+use split::split_forest;
+ghost use Rattle.graph.specs.Bytes.{graphOf};
+ghost use Rattle.rooted_parts.specs.Parts.{arraysOf, PiecesAsked, PiecesPlaced, AssignAsked, AssignDone, RowsAsked, RowsAssigned, PartsAsked};
+ghost use Rattle.rooted_parts.specs.Placed.{trialArrays, PartsPlaced};
+
+// How many parts there are, and whether each has a root of its own.
+pub struct Placed {
+    pub parts: usize,
+    pub assigned: bool,
+}
+
+// Splits the trees of the forest, and finds the places of the parts. Says how many.
+pub fn place_pieces(
+    b: &[u8],
+    roots: &[u16],
+    limit: u64,
+    bounds: &[u16],
+    arcs: &[u64],
+    starts: &mut [u16],
+    cuts: &mut [u16],
+    flat: &mut [u16],
+    lefts: &mut [u16],
+    places: &mut [u16],
+) -> usize
+    requires { ⌜ PiecesAsked (graphOf (now b)) (now b) (now roots) limit (now bounds) (now arcs) (arraysOf (now starts) (now cuts) (now flat) (now lefts) (now places)) ⌝ }
+    ensures { λ r. ⌜ PiecesPlaced (graphOf (now (b .entry))) (now (roots .entry)) limit
+        (arraysOf (now (starts .exit)) (now (cuts .exit)) (now (flat .exit)) (now (lefts .exit)) (now (places .exit))) r ⌝ }
+{
+    let n = graph::vertex_count(b);
+    split_forest(n, bounds, arcs, roots, limit, starts, cuts, flat, lefts);
+    part_places(&lefts[..roots.len()], places)
+}
+
+// Gives each of p parts a root of its own, or else marks a deficient set.
+fn is_assigned(p: usize, k: usize, rows: &[u8], out: &mut [u8]) -> bool
+    requires { ⌜ AssignAsked p k (now rows) (now out) ⌝ }
+    ensures { λ r. ⌜ AssignDone p k (now (rows .entry)) (now (out .exit)) r ⌝ }
+{
+    let answer = assign(p, k, rows, out);
+    match answer {
+        Answer::Refused => false,
+        Answer::Assigned => true,
+        Answer::Deficient => false,
+    }
+}
+
+// Marks the roots near each part in its row, and gives each part a root of its own, or else marks a deficient set. The rows come as zeros.
+pub fn assign_parts(
+    b: &[u8],
+    roots: &[u16],
+    limit: u64,
+    table: &[u32],
+    starts: &[u16],
+    cuts: &[u16],
+    flat: &[u16],
+    places: &[u16],
+    parts: usize,
+    rows: &mut [u8],
+    out: &mut [u8],
+) -> bool
+    requires { ⌜ RowsAsked (now b) (now roots) limit (now table) (now starts) (now cuts) (now flat) (now places) parts (now rows) (now out) ⌝ }
+    ensures { λ r. ⌜ RowsAssigned (graphOf (now (b .entry))) (now (roots .entry)) limit parts (now (rows .exit)) (now (out .exit)) r ⌝ }
+{
+    let k = roots.len();
+    let size = parts * k;
+    mark_parts(
+        b,
+        table,
+        limit as u32,
+        k,
+        starts,
+        cuts,
+        flat,
+        &places[..parts],
+        rows,
+    );
+    is_assigned(parts, k, &rows[..size], out)
+}
+
+// The parts of a rooted trial where the edges within the limit join every vertex to a root, by the arcs of the whole forest and the distances
+// from all roots. The rows come as zeros.
+pub fn place_parts(
+    b: &[u8],
+    roots: &[u16],
+    limit: u64,
+    bounds: &[u16],
+    arcs: &[u64],
+    table: &[u32],
+    starts: &mut [u16],
+    cuts: &mut [u16],
+    flat: &mut [u16],
+    lefts: &mut [u16],
+    places: &mut [u16],
+    rows: &mut [u8],
+    out: &mut [u8],
+) -> Placed
+    requires { ⌜ PartsAsked (graphOf (now b)) (now b) (now roots) limit (now bounds) (now arcs) (now table)
+        (arraysOf (now starts) (now cuts) (now flat) (now lefts) (now places)) (now rows) (now out) ⌝ }
+    ensures { λ r. ⌜ PartsPlaced (graphOf (now (b .entry))) (now (roots .entry)) limit
+        (trialArrays (now (starts .exit)) (now (cuts .exit)) (now (flat .exit)) (now (lefts .exit)) (now (places .exit)) (now (rows .exit)) (now (out .exit)))
+        (r .parts) (r .assigned) ⌝ }
+{
+    let parts = place_pieces(
+        b,
+        roots,
+        limit,
+        bounds,
+        arcs,
+        starts,
+        cuts,
+        flat,
+        lefts,
+        places,
+    );
+    let assigned = assign_parts(
+        b,
+        roots,
+        limit,
+        table,
+        starts,
+        cuts,
+        flat,
+        places,
+        parts,
+        rows,
+        out,
+    );
+    Placed { parts, assigned }
+}
