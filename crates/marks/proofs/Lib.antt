@@ -9,6 +9,8 @@ pub mod RowsMarked
 pub mod NearestSoFar
 -- edges marked one after the other
 pub mod EdgeMarks
+-- marked edges kept one by one
+pub mod MarkedKept
 -- the edges kept of a union are its tree's
 pub mod UnionEdges
 -- the places of the parts, between those of the leftovers

@@ -16,11 +16,9 @@ use Rattle.rules.specs.Forest.{keep}
 pub record EachBelow (n : ℕ) (list : List ℕ) : Type 0 where
   pub each : (i : ℕ) → i < length list → getD list i 0 < n
 
--- What keeping the edges of a union asks: the bytes are a graph's, there are no more edges than a graph has at most, and there is room
--- for an edge of each vertex.
-pub record UnionGiven (b order out : List ℕ) : Type 0 where
+-- What keeping the edges of a union asks: the bytes are a graph's, and there is room for an edge of each vertex.
+pub record UnionGiven (b out : List ℕ) : Type 0 where
   pub graph : IsGraph b
-  pub few : length order ≤ 2048
   pub room : graphOf b .vertices ≤ length out
 
 -- The marked edges of the order, "kept if their ends are not yet joined", were written, r of them.

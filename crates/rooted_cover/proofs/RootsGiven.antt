@@ -1,27 +1,18 @@
 -- Where the parts are placed and assigned, each root's tree may be made.
 -- Assumes nothing.
 use Prim.Native.Nat.{ℕ, _<_}
-use mathlib.Core.Path.{_≡_, ap, _∙_}
+use mathlib.Core.Path.{_≡_}
 use mathlib.Core.List.{List}
 use native.Mathlib.Omega.{arith}
 use lib.ListN.{length, getD, take}
 use lib.Seq.{getD-take}
-use Rattle.lists.specs.Count.{below}
 use Rattle.lists.specs.Segments.{segment}
-use Rattle.lists.proofs.Runs.{length-below}
-use Rattle.lists.proofs.Sorting.{sort-length}
-use Rattle.graph.specs.Graph.{Graph, edgeCount}
+use Rattle.graph.specs.Graph.{Graph}
 use Rattle.graph.specs.Bytes.{graphOf}
-use Rattle.rules.specs.Order.{comesBefore, ordered}
 use Rattle.marks.specs.Tabled.{rowOf}
 use Rattle.rooted_cover.specs.Tree.{ReachGiven}
 use Rattle.rooted_cover.specs.CoverTrees.{RootsGiven, CoverAsked}
 use Rattle.rooted_cover.proofs.AssignedPart.{bytes-room, places-many, start-in, part-edge, left-edge, part-back}
-
--- As many edges stand in order as there are.
-ordered-count : (g : Graph) → length (ordered g) ≡ edgeCount g
-unfolding ordered
-ordered-count g = sort-length (comesBefore g) (below (edgeCount g)) ∙ length-below (edgeCount g)
 
 module _ {b order table lasts roots starts cuts flat lefts places : List ℕ} {parts : ℕ} {out : List ℕ} {room : ℕ}
     (asked : CoverAsked b order table lasts roots starts cuts flat lefts places parts out room) where
@@ -51,7 +42,7 @@ module _ {b order table lasts roots starts cuts flat lefts places : List ℕ} {p
         each =
             λ j h room l.
             record {
-              asked = record { graph = asked .graph; in-order = asked .in-order; few = omega (arith, ap length (asked .in-order), ordered-count g, valid .edges-most); room = l };
+              asked = record { graph = asked .graph; in-order = asked .in-order; room = l };
               piece = record { held = p .lefts-held j h; marks = λ e m. omega (arith, left-edge p j h e m, valid .edges-most) };
               assigned =
                   record {

@@ -43,7 +43,6 @@ pub record BackGiven (last : List ℕ) (root v room : ℕ) : Type 0 where
 pub record TreeAsked (b order tree : List ℕ) : Type 0 where
   pub graph : IsGraph b
   pub in-order : order ≡ ordered (graphOf b)
-  pub few : length order ≤ 2048
   pub room : graphOf b .vertices ≤ length tree
 
 -- The marked edges were kept, and stand by rising number at the front of the array, r of them.
