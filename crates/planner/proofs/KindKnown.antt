@@ -10,10 +10,9 @@ use Rattle.rules.specs.Order.{ordered}
 use Rattle.cover.specs.declared.crews.Kind.{Kind}
 use Rattle.cover.specs.declared.crews.Kind.the-variants.{Rooted, Unrooted}
 use Rattle.rooted.specs.Prepared.{Decidable, Prepared}
-use Rattle.rooted.specs.Decide as rooted
 use Rattle.rooted.specs.Answer as rooted-answer
 use Rattle.unrooted.specs.Answer as unrooted
-use Rattle.planner.specs.Crews.{RootsGiven, CrewsReady, DecisionAsked}
+use Rattle.planner.specs.Crews.{RootsGiven, CrewsReady}
 use Rattle.planner.specs.Asking.{ForestReady, AnswerAsked, LimitAsked}
 
 -- Crews are of one kind only.
@@ -57,17 +56,6 @@ forest-ready r =
     record {
       with-roots = λ q. let d = r .decidable q in record { graph = d .graph; roots-inside = d .roots-inside; roots-some = r .roots-some q; forest = d .forest };
       without = λ q. r .history q .forest-kept;
-    }
-
--- A decision at a limit.
-pub rooted-decision : {kind : Kind} {k limit : ℕ} {b roots kept bounds arcs table total until walk : List ℕ}
-    → DecisionAsked kind k b roots limit kept bounds arcs table total until walk → kind ≡ Rooted → rooted.DecisionAsked b roots limit kept bounds arcs table walk
-rooted-decision {kind} a q =
-    let same : kind ≡ Rooted = q in
-    record {
-      asked = record { decidable = a .crews .ready .decidable q; roots-some = a .crews .ready .roots-some q; limit-most = a .limit-most };
-      walked = a .walked q;
-      some-cover = rw same at (a .crews .some-cover);
     }
 
 -- An answer at a limit.

@@ -1,5 +1,5 @@
 -- `planner::decide::accepts_at` meets its contract: the kind decides. Assumes nothing.
-use Rattle.planner.proofs.KindKnown.{rooted-decision}
+use Rattle.planner.proofs.KindDecides.{rooted-decision}
 use borrow.Author.Needs.{needs}
 use Rattle.planner.proofs.decide.accepts_at.Statement.{statement}
 use Rattle.planner.proofs.decide.accepts_at.Tie as tie
