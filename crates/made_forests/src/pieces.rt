@@ -23,7 +23,9 @@ fn order_light(b: &[u8], limit: u64, order: &mut [u16]) -> usize
     requires { ⌜ Orderable (now b) (now order) ⌝ }
     ensures { λ r. ⌜ FirstEdges (now (b .entry)) (now (order .exit)) r ⌝ }
 {
-    let m = order_edges(b, order);
+    let mut keys = [0u64; 2048];
+    let mut spare = [0u64; 2048];
+    let m = order_edges(b, &mut keys, &mut spare, order);
     light_count(b, &order[..m], limit)
 }
 

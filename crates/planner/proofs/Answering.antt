@@ -1,7 +1,7 @@
 -- A question about a graph is answered: "no cover", or the trial at the best limit; and the crews of a question are those of the rules.
 -- Assumes nothing.
 use Prim.Native.Nat.{ℕ, _≤_, _<_}
-use mathlib.Core.Path.{_≡_, refl, sym, ap, _∙_}
+use mathlib.Core.Path.{_≡_, refl, sym}
 use mathlib.Core.Bool.{Bool, true, false, _||_}
 use mathlib.Core.List.{List, []}
 use mathlib.Core.Option.{none}
@@ -9,7 +9,6 @@ use native.Mathlib.Omega.{arith}
 use lib.ListN.{length, getD}
 use lib.Dec.{ltb}
 use borrow.Author.Tests.{ltb-false}
-use Rattle.lists.specs.Member.{_∈_}
 use Rattle.lists.specs.Count.{below}
 use Rattle.lists.proofs.Every.{first-false, second-false}
 use Rattle.lists.proofs.Places.{at-place, place-of}

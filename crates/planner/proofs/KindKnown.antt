@@ -4,12 +4,11 @@ use Prim.Native.Nat.{ℕ, _≤_}
 use mathlib.Core.Path.{_≡_, refl}
 use mathlib.Core.List.{List, []}
 use native.Mathlib.Omega.{arith}
-use lib.ListN.{length}
 use Rattle.graph.specs.Bytes.{graphOf}
 use Rattle.rules.specs.Order.{ordered}
 use Rattle.cover.specs.declared.crews.Kind.{Kind}
 use Rattle.cover.specs.declared.crews.Kind.the-variants.{Rooted, Unrooted}
-use Rattle.rooted.specs.Prepared.{Decidable, Prepared}
+use Rattle.rooted.specs.Prepared.{Prepared}
 use Rattle.rooted.specs.Answer as rooted-answer
 use Rattle.unrooted.specs.Answer as unrooted
 use Rattle.planner.specs.Crews.{RootsGiven, CrewsReady}

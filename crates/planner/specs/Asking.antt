@@ -20,13 +20,14 @@ use Rattle.cover.specs.declared.crews.Kind.{Kind}
 use Rattle.cover.specs.declared.crews.Kind.the-variants.{Rooted, Unrooted}
 use Rattle.pieces.specs.declared.reply.Reply.{Reply}
 use Rattle.pieces.specs.Replies.{Replied}
+use Rattle.edges.specs.Order.{RoomForOrder}
 use Rattle.marks.specs.Tabled.{LastsTabled}
 use Rattle.rooted.specs.Decide.{NoCoverAsked}
 use Rattle.needs.specs.Given.{ForestKept}
 use Rattle.planner.specs.declared.ask.Asked.{Asked}
 use Rattle.planner.specs.declared.ask.Asked.the-variants.{At, Best}
 use Rattle.planner.specs.Crews.{RootsGiven, CrewsReady}
-use Rattle.planner.specs.Preparing.{RootedRoom}
+use Rattle.planner.specs.Preparing.{Small, RootedRoom}
 
 -- The limit at which the answer is written.
 abbrev pub limitOf : Asked → Graph → cover.Crews → ℕ
@@ -84,12 +85,27 @@ pub record RootedLent (b roots : List ℕ) (asked : Asked) (order kept bounds al
   pub arrays : RootedRoom (graphOf b .vertices) (edgeCount (graphOf b)) (length roots) (length order) (length kept) (length bounds) (length all) (length arcs)
       (length table) (length lasts)
 
+-- The same, about a small graph.
+pub record RootedSmall (b roots : List ℕ) (asked : Asked) (room : ℕ) : Type 0 where
+  pub question : RootedAsked b roots asked room
+  pub small : Small (graphOf b) (length roots)
+
 -- A question by crews without roots of which nothing is prepared yet.
 pub record UnrootedAsked (k : ℕ) (b : List ℕ) (asked : Asked) (room : ℕ) : Type 0 where
   pub graph : IsGraph b
   pub crews-few : k ≤ 32
   pub limit-fits : LimitFits asked
   pub room-most : 32708 ≤ room
+
+-- The same, with the arrays that its edges are put in order in.
+pub record UnrootedLent (k : ℕ) (b : List ℕ) (asked : Asked) (keys spare order room : ℕ) : Type 0 where
+  pub question : UnrootedAsked k b asked room
+  pub for-order : RoomForOrder b keys spare order
+
+-- The same, about at most 512 edges.
+pub record UnrootedSmall (k : ℕ) (b : List ℕ) (asked : Asked) (room : ℕ) : Type 0 where
+  pub question : UnrootedAsked k b asked room
+  pub edges-few : edgeCount (graphOf b) ≤ 512
 
 -- The crews of a question, which are not refused: nothing else is known.
 pub record CrewsAsked (kind : Kind) (k : ℕ) (b : List ℕ) (asked : Asked) (room : ℕ) : Type 0 where

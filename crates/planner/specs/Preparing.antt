@@ -2,6 +2,7 @@
 -- Assumes nothing.
 use Prim.Native.Nat.{ℕ, _*_, _≤_, _<_}
 use mathlib.Core.Path.{_≡_}
+use mathlib.Core.Bool.{Bool, true}
 use mathlib.Core.List.{List}
 use lib.ListN.{length, getD, take}
 use Rattle.graph.specs.Graph.{Graph, edgeCount}
@@ -10,16 +11,16 @@ use Rattle.graph.specs.Valid.{IsGraph}
 use Rattle.rules.specs.Order.{ordered}
 use Rattle.rules.specs.Labels.{together}
 use Rattle.rules.specs.Forest.{keep}
+use Rattle.edges.specs.Order.{RoomForOrder}
 use Rattle.rooted.specs.Prepared.{Prepared}
 use Rattle.unrooted.specs.Answer.{HistoryReady}
 use Rattle.planner.specs.declared.prepare.Ready.{Ready}
 use Rattle.planner.specs.Crews.{RootsGiven}
 
--- A graph's bytes, and room for the order and the forest of it.
-pub record ForestAsked (b order kept : List ℕ) : Type 0 where
-  pub graph : IsGraph b
-  pub order-room : edgeCount (graphOf b) ≤ length order
-  pub kept-room : graphOf b .vertices ≤ length kept
+-- A graph's bytes, and room for the order of its edges and for its forest.
+pub record ForestAsked (b : List ℕ) (keys spare order kept : ℕ) : Type 0 where
+  pub for-order : RoomForOrder b keys spare order
+  pub kept-room : graphOf b .vertices ≤ kept
 
 -- The edges stand in order and the whole forest by weight: they are the first elements of their arrays.
 pub record ForestPrepared (g : Graph) (roots order kept : List ℕ) (r : Ready) : Type 0 where
@@ -31,14 +32,26 @@ pub record ForestPrepared (g : Graph) (roots order kept : List ℕ) (r : Ready) 
 
 -- WITH ROOTS
 
+-- A graph and crews for which small arrays are enough.
+pub record Small (g : Graph) (k : ℕ) : Type 0 where
+  pub vertices-few : g .vertices ≤ 64
+  pub edges-few : edgeCount g ≤ 512
+  pub crews-few : k ≤ 8
+
+-- Where r says so, they are.
+pub record SizeTold (g : Graph) (k : ℕ) (r : Bool) : Type 0 where
+  pub small : r ≡ true → Small g k
+
 -- Room for a question by k crews with roots about n vertices and m edges: for the order, the whole forest, the edges around each vertex over all edges
--- and then over the forest, and for the distances from all roots with their last edges.
+-- (`all`, and then the keys of the order) and over the forest (`arcs`, and before that the spare of the order), and for the distances from all roots
+-- with their last edges.
 pub record RootedRoom (n m k : ℕ) (order kept bounds all arcs table lasts : ℕ) : Type 0 where
   pub order-room : m ≤ order
   pub kept-room : n ≤ kept
   pub bounds-room : n < bounds
   pub all-room : 2 * m ≤ all
   pub arcs-room : 2 * n ≤ arcs
+  pub spare-room : m ≤ arcs
   pub table-room : n * k ≤ table
   pub lasts-room : k * n ≤ lasts
 
@@ -67,8 +80,8 @@ pub record RootedPrepared (b roots order kept bounds arcs table lasts : List ℕ
 -- WITHOUT ROOTS
 
 -- A graph's bytes, and room for the order and the forest of it, and for the history of its merges.
-pub record UnrootedPreparable (b order kept total until : List ℕ) : Type 0 where
-  pub for-forest : ForestAsked b order kept
+pub record UnrootedPreparable (b keys spare order kept total until : List ℕ) : Type 0 where
+  pub for-forest : ForestAsked b (length keys) (length spare) (length order) (length kept)
   pub total-room : 256 ≤ length total
   pub until-room : 256 ≤ length until
 

@@ -1,4 +1,5 @@
-// A question by crews with roots: prepared in arrays, and answered.
+// A question by crews with roots: prepared in arrays, and answered. The arrays are small where that is enough, since setting them to zero is much of
+// what a question about a small graph costs.
 use crate::ask::Asked;
 use crate::ask::answer_asked;
 use crate::prepare::prepare_rooted;
@@ -7,7 +8,8 @@ use pieces::reply::Reply;
 ghost use lib.ListN.{length};
 ghost use Rattle.graph.specs.Bytes.{graphOf};
 ghost use Rattle.rules.specs.Cover.{rooted};
-ghost use Rattle.planner.specs.Asking.{Answered, RootedAsked, RootedLent};
+ghost use Rattle.planner.specs.Asking.{Answered, RootedAsked, RootedLent, RootedSmall};
+ghost use Rattle.planner.specs.Preparing.{SizeTold};
 
 // Prepares the question in the arrays that are lent, and answers it.
 fn ask_rooted_in(
@@ -45,8 +47,35 @@ fn ask_rooted_in(
     )
 }
 
-// The answer to a question by crews with roots. The roots are a list of vertices, one for each crew.
-pub(crate) fn ask_rooted(b: &[u8], roots: &[u16], asked: Asked, buf: &mut [u8]) -> Reply
+// Lends arrays that a small graph and few crews fit in.
+fn ask_rooted_small(b: &[u8], roots: &[u16], asked: Asked, buf: &mut [u8]) -> Reply
+    requires { ⌜ RootedSmall (now b) (now roots) asked (length (now buf)) ⌝ }
+    ensures { λ r. ⌜ Answered asked (graphOf (now (b .entry))) (rooted (now (roots .entry))) (now (buf .entry)) (now (buf .exit)) r ⌝ }
+{
+    let mut order = [0u16; 512];
+    let mut kept = [0u16; 64];
+    let mut bounds = [0u16; 65];
+    let mut all = [0u64; 1024];
+    let mut arcs = [0u64; 512];
+    let mut table = [0u32; 512];
+    let mut lasts = [0u32; 512];
+    ask_rooted_in(
+        b,
+        roots,
+        asked,
+        &mut order,
+        &mut kept,
+        &mut bounds,
+        &mut all,
+        &mut arcs,
+        &mut table,
+        &mut lasts,
+        buf,
+    )
+}
+
+// Lends arrays that every graph and all crews fit in.
+fn ask_rooted_full(b: &[u8], roots: &[u16], asked: Asked, buf: &mut [u8]) -> Reply
     requires { ⌜ RootedAsked (now b) (now roots) asked (length (now buf)) ⌝ }
     ensures { λ r. ⌜ Answered asked (graphOf (now (b .entry))) (rooted (now (roots .entry))) (now (buf .entry)) (now (buf .exit)) r ⌝ }
 {
@@ -54,7 +83,7 @@ pub(crate) fn ask_rooted(b: &[u8], roots: &[u16], asked: Asked, buf: &mut [u8]) 
     let mut kept = [0u16; 256];
     let mut bounds = [0u16; 257];
     let mut all = [0u64; 4096];
-    let mut arcs = [0u64; 512];
+    let mut arcs = [0u64; 2048];
     let mut table = [0u32; 8192];
     let mut lasts = [0u32; 8192];
     ask_rooted_in(
@@ -70,4 +99,28 @@ pub(crate) fn ask_rooted(b: &[u8], roots: &[u16], asked: Asked, buf: &mut [u8]) 
         &mut lasts,
         buf,
     )
+}
+
+// Whether the small arrays are enough.
+fn is_small(b: &[u8], k: usize) -> bool
+    ensures { λ r. ⌜ SizeTold (graphOf (now (b .entry))) k r ⌝ }
+{
+    if 64 < graph::vertex_count(b) {
+        return false;
+    }
+    if 512 < graph::edge_count(b) {
+        return false;
+    }
+    k <= 8
+}
+
+// The answer to a question by crews with roots. The roots are a list of vertices, one for each crew.
+pub(crate) fn ask_rooted(b: &[u8], roots: &[u16], asked: Asked, buf: &mut [u8]) -> Reply
+    requires { ⌜ RootedAsked (now b) (now roots) asked (length (now buf)) ⌝ }
+    ensures { λ r. ⌜ Answered asked (graphOf (now (b .entry))) (rooted (now (roots .entry))) (now (buf .entry)) (now (buf .exit)) r ⌝ }
+{
+    if is_small(b, roots.len()) {
+        return ask_rooted_small(b, roots, asked, buf);
+    }
+    ask_rooted_full(b, roots, asked, buf)
 }

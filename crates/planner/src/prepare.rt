@@ -19,12 +19,20 @@ pub struct Ready {
 }
 
 // The edges in order, and the whole forest of them by weight, with all roots joined from the start.
-fn keep_forest(b: &[u8], roots: &[u16], order: &mut [u16], kept: &mut [u16]) -> Ready
-    requires { ⌜ ForestAsked (now b) (now order) (now kept) ⌝ }
+// Keys and spare are scratch of the order.
+fn keep_forest(
+    b: &[u8],
+    roots: &[u16],
+    keys: &mut [u64],
+    spare: &mut [u64],
+    order: &mut [u16],
+    kept: &mut [u16],
+) -> Ready
+    requires { ⌜ ForestAsked (now b) (length (now keys)) (length (now spare)) (length (now order)) (length (now kept)) ⌝ }
     ensures { λ r. ⌜ ForestPrepared (graphOf (now (b .entry))) (now (roots .entry)) (now (order .exit)) (now (kept .exit)) r ⌝ }
 {
     let mut label = [0u16; 256];
-    let edges = order_edges(b, order);
+    let edges = order_edges(b, keys, spare, order);
     let forest = keep_whole(b, roots, &order[..edges], &mut label, kept);
     Ready { edges, forest }
 }
@@ -50,7 +58,8 @@ fn prepare_distances(
     fill_table(n, bounds, all, roots, table, lasts);
 }
 
-// Everything that crews with roots read. The distances come first, so that the arrays of their scratch serve again.
+// Everything that crews with roots read. The distances come first, so that the arrays of their scratch serve again: the arcs over all edges become
+// the keys of the order, and the arcs over the forest are its spare before they are put.
 pub(crate) fn prepare_rooted(
     b: &[u8],
     roots: &[u16],
@@ -67,7 +76,7 @@ pub(crate) fn prepare_rooted(
         (now (table .exit)) (now (lasts .exit)) r ⌝ }
 {
     prepare_distances(b, roots, order, bounds, all, table, lasts);
-    let ready = keep_forest(b, roots, order, kept);
+    let ready = keep_forest(b, roots, all, arcs, order, kept);
     put_arcs(b, &kept[..ready.forest], bounds, arcs);
     ready
 }
@@ -75,15 +84,17 @@ pub(crate) fn prepare_rooted(
 // Everything that crews without roots read.
 pub(crate) fn prepare_unrooted(
     b: &[u8],
+    keys: &mut [u64],
+    spare: &mut [u64],
     order: &mut [u16],
     kept: &mut [u16],
     total: &mut [u64],
     until: &mut [u16],
 ) -> Ready
-    requires { ⌜ UnrootedPreparable (now b) (now order) (now kept) (now total) (now until) ⌝ }
+    requires { ⌜ UnrootedPreparable (now b) (now keys) (now spare) (now order) (now kept) (now total) (now until) ⌝ }
     ensures { λ r. ⌜ UnrootedPrepared (now (b .entry)) (now (order .exit)) (now (kept .exit)) (now (total .exit)) (now (until .exit)) r ⌝ }
 {
-    let ready = keep_forest(b, &[], order, kept);
+    let ready = keep_forest(b, &[], keys, spare, order, kept);
     record_merges(b, &kept[..ready.forest], total, until);
     ready
 }

@@ -19,11 +19,14 @@ use Rattle.made_forests.proofs.pieces.order_light.Tie as tie
 
 -- Once the edges are ordered: they are what stands at the front of the array.
 module _ (c : tie.After-order-edges) where
+  abbrev start : tie.Start
+  start = (let d = c .before .before .before .before in d .before .before)
+
   abbrev g : Graph
-  g = graphOf (c .before .before .before .before .args .b .now)
+  g = graphOf (start .args .b .now)
 
   abbrev array : List ℕ
-  array = c .order-edges .last .1 .0
+  array = c .order-edges .last .1 .1 .1 .0
 
   front : take (c .order-edges .result) array ≡ ordered g
   front = put-taken (c .order-edges .ensures .put)
@@ -31,24 +34,34 @@ module _ (c : tie.After-order-edges) where
   fits : c .order-edges .result ≤ length array
   fits = let p = c .order-edges .ensures .put in omega (arith, put-fits p, put-length (p .put))
 
+-- Where their front is lent.
+abbrev lent : tie.After-light-count-arg → tie.After-order-edges
+lent c = let d = c .before .before .before .before in d .before
+
+slice-aggregate-order-edges : tie.Need-slice-aggregate-order-edges
+slice-aggregate-order-edges c = search needs
+
+slice-aggregate-order-edges-2 : tie.Need-slice-aggregate-order-edges-2
+slice-aggregate-order-edges-2 c = search needs
+
 order-edges-requires : tie.Need-order-edges-requires
 order-edges-requires c κs = search needs
 
 slice-reshare-prefix-light-count : tie.Need-slice-reshare-prefix-light-count
-slice-reshare-prefix-light-count c = fits (c .before .before)
+slice-reshare-prefix-light-count c = fits (c .before .before .before .before)
 
 slice-aggregate-light-count : tie.Need-slice-aggregate-light-count
-slice-aggregate-light-count c = sym (length-take-le _ _ (fits (c .before .before .before)))
+slice-aggregate-light-count c = sym (length-take-le _ _ (fits (lent c)))
 
 light-count-requires : tie.Need-light-count-requires
-light-count-requires c κs = rw (front (c .before .before .before)) (ordered-by-weight (g (c .before .before .before)))
+light-count-requires c κs = rw (front (lent c)) (ordered-by-weight (g (lent c)))
 
 same-length : tie.Need-same-length
 same-length c = search needs
 
 returns : tie.Need-returns
 returns c =
-    let o = c .before .before .before .before in
+    let o = lent (c .before) in
     let m = o .order-edges .result in
     let r = c .light-count .result in
     let l = c .light-count .ensures in
@@ -60,7 +73,7 @@ returns c =
             inside =
                 λ e h.
                 let k = rw (sym (take-take r m (array o) few) ∙ l .front) at h in
-                of-ordered (g o) (rw (front o) at (of-filter (λ x. leb (weightOf (g o) x) (o .before .before .before .before .args .limit)) (take m (array o)) k .0));
+                of-ordered (g o) (rw (front o) at (of-filter (λ x. leb (weightOf (g o) x) (start o .args .limit)) (take m (array o)) k .0));
           };
     }
 
@@ -68,6 +81,8 @@ pub order-light-spec : {M : Type 1} → statement M
 order-light-spec =
     tie.close
     (tie.spec
+    slice-aggregate-order-edges
+    slice-aggregate-order-edges-2
     order-edges-requires
     slice-reshare-prefix-light-count
     slice-aggregate-light-count

@@ -1,11 +1,7 @@
 -- `planner::ask::answer_best` meets its contract: no cover, or the trial at the best limit. Assumes nothing.
-use Prim.Native.Nat.{_≤_}
-use mathlib.Core.Path.{_≡_, sym, _∙_}
+use mathlib.Core.Path.{sym, _∙_}
 use native.Mathlib.Omega.{arith}
-use Rattle.graph.specs.Graph.{Graph}
-use Rattle.graph.specs.Bytes.{graphOf}
 use Rattle.rules.specs.Cover.{Crews}
-use Rattle.rules.specs.Search.{bestLimit}
 use Rattle.planner.specs.Crews.{crewsWith}
 use Rattle.planner.proofs.SearchLoop.{best-limit-most}
 use Rattle.planner.proofs.KindKnown.{forest-ready}

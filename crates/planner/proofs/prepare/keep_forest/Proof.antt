@@ -12,9 +12,9 @@ use Rattle.planner.proofs.prepare.keep_forest.Tie as tie
 -- Where the edges are in order.
 module _ (o : tie.After-order-edges) where
   abbrev s : tie.Start
-  s = (let d = o .before .before .before .before in d .before .before)
+  s = (let d = o .before .before .before .before in let e = d .before .before .before .before in e .before .before)
 
-  ordered-is : take (o .order-edges .result) (o .order-edges .last .1 .0) ≡ ordered (graphOf (s .args .b .now))
+  ordered-is : take (o .order-edges .result) (o .order-edges .last .1 .1 .1 .0) ≡ ordered (graphOf (s .args .b .now))
   ordered-is = put-taken (o .order-edges .ensures .put)
 
 order-edges-requires : tie.Need-order-edges-requires
@@ -24,17 +24,17 @@ slice-reshare-prefix-keep-whole : tie.Need-slice-reshare-prefix-keep-whole
 slice-reshare-prefix-keep-whole c = search needs
 
 slice-aggregate-keep-whole : tie.Need-slice-aggregate-keep-whole
-slice-aggregate-keep-whole c = let o = c .before .before .before in put-count (o .order-edges .ensures .put) ∙ sym (ap length (ordered-is o))
+slice-aggregate-keep-whole c = let o = (let d = c .before .before .before .before in d .before .before .before) in put-count (o .order-edges .ensures .put) ∙ sym (ap length (ordered-is o))
 
 slice-aggregate-keep-whole-2 : tie.Need-slice-aggregate-keep-whole-2
 slice-aggregate-keep-whole-2 c = search needs
 
 keep-whole-requires : tie.Need-keep-whole-requires
 keep-whole-requires c κs =
-    let o = (let d = c .before .before .before .before in d .before) in
-    let asked = s o .pre in
+    let o = (let d = c .before .before .before .before in let e = d .before .before .before .before in e .before) in
+    let graph = s o .pre .for-order .graph in
     record {
-      keepable = record { labelable = record { graph = asked .graph; room = omega (arith, asked .graph .valid .vertices-most) }; room = omega (arith, asked .kept-room) };
+      keepable = record { labelable = record { graph = graph; room = omega (arith, graph .valid .vertices-most) }; room = omega (arith, s o .pre .kept-room) };
       in-order = ordered-is o;
     }
 
@@ -44,10 +44,16 @@ same-length c = search needs
 same-length-2 : tie.Need-same-length-2
 same-length-2 c = search needs
 
+same-length-3 : tie.Need-same-length-3
+same-length-3 c = search needs
+
+same-length-4 : tie.Need-same-length-4
+same-length-4 c = search needs
+
 returns : tie.Need-returns
 returns c =
     let k = c .before .before .before in
-    let o = (let d = k .before .before .before .before in d .before .before) in
+    let o = (let d = k .before .before .before .before in let e = d .before .before .before .before in e .before .before) in
     let order = o .order-edges .ensures .put in
     let kept = k .keep-whole .ensures .edges-are in
     record {
@@ -69,4 +75,6 @@ keep-forest-spec =
     keep-whole-requires
     same-length
     same-length-2
+    same-length-3
+    same-length-4
     returns)

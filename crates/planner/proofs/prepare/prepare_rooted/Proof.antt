@@ -1,5 +1,5 @@
 -- `planner::prepare::prepare_rooted` meets its contract: the distances, the forest, and the arcs over the forest. Assumes nothing.
-use mathlib.Core.Path.{_≡_, sym, ap, _∙_}
+use mathlib.Core.Path.{_≡_, sym}
 use native.Mathlib.Omega.{arith}
 use lib.ListN.{length, take}
 use lib.Seq.{length-take-le}
@@ -16,7 +16,7 @@ use Rattle.planner.proofs.prepare.prepare_rooted.Tie as tie
 -- Where the forest is kept: the distances are tabled.
 module _ (k : tie.After-keep-forest) where
   abbrev t : tie.After-prepare-distances
-  t = (let d = k .before .before .before .before in let e = d .before .before .before .before in let f = e .before .before .before .before in f .before)
+  t = (let d = k .before .before .before .before in let e = d .before .before .before .before in let f = e .before .before .before .before in f .before .before .before)
 
   abbrev s : tie.Start
   s = (let d = t .before .before .before .before in let e = d .before .before .before .before in let f = e .before .before .before .before in f .before .before .before)
@@ -24,7 +24,7 @@ module _ (k : tie.After-keep-forest) where
   abbrev g : Graph
   g = graphOf (s .args .b .now)
 
-  size : length (take (k .keep-forest .result .forest) (k .keep-forest .last .1 .1 .1 .0)) ≡ k .keep-forest .result .forest
+  size : length (take (k .keep-forest .result .forest) (k .keep-forest .last .1 .1 .1 .1 .1 .0)) ≡ k .keep-forest .result .forest
   size = length-take-le _ _ (k .keep-forest .ensures .forest-room)
 
 prepare-distances-requires : tie.Need-prepare-distances-requires
@@ -32,18 +32,27 @@ prepare-distances-requires c κs = search needs
 
 keep-forest-requires : tie.Need-keep-forest-requires
 keep-forest-requires c κs =
-    let asked = (let d = c .before .before .before .before in let e = d .before .before .before .before in let f = e .before .before .before .before in let g = f .before .before .before .before in let h = g .before .before .before .before in let i = h .before .before .before .before in i .before .before .before) .pre in
-    record { graph = asked .given .graph; order-room = omega (arith, asked .room .order-room); kept-room = omega (arith, asked .room .kept-room) }
+    let asked = (let d = c .before .before .before .before in let e = d .before .before .before .before in let f = e .before .before .before .before in let g = f .before .before .before .before in let h = g .before .before .before .before in let i = h .before .before .before .before in let j = i .before .before .before .before in j .before) .pre in
+    record {
+      for-order =
+          record {
+            graph = asked .given .graph;
+            keys-room = omega (arith, asked .room .all-room);
+            spare-room = omega (arith, asked .room .spare-room);
+            room = omega (arith, asked .room .order-room);
+          };
+      kept-room = omega (arith, asked .room .kept-room);
+    }
 
 slice-reshare-prefix-put-arcs : tie.Need-slice-reshare-prefix-put-arcs
 slice-reshare-prefix-put-arcs c = search needs
 
 slice-aggregate-put-arcs : tie.Need-slice-aggregate-put-arcs
-slice-aggregate-put-arcs c = sym (size (let d = c .before .before .before .before in d .before))
+slice-aggregate-put-arcs c = sym (size (let d = c .before .before .before .before in let e = d .before .before .before .before in e .before))
 
 put-arcs-requires : tie.Need-put-arcs-requires
 put-arcs-requires c κs =
-    let k = (let d = c .before .before .before .before in d .before .before .before) in
+    let k = (let d = c .before .before .before .before in let e = d .before .before .before .before in e .before .before .before) in
     let asked = s k .pre in
     let roots = s k .args .roots .now in
     let fewer = k .keep-forest .ensures .fewer in
@@ -79,7 +88,7 @@ same-length-7 c = search needs
 returns : tie.Need-returns
 returns c =
     let p = c .before .before .before .before in
-    let k = (let d = p .before .before .before .before in d .before .before .before .before) in
+    let k = (let d = p .before .before .before .before in let e = d .before .before .before .before in e .before .before .before .before) in
     let given = s k .pre .given in
     let kept = k .keep-forest .ensures in
     let tabled = t k .prepare-distances .ensures in

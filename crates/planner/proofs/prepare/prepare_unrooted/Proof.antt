@@ -15,7 +15,7 @@ slice-reshare-prefix-record-merges : tie.Need-slice-reshare-prefix-record-merges
 slice-reshare-prefix-record-merges c = search needs
 
 slice-aggregate-record-merges : tie.Need-slice-aggregate-record-merges
-slice-aggregate-record-merges c = sym (length-take-le _ _ (let d = c .before .before .before .before in d .before .keep-forest .ensures .forest-room))
+slice-aggregate-record-merges c = sym (length-take-le _ _ ((let d = c .before .before .before .before in let e = d .before .before .before .before in e .before) .keep-forest .ensures .forest-room))
 
 record-merges-requires : tie.Need-record-merges-requires
 record-merges-requires c κs = search needs
@@ -31,6 +31,12 @@ same-length-3 c = search needs
 
 same-length-4 : tie.Need-same-length-4
 same-length-4 c = search needs
+
+same-length-5 : tie.Need-same-length-5
+same-length-5 c = search needs
+
+same-length-6 : tie.Need-same-length-6
+same-length-6 c = search needs
 
 returns : tie.Need-returns
 returns c = search needs
@@ -48,4 +54,6 @@ prepare-unrooted-spec =
     same-length-2
     same-length-3
     same-length-4
+    same-length-5
+    same-length-6
     returns)

@@ -1,14 +1,14 @@
--- `planner::ask_unrooted::ask_unrooted` meets its contract: the question is prepared, and then answered. Assumes nothing.
+-- `planner::ask_unrooted::ask_unrooted_in` meets its contract: the question is prepared, and then answered. Assumes nothing.
 use mathlib.Core.Path.{sym}
 use lib.Seq.{length-take-le}
 use Rattle.planner.proofs.KindKnown.{unrooted-ready}
 use borrow.Author.Needs.{needs}
-use Rattle.planner.proofs.ask_unrooted.ask_unrooted.Statement.{statement}
-use Rattle.planner.proofs.ask_unrooted.ask_unrooted.Tie as tie
+use Rattle.planner.proofs.ask_unrooted.ask_unrooted_in.Statement.{statement}
+use Rattle.planner.proofs.ask_unrooted.ask_unrooted_in.Tie as tie
 
 -- Where the order is lent: the question is prepared.
-abbrev prepared : tie.After-order3 → tie.After-prepare-unrooted
-prepared o = let d = o .before .before .before .before in d .before .before
+abbrev prepared : tie.After-answer-asked-arg2 → tie.After-prepare-unrooted
+prepared o = let d = o .before .before .before .before in let e = d .before .before .before .before in e .before .before .before
 
 slice-aggregate-prepare-unrooted : tie.Need-slice-aggregate-prepare-unrooted
 slice-aggregate-prepare-unrooted c = search needs
@@ -19,17 +19,14 @@ slice-aggregate-prepare-unrooted-2 c = search needs
 slice-aggregate-prepare-unrooted-3 : tie.Need-slice-aggregate-prepare-unrooted-3
 slice-aggregate-prepare-unrooted-3 c = search needs
 
-slice-aggregate-prepare-unrooted-4 : tie.Need-slice-aggregate-prepare-unrooted-4
-slice-aggregate-prepare-unrooted-4 c = search needs
-
 prepare-unrooted-requires : tie.Need-prepare-unrooted-requires
 prepare-unrooted-requires c κs = search needs
 
 slice-aggregate-answer-asked : tie.Need-slice-aggregate-answer-asked
 slice-aggregate-answer-asked c = search needs
 
-array-share-prefix-order : tie.Need-array-share-prefix-order
-array-share-prefix-order c = search needs
+slice-reshare-prefix-answer-asked : tie.Need-slice-reshare-prefix-answer-asked
+slice-reshare-prefix-answer-asked c = search needs
 
 slice-aggregate-answer-asked-2 : tie.Need-slice-aggregate-answer-asked-2
 slice-aggregate-answer-asked-2 c = sym (length-take-le _ _ (prepared c .prepare-unrooted .ensures .edges-room))
@@ -61,27 +58,35 @@ slice-aggregate-answer-asked-9 c = search needs
 answer-asked-requires : tie.Need-answer-asked-requires
 answer-asked-requires c κs =
     let p = prepared (let d = c .before .before .before .before in d .before .before .before .before) in
-    let asked = (let d = p .before .before .before .before in d .before .before .before) .pre in
+    let asked = (let d = p .before .before .before .before in let e = d .before .before .before .before in e .before .before .before .before) .pre .question in
     let ready = p .prepare-unrooted .ensures in
     record { answer = unrooted-ready (ready .in-order) (ready .history) (asked .crews-few) (asked .room-most); limit-fits = asked .limit-fits }
 
 same-length : tie.Need-same-length
 same-length c = search needs
 
+same-length-2 : tie.Need-same-length-2
+same-length-2 c = search needs
+
+same-length-3 : tie.Need-same-length-3
+same-length-3 c = search needs
+
+same-length-4 : tie.Need-same-length-4
+same-length-4 c = search needs
+
 returns : tie.Need-returns
 returns c = search needs
 
-pub ask-unrooted-spec : {M : Type 1} → statement M
-ask-unrooted-spec =
+pub ask-unrooted-in-spec : {M : Type 1} → statement M
+ask-unrooted-in-spec =
     tie.close
     (tie.spec
     slice-aggregate-prepare-unrooted
     slice-aggregate-prepare-unrooted-2
     slice-aggregate-prepare-unrooted-3
-    slice-aggregate-prepare-unrooted-4
     prepare-unrooted-requires
     slice-aggregate-answer-asked
-    array-share-prefix-order
+    slice-reshare-prefix-answer-asked
     slice-aggregate-answer-asked-2
     array-share-prefix-kept
     slice-aggregate-answer-asked-3
@@ -93,4 +98,7 @@ ask-unrooted-spec =
     slice-aggregate-answer-asked-9
     answer-asked-requires
     same-length
+    same-length-2
+    same-length-3
+    same-length-4
     returns)
