@@ -7,7 +7,7 @@ use Rattle.graph.specs.Graph.{Graph}
 use Rattle.graph.specs.Bytes.{graphOf}
 use Rattle.rules.specs.Order.{ordered}
 use Rattle.rules.specs.Labels.{together}
-use Rattle.forest_laws.proofs.Keeping.{kept-subset}
+use Rattle.forest_laws.proofs.Keeping.{kept-subset, kept-once}
 use Rattle.forest_laws.proofs.Ordering.{of-ordered}
 use borrow.Author.Needs.{needs}
 use Rattle.planner.proofs.prepare.prepare_rooted.Statement.{statement}
@@ -59,6 +59,7 @@ put-arcs-requires c κs =
     record {
       graph = asked .given .graph;
       inside = λ e m. of-ordered (g k) (kept-subset (g k) (together roots) (ordered (g k)) (rw (k .keep-forest .ensures .forest) at m));
+      once = rw (k .keep-forest .ensures .forest) (kept-once (g k) (together roots) (ordered (g k)));
       few = omega (arith, size k, fewer, asked .given .graph .valid .vertices-most);
       bounds-room = omega (arith, asked .room .bounds-room);
       arcs-room = omega (arith, size k, fewer, asked .room .arcs-room);
