@@ -33,7 +33,7 @@ use Rattle.pieces.specs.declared.reply.Reply.the-variants.{NoCover}
 use Rattle.pieces.specs.Replies.{Answers}
 use Rattle.planner.specs.declared.ask.Asked.{Asked}
 use Rattle.planner.specs.declared.ask.Asked.the-variants.{At, Best}
-use Rattle.planner.specs.Crews.{crewsWith}
+use Rattle.search.specs.Crews.{crewsWith}
 use Rattle.planner.specs.Asking.{Answered, RootedAsked, UnrootedAsked, CrewsAsked}
 
 -- Good choices exist for crews of either kind.

@@ -11,7 +11,7 @@ use Rattle.cover.specs.declared.crews.Kind.the-variants.{Rooted, Unrooted}
 use Rattle.rooted.specs.Prepared.{Prepared}
 use Rattle.rooted.specs.Answer as rooted-answer
 use Rattle.unrooted.specs.Answer as unrooted
-use Rattle.planner.specs.Crews.{RootsGiven, CrewsReady}
+use Rattle.search.specs.Crews.{RootsGiven, CrewsReady}
 use Rattle.planner.specs.Asking.{ForestReady, AnswerAsked, LimitAsked}
 
 -- Crews are of one kind only.

@@ -26,7 +26,7 @@ use Rattle.rooted.specs.Decide.{NoCoverAsked}
 use Rattle.needs.specs.Given.{ForestKept}
 use Rattle.planner.specs.declared.ask.Asked.{Asked}
 use Rattle.planner.specs.declared.ask.Asked.the-variants.{At, Best}
-use Rattle.planner.specs.Crews.{RootsGiven, CrewsReady}
+use Rattle.search.specs.Crews.{RootsGiven, CrewsReady}
 use Rattle.planner.specs.Preparing.{Small, RootedRoom}
 
 -- The limit at which the answer is written.

@@ -15,7 +15,7 @@ use Rattle.edges.specs.Order.{RoomForOrder}
 use Rattle.rooted.specs.Prepared.{Prepared}
 use Rattle.unrooted.specs.Answer.{HistoryReady}
 use Rattle.planner.specs.declared.prepare.Ready.{Ready}
-use Rattle.planner.specs.Crews.{RootsGiven}
+use Rattle.search.specs.Crews.{RootsGiven}
 
 -- A graph's bytes, and room for the order of its edges and for its forest.
 pub record ForestAsked (b : List ℕ) (keys spare order kept : ℕ) : Type 0 where

@@ -10,7 +10,7 @@ ghost use lib.ListN.{length};
 ghost use Rattle.graph.specs.Bytes.{graphOf};
 ghost use Rattle.rules.specs.Search.{noCover};
 ghost use Rattle.pieces.specs.Replies.{Answers};
-ghost use Rattle.planner.specs.Crews.{crewsWith};
+ghost use Rattle.search.specs.Crews.{crewsWith};
 ghost use Rattle.planner.specs.Asking.{ForestReady, LimitAsked};
 
 // Whether no cover by the crews exists at all.

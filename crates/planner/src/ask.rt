@@ -3,7 +3,7 @@ use crate::answer::answer_at;
 use crate::answer::no_cover;
 use crate::ask_rooted::ask_rooted;
 use crate::ask_unrooted::ask_unrooted;
-use crate::search::best_limit;
+use search::search::search::best_limit;
 use cover::crews::Kind;
 use pieces::pieces::number_up;
 use pieces::reply::Reply;
@@ -11,7 +11,7 @@ ghost use lib.ListN.{length};
 ghost use Rattle.graph.specs.Bytes.{graphOf};
 ghost use Rattle.cover.specs.Crews.{crewsOf};
 ghost use Rattle.planner.specs.declared.ask.Asked.the-variants.{Best};
-ghost use Rattle.planner.specs.Crews.{crewsWith};
+ghost use Rattle.search.specs.Crews.{crewsWith};
 ghost use Rattle.planner.specs.Asking.{Answered, AnswerAsked, AskedReady, CrewsAsked};
 
 // What is asked.

@@ -4,7 +4,5 @@ pub mod answer;
 pub mod ask;
 pub mod ask_rooted;
 pub mod ask_unrooted;
-pub mod decide;
 pub mod prepare;
 pub mod question;
-pub mod search;

@@ -2,8 +2,8 @@
 use mathlib.Core.Path.{sym, _∙_}
 use native.Mathlib.Omega.{arith}
 use Rattle.rules.specs.Cover.{Crews}
-use Rattle.planner.specs.Crews.{crewsWith}
-use Rattle.planner.proofs.SearchLoop.{best-limit-most}
+use Rattle.search.specs.Crews.{crewsWith}
+use Rattle.search.proofs.SearchLoop.{best-limit-most}
 use Rattle.planner.proofs.KindKnown.{forest-ready}
 use Rattle.planner.proofs.Answering.{choices-for, none-answered, best-answered}
 use borrow.Author.Needs.{needs}

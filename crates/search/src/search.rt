@@ -9,8 +9,8 @@ ghost use lib.ListN.{length};
 ghost use Rattle.graph.specs.Bytes.{graphOf};
 ghost use Rattle.rules.specs.Walk.{totalWeight};
 ghost use Rattle.rules.specs.Search.{bestLimit};
-ghost use Rattle.planner.specs.Crews.{crewsWith};
-ghost use Rattle.planner.specs.Searching.{searchEnd, SearchAsked, BestAsked, WalkedAsked, WalkGiven, WalkFor};
+ghost use Rattle.search.specs.Crews.{crewsWith};
+ghost use Rattle.search.specs.Searching.{searchEnd, SearchAsked, BestAsked, WalkedAsked, WalkGiven, WalkFor};
 
 // The weight of the edges together.
 fn sum_weights(b: &[u8], edges: &[u16]) -> u64
@@ -147,7 +147,7 @@ fn write_walk(
 }
 
 // The best limit. The walk of the whole forest's trees is written once, for all trials of the search.
-pub(crate) fn best_limit(
+pub fn best_limit(
     kind: Kind,
     k: usize,
     b: &[u8],

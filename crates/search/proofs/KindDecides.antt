@@ -6,7 +6,7 @@ use mathlib.Core.List.{List}
 use Rattle.cover.specs.declared.crews.Kind.{Kind}
 use Rattle.cover.specs.declared.crews.Kind.the-variants.{Rooted}
 use Rattle.rooted.specs.Decide as rooted
-use Rattle.planner.specs.Crews.{DecisionAsked}
+use Rattle.search.specs.Crews.{DecisionAsked}
 
 -- What a decision by crews with roots asks.
 pub rooted-decision : {kind : Kind} {k limit : ℕ} {b roots kept bounds arcs table total until walk : List ℕ}

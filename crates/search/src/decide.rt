@@ -5,7 +5,7 @@ use unrooted::answer::accepts_unrooted;
 ghost use mathlib.Core.Path.{_≡_};
 ghost use Rattle.graph.specs.Bytes.{graphOf};
 ghost use Rattle.rules.specs.Search.{accepts};
-ghost use Rattle.planner.specs.Crews.{crewsWith, DecisionAsked};
+ghost use Rattle.search.specs.Crews.{crewsWith, DecisionAsked};
 
 // Whether the crews' trial at the limit accepts.
 pub(crate) fn accepts_at(

@@ -1,8 +1,8 @@
--- `planner::decide::accepts_at` meets its contract: the kind decides. Assumes nothing.
-use Rattle.planner.proofs.KindDecides.{rooted-decision}
+-- `search::decide::accepts_at` meets its contract: the kind decides. Assumes nothing.
+use Rattle.search.proofs.KindDecides.{rooted-decision}
 use borrow.Author.Needs.{needs}
-use Rattle.planner.proofs.decide.accepts_at.Statement.{statement}
-use Rattle.planner.proofs.decide.accepts_at.Tie as tie
+use Rattle.search.proofs.decide.accepts_at.Statement.{statement}
+use Rattle.search.proofs.decide.accepts_at.Tie as tie
 
 enum-told : tie.Need-enum-told
 enum-told c = search needs

@@ -1,11 +1,11 @@
--- `planner::search::best_limit` meets its contract: the walk is written, and the search goes by it. Assumes nothing.
+-- `search::search::best_limit` meets its contract: the walk is written, and the search goes by it. Assumes nothing.
 use mathlib.Core.Path.{sym}
 use Prim.Native.Nat.{ℕ}
 use lib.ListN.{length-replicate}
 use lib.Seq.{length-take-le}
 use borrow.Author.Needs.{needs}
-use Rattle.planner.proofs.search.best_limit.Statement.{statement}
-use Rattle.planner.proofs.search.best_limit.Tie as tie
+use Rattle.search.proofs.search.best_limit.Statement.{statement}
+use Rattle.search.proofs.search.best_limit.Tie as tie
 
 -- Where the walk is written: what was asked.
 abbrev start : tie.After-write-walk → tie.Start

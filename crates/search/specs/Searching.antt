@@ -12,7 +12,7 @@ use Rattle.rules.specs.Search.{accepts, Bounds, searched}
 use Rattle.cover.specs.declared.crews.Kind.{Kind}
 use Rattle.cover.specs.declared.crews.Kind.the-variants.{Rooted}
 use Rattle.rooted.specs.Prepared.{Decidable, WholeWalked}
-use Rattle.planner.specs.Crews.{CrewsPrepared}
+use Rattle.search.specs.Crews.{CrewsPrepared}
 
 -- Where the search stands.
 abbrev pub between : ℕ → ℕ → Bounds

@@ -21,7 +21,7 @@ use Rattle.rules.specs.Search.{accepts, narrowed, searched, bestLimit}
 use Rattle.planner_laws.proofs.SearchSteps.{search-stops, search-steps}
 use Rattle.planner_laws.proofs.BestLimit.{allWeights, firstBounds, best-limit-31, sum-bounded}
 use Rattle.pieces.proofs.LaidLists.{sum-next}
-use Rattle.planner.specs.Searching.{between, searchEnd}
+use Rattle.search.specs.Searching.{between, searchEnd}
 
 -- THE SEARCH
 

@@ -1,0 +1,7 @@
+-- Laws that belong to no one function, in reading order.
+-- the walk that every decision counts by
+pub mod WalkWritten
+-- a decision at a limit, where the kind is known
+pub mod KindDecides
+-- the search, trial by trial, and the sum at which it begins
+pub mod SearchLoop
