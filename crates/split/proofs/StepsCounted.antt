@@ -16,7 +16,7 @@ use Rattle.split.specs.Settles.{Load, load, Settles, alone, full, joins}
 use Rattle.split.specs.SplitBelow.{unmarked, pieceOf, SplitBelow, done, past, child}
 use Rattle.split.specs.Steps.{stepOf, Tally, tallyStep, tally}
 use Rattle.split.specs.StepsBelow.{StepsBelow, steps-done, steps-past, steps-child}
-use Rattle.split.proofs.Unvisited.{marks-kept, unmarked-before, marked-now}
+use Rattle.split.proofs.Unvisited.{unmarked-before, marked-now}
 use Rattle.split.proofs.StepsMark.{Closes, steps-close, still-marked}
 
 -- A step holds its child, the vertex above and the weight.

@@ -4,14 +4,13 @@
 use Prim.Native.Nat.{ℕ, _+_, _≤_, _<_}
 use mathlib.Core.Path.{_≡_, refl, sym, ap, subst, _∙_}
 use mathlib.Core.Bool.{true, false, false≢true}
-use mathlib.Core.List.{List, [], _∷_, _++_, map, List·Memᴰ·head, List·Memᴰ·tail}
+use mathlib.Core.List.{List, [], map, List·Memᴰ·head, List·Memᴰ·tail}
 use mathlib.Core.Logic.{dite, ⊎-elim}
 use native.Mathlib.Decide.{ℕ-discrete}
 use native.Mathlib.Nat.{zero-add}
 use native.Mathlib.Omega.{arith}
 use lib.ListN.{length, getD, set, replicate, length-set, length-append, length-replicate}
 use Rattle.lists.specs.Lists.{flat, member, any}
-use Rattle.lists.specs.Member.{_∈_}
 use Rattle.lists.specs.Segments.{segment}
 use Rattle.lists.proofs.Member.{either}
 use Rattle.lists.proofs.Zeros.{zeros-at}
@@ -19,13 +18,13 @@ use Rattle.graph.specs.Graph.{Graph}
 use Rattle.rules.specs.Grow.{Rooted, Grown, growNode, growFrom, grow}
 use Rattle.rules.specs.Split.{Pieces, split, allParts}
 use Rattle.edges.specs.Around.{arcHead, Around}
-use Rattle.split.specs.Settles.{Load, load}
+use Rattle.split.specs.Settles.{load}
 use Rattle.split.specs.SplitBelow.{unmarked, done, past}
 use Rattle.split.specs.Steps.{Tally, tally, partsCounted}
 use Rattle.split.specs.StepsBelow.{StepsBelow, steps-done, steps-past, steps-child, StepsFrom, no-roots, steps-root}
 use Rattle.split.proofs.Unvisited.{marks-kept, marked-now, unmarked-before}
 use Rattle.split.proofs.SplitAsRules.{MarksAre, Gives, node-as-rules}
-use Rattle.split.proofs.StepsMark.{HeadsMarked, Closes, still-marked, steps-close}
+use Rattle.split.proofs.StepsMark.{HeadsMarked, still-marked, steps-close}
 use Rattle.split.proofs.StepsCounted.{tally-on, Clear, Counted, steps-counted}
 
 -- Nothing is left to be grown from any vertex with a mark.

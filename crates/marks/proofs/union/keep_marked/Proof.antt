@@ -1,6 +1,6 @@
 -- `marks::union::keep_marked` meets its contract. The loop's invariant: the marked edges before i are taken.
 -- The measure is how many edges are left. Assumes nothing.
-use Prim.Native.Nat.{ℕ, _+_, _-_, _≤_, _<_}
+use Prim.Native.Nat.{ℕ, _-_, _<_}
 use mathlib.Core.Path.{_≡_, sym, ap, _∙_}
 use mathlib.Core.Bool.{true}
 use mathlib.Core.List.{List}

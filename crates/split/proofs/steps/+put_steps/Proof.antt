@@ -1,16 +1,16 @@
 -- Writing the steps below a vertex meets its contract. The measure is what is left to be visited: a child has no mark, and is marked before the call.
 -- Assumes nothing.
 use Prim.Native.Nat.{ℕ, _+_, _-_, _≤_, _<_}
-use mathlib.Core.Path.{_≡_, refl, sym, ap, _∙_}
-use mathlib.Core.Bool.{true, false}
+use mathlib.Core.Path.{_≡_}
+use mathlib.Core.Bool.{true}
 use native.Mathlib.Omega.{arith}
 use borrow.Author.Needs.{needs}
 use borrow.Author.Tests.{eq-eqb, ne-eqb}
 use borrow.Fn.Kinds.{In}
 use borrow.Fn.PlainCycle.{Measures, is, falls, and}
-use lib.ListN.{length, getD, set, length-set}
+use lib.ListN.{length, getD, length-set}
 use Rattle.lists.proofs.Put.{put-length}
-use Rattle.edges.specs.Around.{arcHead, arcWeight}
+use Rattle.edges.specs.Around.{arcWeight}
 use Rattle.split.specs.SplitBelow.{unmarked, unvisited}
 use Rattle.split.specs.Steps.{stepOf}
 use Rattle.split.proofs.StepsUnderway.{StepsUnderway, steps-first, steps-all, steps-past-by, below-fewer, below-asked, step-room, step-fits, steps-child-by}

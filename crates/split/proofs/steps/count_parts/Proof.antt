@@ -1,7 +1,7 @@
 -- `split::steps::count_parts` meets its contract. The loop's invariant: the pass over the steps that are left gives the answer, and what is left at each
 -- vertex is below the threshold, so that no sum wraps. The measure is how many steps are left. Assumes nothing.
-use Prim.Native.Nat.{ℕ, _+_, _-_, _≤_, _<_}
-use mathlib.Core.Path.{_≡_, refl, sym, ap, _∙_}
+use Prim.Native.Nat.{ℕ, _+_, _-_, _<_}
+use mathlib.Core.Path.{_≡_, refl}
 use native.Mathlib.Omega.{arith}
 use borrow.Author.Needs.{needs}
 use lib.ListN.{length, getD}

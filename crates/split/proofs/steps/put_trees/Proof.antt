@@ -1,10 +1,9 @@
 -- `split::steps::put_trees` meets its contract. The loop's invariant: the steps of the first j roots' trees are written.
 -- The measure is how many roots are left. Assumes nothing.
-use Prim.Native.Nat.{ℕ, _+_, _-_, _≤_, _<_}
-use mathlib.Core.Path.{_≡_, refl, sym, ap, _∙_}
+use Prim.Native.Nat.{_-_, _<_}
 use native.Mathlib.Omega.{arith}
 use borrow.Author.Needs.{needs}
-use lib.ListN.{length, getD}
+use lib.ListN.{length}
 use Rattle.lists.proofs.Put.{put-length}
 use Rattle.split.proofs.TreesUnderway.{TreesUnderway, trees-first, trees-done, root-asked, trees-more}
 use Rattle.split.proofs.steps.put_trees.Statement.{statement}
