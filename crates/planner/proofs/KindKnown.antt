@@ -12,11 +12,8 @@ use Rattle.rooted.specs.Prepared.{Prepared}
 use Rattle.rooted.specs.Answer as rooted-answer
 use Rattle.unrooted.specs.Answer as unrooted
 use Rattle.search.specs.Crews.{RootsGiven, CrewsReady}
+use Rattle.search.proofs.KindDecides.{one-kind}
 use Rattle.planner.specs.Asking.{ForestReady, AnswerAsked, LimitAsked}
-
--- Crews are of one kind only.
-one-kind : {kind : Kind} → kind ≡ Rooted → kind ≡ Unrooted → ⊥
-one-kind {kind} p q = let z : _≡_ {A = ℕ} 0 1 = cc in omega arith
 
 -- Everything is ready, for crews with roots,
 pub rooted-ready : {k room : ℕ} {b roots order kept bounds arcs table lasts : List ℕ} → RootsGiven b roots → Prepared b roots order kept bounds arcs table lasts

@@ -1,12 +1,17 @@
--- A decision at a limit, asked of crews whose kind is known.
+-- Crews whose kind is known, and what a decision at a limit asks of them.
 -- Assumes nothing.
 use Prim.Native.Nat.{ℕ}
 use mathlib.Core.Path.{_≡_}
 use mathlib.Core.List.{List}
+use native.Mathlib.Omega.{arith}
 use Rattle.cover.specs.declared.crews.Kind.{Kind}
-use Rattle.cover.specs.declared.crews.Kind.the-variants.{Rooted}
+use Rattle.cover.specs.declared.crews.Kind.the-variants.{Rooted, Unrooted}
 use Rattle.rooted.specs.Decide as rooted
 use Rattle.search.specs.Crews.{DecisionAsked}
+
+-- Crews are of one kind only.
+pub one-kind : {kind : Kind} → kind ≡ Rooted → kind ≡ Unrooted → ⊥
+one-kind {kind} p q = let z : _≡_ {A = ℕ} 0 1 = cc in omega arith
 
 -- What a decision by crews with roots asks.
 pub rooted-decision : {kind : Kind} {k limit : ℕ} {b roots kept bounds arcs table total until walk : List ℕ}

@@ -1,4 +1,4 @@
--- `search::search::search` meets its contract. The loop's invariant: from low and high, with the trials left, the search ends where it would have
+-- `search::limit::search` meets its contract. The loop's invariant: from low and high, with the trials left, the search ends where it would have
 -- ended. The measure is how many trials are left. Assumes nothing.
 use Prim.Native.Nat.{_+_, _-_, _/_, _≤_, _<_}
 use mathlib.Core.Path.{sym, _∙_}
@@ -7,8 +7,8 @@ use Rattle.graph.specs.Bytes.{graphOf}
 use Rattle.search.specs.Crews.{crewsWith}
 use Rattle.search.proofs.SearchLoop.{SearchUnderway, search-begins, high-moves, low-moves, ends-near, ends-spent}
 use borrow.Author.Needs.{needs}
-use Rattle.search.proofs.search.search.Statement.{statement}
-use Rattle.search.proofs.search.search.Tie as tie
+use Rattle.search.proofs.limit.search.Statement.{statement}
+use Rattle.search.proofs.limit.search.Tie as tie
 
 abbrev Inv-loop : tie.InvT-loop
 Inv-loop kind k b roots kept bounds arcs table total until walk sum budget low₀ high₀ left₀ low high left = SearchUnderway (graphOf b) (crewsWith kind k roots) sum budget low high left

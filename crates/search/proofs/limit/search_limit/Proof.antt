@@ -1,4 +1,4 @@
--- `search::search::search_limit` meets its contract: 0 is tried first, then 31 trials between 0 and the sum of all weights are enough.
+-- `search::limit::search_limit` meets its contract: 0 is tried first, then 31 trials between 0 and the sum of all weights are enough.
 -- Assumes nothing.
 use Prim.Native.Nat.{_≤_}
 use mathlib.Core.Path.{_≡_, sym, ap, _∙_}
@@ -13,8 +13,8 @@ use Rattle.planner_laws.proofs.BestLimit.{allWeights, sum-bounded}
 use Rattle.search.specs.Crews.{crewsWith}
 use Rattle.search.proofs.SearchLoop.{best-at-zero, best-searched, order-few}
 use borrow.Author.Needs.{needs}
-use Rattle.search.proofs.search.search_limit.Statement.{statement}
-use Rattle.search.proofs.search.search_limit.Tie as tie
+use Rattle.search.proofs.limit.search_limit.Statement.{statement}
+use Rattle.search.proofs.limit.search_limit.Tie as tie
 
 -- Where 0 is tried: the graph, and the crews.
 module _ (a : tie.After-accepts-at) where

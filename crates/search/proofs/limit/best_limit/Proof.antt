@@ -1,21 +1,22 @@
--- `search::search::best_limit` meets its contract: the walk is written, and the search goes by it. Assumes nothing.
+-- `search::limit::best_limit` meets its contract: the walk is written, and the search goes by it. Assumes nothing.
 use mathlib.Core.Path.{sym}
 use Prim.Native.Nat.{ℕ}
 use lib.ListN.{length-replicate}
 use lib.Seq.{length-take-le}
 use borrow.Author.Needs.{needs}
-use Rattle.search.proofs.search.best_limit.Statement.{statement}
-use Rattle.search.proofs.search.best_limit.Tie as tie
+use Rattle.search.proofs.limit.best_limit.Statement.{statement}
+use Rattle.search.proofs.limit.best_limit.Tie as tie
 
--- Where the walk is written: what was asked.
-abbrev start : tie.After-write-walk → tie.Start
-start w = let d = w .before .before .before .before in let e = d .before .before .before .before in e .before .before
+-- Where there is an array for the walk: what was asked.
+abbrev start : tie.After-walk → tie.Start
+start a = let d = a .before .before .before .before in let e = d .before .before .before .before in e .before .before
 
 slice-aggregate-write-walk : tie.Need-slice-aggregate-write-walk
 slice-aggregate-write-walk c = search needs
 
 write-walk-requires : tie.Need-write-walk-requires
-write-walk-requires c κs = ?
+write-walk-requires c κs =
+    record { kept = start c .args .kept .now; table = start c .args .table .now; decidable = start c .pre .crews .ready .decidable; room = length-replicate {A = ℕ} 256 0 }
 
 array-share-prefix-walk : tie.Need-array-share-prefix-walk
 array-share-prefix-walk c = search needs
@@ -24,7 +25,7 @@ slice-aggregate-search-limit : tie.Need-slice-aggregate-search-limit
 slice-aggregate-search-limit c = let w = c .before .before in sym (length-take-le _ _ (w .write-walk .ensures .fits))
 
 search-limit-requires : tie.Need-search-limit-requires
-search-limit-requires c κs = let w = c .before .before in record { asked = start w .pre; walked = w .write-walk .ensures .walked }
+search-limit-requires c κs = let w = c .before .before in record { asked = start (w .before) .pre; walked = w .write-walk .ensures .walked }
 
 returns : tie.Need-returns
 returns c = search needs

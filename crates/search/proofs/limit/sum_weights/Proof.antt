@@ -1,4 +1,4 @@
--- `search::search::sum_weights` meets its contract. The loop's invariant: the weights of the edges before i are added up.
+-- `search::limit::sum_weights` meets its contract. The loop's invariant: the weights of the edges before i are added up.
 -- The measure is how many are left. Assumes nothing.
 use Prim.Native.Nat.{_-_}
 use native.Mathlib.Omega.{arith}
@@ -6,8 +6,8 @@ use lib.ListN.{length}
 use Rattle.graph.specs.Bytes.{graphOf}
 use Rattle.search.proofs.SearchLoop.{SumUnderway, sum-begins, sum-goes-on, sum-ends}
 use borrow.Author.Needs.{needs}
-use Rattle.search.proofs.search.sum_weights.Statement.{statement}
-use Rattle.search.proofs.search.sum_weights.Tie as tie
+use Rattle.search.proofs.limit.sum_weights.Statement.{statement}
+use Rattle.search.proofs.limit.sum_weights.Tie as tie
 
 abbrev Inv-loop : tie.InvT-loop
 Inv-loop b edges sum₀ i₀ sum i = SumUnderway (graphOf b) edges i sum
