@@ -11,8 +11,9 @@ use Rattle.cover.specs.declared.crews.Kind.the-variants.{Rooted, Unrooted}
 use Rattle.rooted.specs.Prepared.{Prepared}
 use Rattle.rooted.specs.Answer as rooted-answer
 use Rattle.unrooted.specs.Answer as unrooted
-use Rattle.search.specs.Crews.{RootsGiven, CrewsReady}
+use Rattle.search.specs.Crews.{CrewsReady}
 use Rattle.search.proofs.KindDecides.{one-kind}
+use Rattle.prepare.specs.Preparing.{RootsGiven}
 use Rattle.planner.specs.Asking.{ForestReady, AnswerAsked, LimitAsked}
 
 -- Everything is ready, for crews with roots,

@@ -8,7 +8,7 @@ use native.Mathlib.Omega.{arith}
 use lib.Dec.{leb}
 use borrow.Author.Tests.{leb-true}
 use Rattle.graph.specs.Graph.{Graph, edgeCount}
-use Rattle.planner.specs.Preparing.{SizeTold, RootedRoom}
+use Rattle.prepare.specs.Preparing.{SizeTold, RootedRoom}
 
 pub room-for-fewer : {n m k N M K order kept bounds all arcs table lasts : ℕ} → n ≤ N → m ≤ M → k ≤ K → RootedRoom N M K order kept bounds all arcs table lasts
     → RootedRoom n m k order kept bounds all arcs table lasts

@@ -26,8 +26,8 @@ use Rattle.rooted.specs.Decide.{NoCoverAsked}
 use Rattle.needs.specs.Given.{ForestKept}
 use Rattle.planner.specs.declared.ask.Asked.{Asked}
 use Rattle.planner.specs.declared.ask.Asked.the-variants.{At, Best}
-use Rattle.search.specs.Crews.{RootsGiven, CrewsReady}
-use Rattle.planner.specs.Preparing.{Small, RootedRoom}
+use Rattle.search.specs.Crews.{CrewsReady}
+use Rattle.prepare.specs.Preparing.{RootsGiven, Small, RootedRoom}
 
 -- The limit at which the answer is written.
 abbrev pub limitOf : Asked → Graph → cover.Crews → ℕ

@@ -2,14 +2,14 @@
 // what a question about a small graph costs.
 use crate::ask::Asked;
 use crate::ask::answer_asked;
-use crate::prepare::prepare_rooted;
 use cover::crews::Kind;
 use pieces::reply::Reply;
+use prepare::prepare_rooted;
 ghost use lib.ListN.{length};
 ghost use Rattle.graph.specs.Bytes.{graphOf};
 ghost use Rattle.rules.specs.Cover.{rooted};
 ghost use Rattle.planner.specs.Asking.{Answered, RootedAsked, RootedLent, RootedSmall};
-ghost use Rattle.planner.specs.Preparing.{SizeTold};
+ghost use Rattle.prepare.specs.Preparing.{SizeTold};
 
 // Prepares the question in the arrays that are lent, and answers it.
 fn ask_rooted_in(

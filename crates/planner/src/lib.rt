@@ -4,5 +4,4 @@ pub mod answer;
 pub mod ask;
 pub mod ask_rooted;
 pub mod ask_unrooted;
-pub mod prepare;
 pub mod question;

@@ -1,10 +1,10 @@
 -- The crews of a question below the entry point: a kind, their number, and a root for each where they have roots.
 -- Assumes nothing.
-use Prim.Native.Nat.{ℕ, _≤_, _<_}
+use Prim.Native.Nat.{ℕ, _≤_}
 use mathlib.Core.Path.{_≡_}
 use mathlib.Core.Bool.{false}
 use mathlib.Core.List.{List}
-use lib.ListN.{length, getD}
+use lib.ListN.{length}
 use Rattle.graph.specs.Bytes.{graphOf}
 use Rattle.graph.specs.Valid.{IsGraph}
 use Rattle.rules.specs.Cover as cover
@@ -18,13 +18,6 @@ use Rattle.unrooted.specs.Answer.{HistoryReady}
 abbrev pub crewsWith : Kind → ℕ → List ℕ → cover.Crews
 crewsWith Rooted k roots = cover.rooted roots
 crewsWith Unrooted k roots = cover.unrooted k
-
--- A graph's bytes, and roots among its vertices, at least one and at most 32.
-pub record RootsGiven (b roots : List ℕ) : Type 0 where
-  pub graph : IsGraph b
-  pub inside : (j : ℕ) → j < length roots → getD roots j 0 < graphOf b .vertices
-  pub some : 1 ≤ length roots
-  pub few : length roots ≤ 32
 
 -- What crews read at every limit, each kind its own: with roots the whole forest with the edges around each vertex, and the distances; without roots
 -- the whole forest and the history of its merges. Of what only the other kind reads nothing is said.

@@ -1,9 +1,9 @@
--- `planner::prepare::prepare_unrooted` meets its contract: the forest, and the history of its merges. Assumes nothing.
+-- `prepare::prepare_unrooted` meets its contract: the forest, and the history of its merges. Assumes nothing.
 use mathlib.Core.Path.{sym}
 use lib.Seq.{length-take-le}
 use borrow.Author.Needs.{needs}
-use Rattle.planner.proofs.prepare.prepare_unrooted.Statement.{statement}
-use Rattle.planner.proofs.prepare.prepare_unrooted.Tie as tie
+use Rattle.prepare.proofs.prepare_unrooted.Statement.{statement}
+use Rattle.prepare.proofs.prepare_unrooted.Tie as tie
 
 slice-aggregate-keep-forest : tie.Need-slice-aggregate-keep-forest
 slice-aggregate-keep-forest c = search needs

@@ -1,5 +1,6 @@
 // What depends on the graph and the crews alone, prepared once a question: the edges in order and the whole forest; with roots the edges around each
 // vertex of it and the distances from all roots; without roots the history of its merges. Each kind prepares only what it reads.
+// The words of the contracts stand in specs/ and in the definitions of the crate `rules`.
 use edges::around::put_around;
 use edges::order::order_edges;
 use marks::table::fill_table;
@@ -10,7 +11,7 @@ use pieces::whole::keep_whole;
 ghost use lib.ListN.{length};
 ghost use Rattle.graph.specs.Bytes.{graphOf};
 ghost use Rattle.marks.specs.Table.{Tabled};
-ghost use Rattle.planner.specs.Preparing.{ForestAsked, ForestPrepared, DistancesAsked, RootedPreparable, RootedPrepared, UnrootedPreparable, UnrootedPrepared};
+ghost use Rattle.prepare.specs.Preparing.{ForestAsked, ForestPrepared, DistancesAsked, RootedPreparable, RootedPrepared, UnrootedPreparable, UnrootedPrepared};
 
 // How many edges there are, and how many of them the whole forest has.
 pub struct Ready {
@@ -60,7 +61,7 @@ fn prepare_distances(
 
 // Everything that crews with roots read. The distances come first, so that the arrays of their scratch serve again: the arcs over all edges become
 // the keys of the order, and the arcs over the forest are its spare before they are put.
-pub(crate) fn prepare_rooted(
+pub fn prepare_rooted(
     b: &[u8],
     roots: &[u16],
     order: &mut [u16],
@@ -82,7 +83,7 @@ pub(crate) fn prepare_rooted(
 }
 
 // Everything that crews without roots read.
-pub(crate) fn prepare_unrooted(
+pub fn prepare_unrooted(
     b: &[u8],
     keys: &mut [u64],
     spare: &mut [u64],

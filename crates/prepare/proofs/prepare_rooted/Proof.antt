@@ -1,4 +1,4 @@
--- `planner::prepare::prepare_rooted` meets its contract: the distances, the forest, and the arcs over the forest. Assumes nothing.
+-- `prepare::prepare_rooted` meets its contract: the distances, the forest, and the arcs over the forest. Assumes nothing.
 use mathlib.Core.Path.{_≡_, sym}
 use native.Mathlib.Omega.{arith}
 use lib.ListN.{length, take}
@@ -10,8 +10,8 @@ use Rattle.rules.specs.Labels.{together}
 use Rattle.forest_laws.proofs.Keeping.{kept-subset, kept-once}
 use Rattle.forest_laws.proofs.Ordering.{of-ordered}
 use borrow.Author.Needs.{needs}
-use Rattle.planner.proofs.prepare.prepare_rooted.Statement.{statement}
-use Rattle.planner.proofs.prepare.prepare_rooted.Tie as tie
+use Rattle.prepare.proofs.prepare_rooted.Statement.{statement}
+use Rattle.prepare.proofs.prepare_rooted.Tie as tie
 
 -- Where the forest is kept: the distances are tabled.
 module _ (k : tie.After-keep-forest) where

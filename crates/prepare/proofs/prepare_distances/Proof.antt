@@ -1,4 +1,4 @@
--- `planner::prepare::prepare_distances` meets its contract: the table is filled over the arcs of all edges. Assumes nothing.
+-- `prepare::prepare_distances` meets its contract: the table is filled over the arcs of all edges. Assumes nothing.
 use mathlib.Core.Path.{_≡_, sym, ap, _∙_}
 use native.Mathlib.Omega.{arith}
 use lib.ListN.{length, take}
@@ -9,8 +9,8 @@ use Rattle.lists.proofs.Runs.{length-below}
 use Rattle.graph.specs.Graph.{Graph, edgeCount}
 use Rattle.graph.specs.Bytes.{graphOf}
 use borrow.Author.Needs.{needs}
-use Rattle.planner.proofs.prepare.prepare_distances.Statement.{statement}
-use Rattle.planner.proofs.prepare.prepare_distances.Tie as tie
+use Rattle.prepare.proofs.prepare_distances.Statement.{statement}
+use Rattle.prepare.proofs.prepare_distances.Tie as tie
 
 -- Where all edges are numbered,
 module _ (u : tie.After-number-up) where

@@ -14,8 +14,14 @@ use Rattle.rules.specs.Forest.{keep}
 use Rattle.edges.specs.Order.{RoomForOrder}
 use Rattle.rooted.specs.Prepared.{Prepared}
 use Rattle.unrooted.specs.Answer.{HistoryReady}
-use Rattle.planner.specs.declared.prepare.Ready.{Ready}
-use Rattle.search.specs.Crews.{RootsGiven}
+use Rattle.prepare.specs.declared.Ready.{Ready}
+
+-- A graph's bytes, and roots among its vertices, at least one and at most 32.
+pub record RootsGiven (b roots : List ℕ) : Type 0 where
+  pub graph : IsGraph b
+  pub inside : (j : ℕ) → j < length roots → getD roots j 0 < graphOf b .vertices
+  pub some : 1 ≤ length roots
+  pub few : length roots ≤ 32
 
 -- A graph's bytes, and room for the order of its edges and for its forest.
 pub record ForestAsked (b : List ℕ) (keys spare order kept : ℕ) : Type 0 where

@@ -1,4 +1,4 @@
--- `planner::prepare::keep_forest` meets its contract: the order is written, and the forest is kept of it. Assumes nothing.
+-- `prepare::keep_forest` meets its contract: the order is written, and the forest is kept of it. Assumes nothing.
 use mathlib.Core.Path.{_≡_, sym, ap, _∙_}
 use native.Mathlib.Omega.{arith}
 use lib.ListN.{length, take}
@@ -6,8 +6,8 @@ use Rattle.lists.proofs.Put.{put-count, put-taken, put-fits, put-length}
 use Rattle.graph.specs.Bytes.{graphOf}
 use Rattle.rules.specs.Order.{ordered}
 use borrow.Author.Needs.{needs}
-use Rattle.planner.proofs.prepare.keep_forest.Statement.{statement}
-use Rattle.planner.proofs.prepare.keep_forest.Tie as tie
+use Rattle.prepare.proofs.keep_forest.Statement.{statement}
+use Rattle.prepare.proofs.keep_forest.Tie as tie
 
 -- Where the edges are in order.
 module _ (o : tie.After-order-edges) where

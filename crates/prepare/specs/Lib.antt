@@ -1,0 +1,3 @@
+-- What the contracts of `prepare` say.
+-- what is prepared once a question, step by step
+pub mod Preparing
