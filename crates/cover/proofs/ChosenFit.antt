@@ -16,7 +16,7 @@ use Rattle.graph.specs.Valid.{Valid}
 use Rattle.rules.specs.Cover.{Tree, IsTree}
 use Rattle.rules.specs.CoverBytes.{entryEdges}
 use Rattle.rules.specs.Held.{treesAt}
-use Rattle.cover_laws.proofs.CoverSize.{trees-length, parts-bytes-few}
+use Rattle.cover_laws.proofs.CoverSize.{trees-length}
 use Rattle.cover.specs.Chosen.{AllHeld, Writable}
 use Rattle.cover.proofs.ChosenBytes.{chosen-trees, chosen-edges}
 
@@ -43,10 +43,3 @@ module _ (starts bounds edges chosen : List ℕ) where
     -- None chosen twice, they have no more entries than the layout has elements.
     pub bounded-entries : Once chosen → length (entryEdges (treesAt starts bounds edges chosen)) ≤ used
     bounded-entries once = omega (arith, chosen-entries, chosen-sizes bounds edges b inside chosen once below-k)
-
-    -- At most 33 of them, in a layout of fewer than 256 elements.
-    pub parts-writable : {room : ℕ} → 32708 ≤ room → Once chosen → length chosen ≤ 33 → used < 256 → Writable starts bounds edges chosen room
-    parts-writable most once few light =
-        let parts = treesAt starts bounds edges chosen in
-        let few-parts : length parts ≤ 33 = omega (arith, chosen-trees starts bounds edges chosen) in
-        record { held = bounded-held; fits = omega (arith, parts-bytes-few parts few-parts (omega (arith, bounded-entries once))) }

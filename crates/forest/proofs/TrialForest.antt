@@ -8,27 +8,16 @@ use lib.ListN.{take}
 use Rattle.lists.specs.Put.{PutTo}
 use Rattle.lists.proofs.Put.{put-taken}
 use Rattle.graph.specs.Graph.{Graph}
-use Rattle.rules.specs.Labels.{Labels, mergeAll}
-use Rattle.rules.specs.Order.{ordered, ByWeight, light}
-use Rattle.rules.specs.Forest.{keep, forest, labelsAt}
-use Rattle.forest_laws.proofs.Keeping.{kept-in-order, kept-merges}
-use Rattle.forest_laws.proofs.Ordering.{ordered-by-weight}
+use Rattle.rules.specs.Labels.{Labels}
+use Rattle.rules.specs.Order.{ordered, light}
+use Rattle.rules.specs.Forest.{keep, forest}
 use Rattle.forest_laws.proofs.Limit.{forest-within}
 use Rattle.forest.specs.Arrays.{Agrees}
 use Rattle.forest.specs.Keeping.{KeptWritten}
 use Rattle.edges.specs.Light.{lightOf, LightFront}
 
--- The whole forest stands by weight, as `light_count` asks.
-pub forest-by-weight : (g : Graph) (label : Labels) → ByWeight g (keep g label (ordered g))
-forest-by-weight g label = kept-in-order g label (ordered g) (ordered-by-weight g)
-
 module _ {g : Graph} (label : Labels) where
   module _ (limit : ℕ) {edges : List ℕ} {c : ℕ} (l : LightFront g limit edges c) where
-    -- Of all edges in order those within the limit are the first.
-    pub light-is-front : edges ≡ ordered g → take c edges ≡ light g limit
-    unfolding light
-    light-is-front q = l .front ∙ ap (lightOf g limit) q
-
     -- Of the whole forest those within the limit are the first, and they are the forest at the limit: one forest serves all limits.
     pub forest-is-front : edges ≡ keep g label (ordered g) → take c edges ≡ forest g label limit
     forest-is-front q = l .front ∙ ap (lightOf g limit) q ∙ sym (forest-within g label limit)
@@ -48,12 +37,3 @@ module _ {g : Graph} (label : Labels) where
     pub limit-forest : (limit : ℕ) → edges ≡ light g limit → PutTo 0 (forest g label limit) kept₀ kept₁ r
     unfolding forest
     limit-forest limit q = rw q at (k .edges-are label start)
-
-    pub limit-labels : (limit : ℕ) → edges ≡ light g limit → Agrees (g .vertices) label₁ (labelsAt g label limit)
-    unfolding labelsAt
-    limit-labels limit q = rw q at (k .labels label start)
-
-    -- Over the forest's edges within a limit: the same labels.
-    pub forest-labels : (limit : ℕ) → edges ≡ forest g label limit → Agrees (g .vertices) label₁ (labelsAt g label limit)
-    unfolding labelsAt forest
-    forest-labels limit q = rw (sym (kept-merges g label (light g limit)) ∙ ap (mergeAll g label) (sym q)) (k .labels label start)

@@ -16,7 +16,7 @@ use Rattle.lists.proofs.Every.{first-false, second-false}
 use Rattle.graph.specs.Graph.{Edge, Graph, edgeCount, edgeAt}
 use Rattle.graph.specs.Bytes.{verticesIn, edgesIn, lengthFor, graphOf}
 use Rattle.graph.specs.Fault.{Fault, faultIf, refusedOr}
-use Rattle.graph.specs.Check.{yes, number, edgeFault, headFault, answerTo, checkOf}
+use Rattle.graph.specs.Check.{yes, edgeFault, headFault, answerTo, checkOf}
 use Rattle.graph.specs.Valid.{ValidEdge, IsGraph, Counted}
 use Rattle.graph.proofs.Decoded.{vertices-head, edges-sized}
 use Rattle.graph.proofs.Faults.{quiet-if, quiet-each}
@@ -109,7 +109,3 @@ module _ (b : List ℕ) where
   -- The check says yes exactly to graphs, with their counts.
   pub check-exactly : (n m : ℕ) → (checkOf b ≡ yes n m) ↔ Counted b n m
   check-exactly n m = (yes-graph, λ (k : Counted b n m). graph-yes (k .graph) ∙ cc)
-
-  -- What the check refuses is no graph's bytes.
-  pub refused-none : {k : ℕ} → checkOf b ≡ number k → IsGraph b → ⊥
-  refused-none q h = let y = graph-yes h in let z : _≡_ {A = ℕ} 0 1 = cc in omega arith

@@ -5,7 +5,6 @@ use Prim.Native.Nat.{ℕ}
 use mathlib.Core.List.{List}
 use denote.Ref.{now}
 use Rattle.graph.specs.Bytes.{graphOf}
-use Rattle.graph.specs.Valid.{Counted}
 use Rattle.graph.specs.View.{CountsOf, Views}
 use Rattle.graph.specs.declared.view.View.{View}
 
@@ -16,7 +15,3 @@ views-own v b h =
       bytes-are = refl;
       counts = subst (λ (x : List ℕ). CountsOf (graphOf x) (v .vertices) (v .edges)) (sym (h .bytes-are)) (h .counts);
     }
-
--- Bytes that the check counted have these counts: what the readers with counts ask.
-pub counted-counts : {b : List ℕ} {n m : ℕ} → Counted b n m → CountsOf (graphOf b) n m
-counted-counts k = record { vertices-are = k .vertices-are; edges-are = k .edges-are }

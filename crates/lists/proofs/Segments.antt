@@ -1,16 +1,15 @@
 -- Segments by bounds: one more bound adds one more segment and keeps the others.
 -- Assumes nothing.
 use Prim.Native.Nat.{ℕ, _+_, _≤_, _<_}
-use mathlib.Core.Path.{_≡_, refl}
-use mathlib.Core.List.{List, [], _∷_, _++_}
+use mathlib.Core.Path.{_≡_}
+use mathlib.Core.List.{List}
 use mathlib.Core.Logic.{dite}
 use native.Mathlib.Decide.{ℕ-discrete}
 use native.Mathlib.Omega.{arith}
 use lib.ListN.{length, take, getD, set}
 use lib.Seq.{slice, getD-set-same, getD-set-other}
-use Rattle.lists.proofs.Numbered.{map-below-more}
 use Rattle.lists.proofs.Stores.{slice-same}
-use Rattle.lists.specs.Segments.{segment, segments, Bounded}
+use Rattle.lists.specs.Segments.{segment, Bounded}
 
 module _ {bounds : List ℕ} {k used : ℕ} (b : Bounded bounds k used) (last : ℕ) where
   -- the bound of a number that was there is as it was
@@ -31,12 +30,6 @@ module _ {bounds : List ℕ} {k used : ℕ} (b : Bounded bounds k used) (last : 
     unfolding segment
     segment-new ys = rw (bound-kept k (omega arith), getD-set-same bounds (k + 1) last 0 room, b .last)
 
-    -- one segment more
-    pub segments-more : {A : Type 0} (xs ys : List A) → take used ys ≡ take used xs
-        → segments (set bounds (k + 1) last) ys (k + 1) ≡ segments bounds xs k ++ (slice used last ys ∷ [])
-    unfolding segments
-    segments-more xs ys q = map-below-more (segment bounds xs) (segment (set bounds (k + 1) last) ys) k _ (segment-kept xs ys q) (segment-new ys)
-
     -- the bounds are those of one segment more
     pub bounded-more : used ≤ last → Bounded (set bounds (k + 1) last) (k + 1) last
     bounded-more h =
@@ -53,7 +46,3 @@ module _ {bounds : List ℕ} {k used : ℕ} (b : Bounded bounds k used) (last : 
               (λ e. rw e (omega (arith, bound-kept k (omega arith), b .last, getD-set-same bounds (k + 1) last 0 room)))
               (λ e. omega (arith, bound-kept i (omega arith), bound-kept (i + 1) (omega arith), b .rising i (omega arith)));
         }
-
--- The last bound says how many elements are taken up.
-pub bounded-last : {bounds : List ℕ} {k used : ℕ} → Bounded bounds k used → Bounded bounds k (getD bounds k 0)
-bounded-last b = record { last = refl; within = λ i l. omega (arith, b .within i l, b .last); rising = b .rising }

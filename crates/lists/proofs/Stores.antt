@@ -1,13 +1,13 @@
--- A run of stores into a list: what stands before it, what it stored, and what stands behind it. Segments of a list.
+-- A run of stores into a list leaves what stands behind it. Segments of a list.
 -- Assumes nothing.
-use Prim.Native.Nat.{ℕ, zero, suc, _+_, _-_, _≤_, _<_}
+use Prim.Native.Nat.{ℕ, suc, _+_, _-_, _≤_, _<_}
 use mathlib.Core.Path.{_≡_, refl, sym, ap, _∙_}
-use mathlib.Core.List.{List, [], _∷_, _++_, append-assoc, List·Memᴰ·head, List·Memᴰ·tail, Memᴰ·cast}
+use mathlib.Core.List.{List, [], _∷_, _++_, Memᴰ·cast}
 use native.Mathlib.Omega.{arith}
-use lib.ListN.{length, take, drop, getD, set, length-append, take-append-drop}
+use lib.ListN.{length, take, drop, getD, set, take-append-drop}
 use Rattle.lists.specs.Member.{_∈_}
 use Rattle.lists.proofs.Places.{at-place}
-use lib.Seq.{sets, sets-eq, slice, take-at, drop-at, take-take, drop-append-le, length-take-le, getD-set-other, getD-drop, getD-take, length-slice}
+use lib.Seq.{sets, slice, take-take, drop-append-le, length-take-le, getD-set-other, getD-drop, getD-take, length-slice}
 
 module _ {A : Type 0} where
   -- the elements up to c are those up to b, then those from b to c
@@ -22,22 +22,6 @@ module _ {A : Type 0} where
   -- lists that begin alike have the same segments there
   pub slice-same : (a b c : ℕ) (l m : List A) → b ≤ c → take c l ≡ take c m → slice a b l ≡ slice a b m
   slice-same a b c l m h q = ap (drop a) (sym (take-take b c l h) ∙ ap (take b) q ∙ take-take b c m h)
-
-  module _ (l : List A) (i : ℕ) (vs : List A) (h : i + length vs ≤ length l) where
-    stored-length : length (take i l) ≡ i
-    stored-length = length-take-le i l (omega arith)
-
-    -- before a run of stores
-    pub take-sets : take i (sets l i vs) ≡ take i l
-    take-sets = ap (take i) (sets-eq vs l i h ∙ append-assoc (take i l) vs (drop (i + length vs) l)) ∙ take-at (take i l) _ i stored-length
-
-    -- what was stored
-    pub slice-sets : slice i (i + length vs) (sets l i vs) ≡ vs
-    slice-sets =
-        let p : length (take i l ++ vs) ≡ i + length vs = length-append (take i l) vs ∙ ap (λ (k : ℕ). k + length vs) stored-length in
-        ap (slice i (i + length vs)) (sets-eq vs l i h)
-        ∙ ap (drop i) (take-at (take i l ++ vs) (drop (i + length vs) l) (i + length vs) p)
-        ∙ drop-at (take i l) vs i stored-length
 
   -- behind a run of stores
   pub getD-sets-past : (l : List A) (i : ℕ) (vs : List A) (j : ℕ) (d : A) → i + length vs ≤ j → getD (sets l i vs) j d ≡ getD l j d

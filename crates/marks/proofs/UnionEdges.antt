@@ -4,11 +4,10 @@ use Prim.Native.Nat.{ℕ, _<_}
 use mathlib.Core.Path.{_≡_, refl, ap, _∙_}
 use mathlib.Core.Bool.{Bool, true, false, cond}
 use mathlib.Core.List.{List, []}
-use lib.ListN.{getD, take}
+use lib.ListN.{getD}
 use lib.Dec.{eqb}
 use Rattle.lists.specs.Lists.{filter, any, member}
 use Rattle.lists.specs.Sort.{rise}
-use Rattle.lists.proofs.Put.{put-taken}
 use Rattle.lists.proofs.SameTests.{filter-same}
 use Rattle.graph.specs.Graph.{Graph, edgeCount}
 use Rattle.matching.specs.Assignment.{marked}
@@ -17,7 +16,6 @@ use Rattle.rules.specs.Labels.{apart, together}
 use Rattle.rules.specs.Forest.{keep}
 use Rattle.rules.specs.RootedTrial.{unionTree}
 use Rattle.forest_laws.proofs.Ordering.{of-ordered}
-use Rattle.marks.specs.Union.{UnionKept}
 
 -- Where no vertices are joined from the start, each is its own label.
 pub none-together : (v : ℕ) → together [] v ≡ apart v
@@ -36,11 +34,6 @@ module _ (g : Graph) (root : ℕ) (union marks : List ℕ) where
       ap (λ l. rise (keep g apart l))
       (filter-same (marked marks) (λ e. member e union) (ordered g)
       (λ e m. ap (λ x. eqb x 1) (q e (of-ordered g m)) ∙ mark-says (member e union)))
-
-  -- So the edges that were written are the tree's, once they rise.
-  pub union-written : ((e : ℕ) → e < edgeCount g → getD marks e 0 ≡ cond (member e union) 1 0)
-      → {before after : List ℕ} {r : ℕ} → UnionKept g (ordered g) marks before after r → rise (take r after) ≡ unionTree g root union .edges
-  union-written q k = ap rise (put-taken (k .kept)) ∙ union-edges q
 
 -- A union's tree depends only on which edges are in the union.
 pub union-same : (g : Graph) (root : ℕ) (xs ys : List ℕ) → ((e : ℕ) → member e xs ≡ member e ys) → unionTree g root xs ≡ unionTree g root ys

@@ -1,7 +1,7 @@
 -- For callers of `split_forest`: how many pieces there are, and the parts and the leftovers by their numbers.
 -- Assumes nothing.
-use Prim.Native.Nat.{ℕ, zero, suc, _+_, _-_, _≤_, _<_}
-use mathlib.Core.Path.{_≡_, refl, sym, ap, _∙_}
+use Prim.Native.Nat.{ℕ, _+_, _<_}
+use mathlib.Core.Path.{_≡_, sym, ap, _∙_}
 use mathlib.Core.List.{List, [], map, map-map, map-id}
 use native.Mathlib.Omega.{arith}
 use lib.ListN.{length, getD, length-map, List·getD-map}
@@ -16,9 +16,9 @@ use Rattle.rules.specs.Grow.{none, Rooted, grow}
 use Rattle.rules.specs.Split.{Pieces, partAt, splitAt, split, allParts}
 use Rattle.rules.specs.RootedTrial.{partOf, leftAt}
 use Rattle.split_laws.proofs.Trees.{grow-roots}
-use Rattle.split.specs.Pieces.{leftOf, piecesOf, leftPlaces, partPlaces, firstPiece}
+use Rattle.split.specs.Pieces.{leftOf, piecesOf, leftPlaces, partPlaces}
 use Rattle.split.specs.ForestSplit.{Lent, Splits}
-use Rattle.split.proofs.PiecesOf.{noPieces, PartsOf, piecesFor, pieces-length, lefts-below, parts-placed, lefts-placed, tree-placed, part-placed}
+use Rattle.split.proofs.PiecesOf.{piecesFor, pieces-length, lefts-below, parts-placed, lefts-placed}
 
 module _ {g : Graph} {edges roots : List ℕ} {H : ℕ} {a z : Lent} {r used : ℕ} (x : Splits g edges roots H a z r used) where
   -- The trees of the roots, and what each is split into.
@@ -70,15 +70,9 @@ module _ {g : Graph} {edges roots : List ℕ} {H : ℕ} {a z : Lent} {r used : �
       let n : length (partPlaces 0 pieces) ≡ length (allParts pieces) = sym (length-map (partPlaces 0 pieces) piece) ∙ ap length (parts-placed g H piece trees 0 r all) in
       sym (same-images piece (λ (t : Tree). t) (partPlaces 0 pieces) (allParts pieces) q 0 (record { start = 0; edges = [] }) i (omega arith))
 
-  -- The array has the number of root j's leftover,
+  -- The array has the number of root j's leftover.
   pub left-place : (j : ℕ) → j < length roots → getD (z .lefts) j 0 ≡ getD (leftPlaces 0 pieces) j 0
   left-place j l = sym (getD-take (length roots) (z .lefts) j 0 l) ∙ ap (λ (xs : List ℕ). getD xs j 0) (put-taken (x .lefts))
-
-  -- and so of its tree's first piece.
-  first-place : (j : ℕ) → j < length roots → firstPiece 0 (z .lefts) j ≡ firstPiece 0 (leftPlaces 0 pieces) j
-  unfolding firstPiece
-  first-place zero l = refl
-  first-place (suc j) l = ap (λ (k : ℕ). k + 1) (left-place j (omega arith))
 
   module _ (j : ℕ) (l : j < length roots) where
     -- What is left at root j is the piece of that number.
@@ -92,23 +86,6 @@ module _ {g : Graph} {edges roots : List ℕ} {H : ℕ} {a z : Lent} {r used : �
         ∙ same-images piece left (leftPlaces 0 pieces) trees (lefts-placed g H piece trees 0 r all) 0 t j (omega arith)
         ∙ ap (λ (v : ℕ). partAt v (split g H (getD trees j t) .left)) (sym (List·getD-map (λ (u : Rooted). u .root) trees j t) ∙ ap (λ (rs : List ℕ). getD rs j 0) (grow-roots g edges roots))
         ∙ ap (λ (p : Pieces). partAt (getD roots j 0) (p .left)) (sym (List·getD-map (split g H) trees j t))
-
-    -- The parts of root j's tree stand from its first piece on, up to its leftover.
-    pub root-parts : PartsOf piece (z .lefts) 0 (getD pieces j noPieces) j
-    root-parts =
-        let y = tree-placed g H piece trees 0 r all j (omega (arith, trees-count)) in
-        record {
-          behind = rw (first-place j l) (y .behind);
-          count = rw (left-place j l, first-place j l) (y .count);
-          parts = rw (first-place j l) (y .parts);
-        }
-
-    -- A piece of root j's tree before its leftover is the part whose number is less by j, the leftovers before it.
-    pub root-part : (i : ℕ) → firstPiece 0 (z .lefts) j ≤ i → i < getD (z .lefts) j 0 → partOf (allParts pieces) (i - j) ≡ piece i
-    unfolding partOf
-    root-part i lo hi =
-        let e : i - j ≡ i - (0 + j) = omega arith in
-        rw e (part-placed g H piece trees 0 r all j i (omega (arith, trees-count)) (omega (arith, first-place j l)) (omega (arith, left-place j l)))
 
     -- The leftover's number is that of a piece.
     pub left-below : getD (z .lefts) j 0 < r

@@ -3,7 +3,7 @@
 -- its own edge, and pieces joined to the same vertex make a bunch joined to that vertex.
 -- Assumes nothing.
 use Prim.Native.Nat.{ℕ}
-use mathlib.Core.Path.{refl, sym, subst}
+use mathlib.Core.Path.{refl}
 use mathlib.Core.List.{List, _∷_, _++_, List·Memᴰ·head, List·Memᴰ·tail, List·Memᴰ·not-nil, Memᴰ·append-left, Memᴰ·append-right, List·Memᴰ·append-cases}
 use mathlib.Core.Logic.{_⊎_, inl, inr}
 use Rattle.lists.specs.Member.{_∈_}
@@ -72,14 +72,6 @@ module _ (g : Graph) (H v : ℕ) (bunch : List ℕ) (b : Branches) (hangs : Hang
   -- Each part is joined to its start, which is v or a child, and an end of one of its edges;
   pub parts-connected : {t : Tree} → t ∈ splitAt g H v bunch b .parts → Connected g (λ x. x ∈ (v ∷ children b)) t
   parts-connected {t} m = both .of-parts t m
-
-  -- so what holds of v and the children holds of it;
-  pub part-start : (S : ℕ → Type 0) → S v → ((c : ℕ) → c ∈ children b → S c) → {t : Tree} → t ∈ splitAt g H v bunch b .parts → S (t .start)
-  part-start S here all m = go (parts-connected m .start-in)
-    where
-      go : {x : ℕ} → x ∈ (v ∷ children b) → S x
-      go (List·Memᴰ·head q) = subst S (sym q) here
-      go {x} (List·Memᴰ·tail n) = all x n
 
   -- what is left is joined to v.
   pub left-connected : JoinedTo g v (splitAt g H v bunch b .left)

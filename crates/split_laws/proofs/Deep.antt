@@ -147,10 +147,6 @@ module _ (g : Graph) (edges : List ℕ) (inside : Inside g edges) where
       go done (inl (List·Memᴰ·tail n)) = inl n
       go done (inr n) = inr n
 
-  -- A depth of at least the number of vertices unpassed is enough where v is one of them,
-  pub enough-depth : (depth v : ℕ) (passed : List ℕ) → v < g .vertices → (v ∈ passed → ⊥) → unpassed g passed ≤ depth → Finished g edges passed (growNode depth g edges v passed .passed)
-  enough-depth depth v passed within new enough = node-finishes depth v passed within (omega (arith, unpassed-fewer g v passed within new))
-
-  -- and as many levels as there are vertices are enough wherever it starts.
+  -- As many levels as there are vertices are enough wherever it starts.
   pub vertices-deep : (v : ℕ) (passed : List ℕ) → v < g .vertices → Finished g edges passed (growNode (g .vertices) g edges v passed .passed)
   vertices-deep v passed within = node-finishes (g .vertices) v passed within (unpassed-below g v passed within)

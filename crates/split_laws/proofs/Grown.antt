@@ -166,18 +166,3 @@ module _ (g : Graph) where
     pub children-grow : (depth v : ℕ) (es : List ℕ) → ((e : ℕ) → e ∈ es → e ∈ edges) → (passed : List ℕ) → v ∈ passed
         → Grows g edges v passed (growChildren (growNode depth g edges) g v es passed)
     children-grow depth v es known passed old = grows-children (growNode depth g edges) (node-grows depth) v es known passed (in-times old)
-
-    module _ (depth v : ℕ) (passed : List ℕ) where
-      -- Passed are then v and its children besides,
-      pub node-passes : (x : ℕ) → times x (growNode depth g edges v passed .passed) ≡ times x passed + times x (v ∷ children (growNode depth g edges v passed .branches))
-      node-passes x =
-          let kids = children (growNode depth g edges v passed .branches) in
-          omega (arith, node-grows depth v passed .adds x, times-cons x v passed, times-cons x v kids)
-
-      -- no child was passed before or is v,
-      pub children-new : {c : ℕ} → c ∈ children (growNode depth g edges v passed .branches) → c ∈ (v ∷ passed) → ⊥
-      children-new {c} m old = omega (arith, node-grows depth v passed .fresh c, in-times m, in-times old)
-
-      -- and none is passed twice.
-      pub children-once : (x : ℕ) → times x (children (growNode depth g edges v passed .branches)) ≤ 1
-      children-once x = omega (arith, node-grows depth v passed .fresh x)

@@ -44,5 +44,3 @@ pub mod SharpParts
 pub mod PartsRise
 -- the root among the edges and the parts of its tree
 pub mod RootHeld
--- labels that join the same have the same lowest vertices
-pub mod LowestSame

@@ -10,9 +10,8 @@ use Rattle.lists.specs.Lists.{without}
 use Rattle.lists.specs.Member.{_∈_}
 use Rattle.lists.proofs.Member.{in-without}
 use Rattle.lists.proofs.Times.{times, in-times, times-in, not-in-times}
-use Rattle.lists.proofs.SameTimes.{same-sum}
-use Rattle.graph.specs.Graph.{Graph, oneEnd, otherEnd, weightOf}
-use Rattle.rules.specs.Walk.{Joins, onward, back, Linked, totalWeight}
+use Rattle.graph.specs.Graph.{Graph, oneEnd, otherEnd}
+use Rattle.rules.specs.Walk.{Joins, onward, back, Linked}
 use Rattle.rules.specs.Grow.{grow}
 use Rattle.rules.proofs.Linked.{linked-on, linked-edge, linked-more}
 use Rattle.forest_laws.proofs.Roots.{Reached}
@@ -64,8 +63,3 @@ module _ (g : Graph) (edges roots : List ℕ) where
           go (suc n) q =
               let m : e ∈ edges = times-in e edges (omega arith) in
               omega (arith, once e, edge-once m (onward refl refl) (all e m))
-
-      -- and weigh as much.
-      pub trees-weight : totalWeight g (allEdges (grow g edges roots)) ≡ totalWeight g edges
-      unfolding totalWeight
-      trees-weight = same-sum (weightOf g) (allEdges (grow g edges roots)) edges edges-same

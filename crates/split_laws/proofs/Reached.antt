@@ -32,11 +32,6 @@ closed-linked {g} {edges} {xs} closed l =
     (λ e m. (closed e (oneEnd g e) (otherEnd g e) m (onward refl refl), closed e (otherEnd g e) (oneEnd g e) m (back refl refl)))
     l .0
 
--- A vertex is the child of one branch at most.
-pub child-once : (g : Graph) (edges roots : List ℕ) (x : ℕ) → times x (allChildren (grow g edges roots)) ≤ 1
-unfolding grow
-child-once g edges roots x = omega (arith, trees-grow g edges roots [] .fresh x)
-
 -- Children are vertices of the graph.
 pub child-inside : (g : Graph) (edges roots : List ℕ) → Inside g edges → {t : Rooted} → t ∈ grow g edges roots → {c : ℕ} → c ∈ children (t .branches) → c < g .vertices
 child-inside g edges roots inside m n = let (u, e, i, j) = child-branch (tree-hangs g edges roots m) n in far-inside g edges inside (tree-edge-known g edges roots m i) j
@@ -81,11 +76,3 @@ module _ (g : Graph) (edges : List ℕ) (inside : Inside g edges) where
         let closed = passed-closed roots within [] (λ e u w m j i. absurd (List·Memᴰ·not-nil i)) in
         let start : r ∈ passedFrom g edges roots [] = times-in r (passedFrom g edges roots []) (omega (arith, grown .adds r, in-times is-root)) in
         root-or-child x (omega (arith, in-times (closed-linked closed linked start), grown .adds x, times-none x))
-
-    -- and then the child of exactly one branch.
-    pub reached-once : ((r : ℕ) → r ∈ roots → r < g .vertices) → {x : ℕ} → Reached g roots edges x → (x ∈ roots) ⊎ (times x (allChildren (grow g edges roots)) ≡ 1)
-    reached-once within {x} from = go (all-reached within from)
-      where
-        go : (x ∈ roots) ⊎ (x ∈ allChildren (grow g edges roots)) → (x ∈ roots) ⊎ (times x (allChildren (grow g edges roots)) ≡ 1)
-        go (inl m) = inl m
-        go (inr m) = inr (omega (arith, in-times m, child-once g edges roots x))

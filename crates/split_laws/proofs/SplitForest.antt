@@ -45,11 +45,7 @@ module _ (g : Graph) (H : ℕ) where
   unfolding allParts
   of-all-parts trees m = of-picked (λ (s : Pieces). s .parts) g H trees m
 
-  -- so it is with what is left.
-  pub in-all-left : {e : ℕ} {t : Rooted} {trees : List Rooted} → t ∈ trees → e ∈ split g H t .left → e ∈ allLeft (map (split g H) trees)
-  unfolding allLeft
-  in-all-left m n = in-picked (λ (s : Pieces). s .left) g H m n
-
+  -- So it is with what is left.
   pub of-all-left : {e : ℕ} (trees : List Rooted) → e ∈ allLeft (map (split g H) trees) → (t : Rooted) × (t ∈ trees) × (e ∈ split g H t .left)
   unfolding allLeft
   of-all-left trees m = of-picked (λ (s : Pieces). s .left) g H trees m
