@@ -14,8 +14,8 @@ use Rattle.graph.specs.Bytes.{graphOf}
 use Rattle.matching.specs.Assignable.{assignable}
 use Rattle.rules.specs.Split.{allParts}
 use Rattle.rules.specs.RootedTrial.{unjoinedAt, rootedParts, mayGo, isAssignable}
-use Rattle.split.specs.Steps.{partsCounted}
-use Rattle.split.specs.WalkPut.{Countable}
+use Rattle.steps.specs.Steps.{partsCounted}
+use Rattle.steps.specs.WalkPut.{Countable}
 use Rattle.planner_laws.proofs.RootedPrepared.{pieces-of-whole}
 use Rattle.rooted.specs.Decide.{TrialAsked, PartsReady, CountReady, FewReady}
 use Rattle.rooted_parts.specs.Parts.{PieceArrays, arraysOf, PiecesAsked, PiecesPlaced, FewHeld, RowsAsked, PartsAsked}

@@ -12,7 +12,7 @@ use Rattle.rules.specs.Order.{ordered}
 use Rattle.rules.specs.Labels.{together}
 use Rattle.rules.specs.Forest.{keep}
 use Rattle.edges.specs.Around.{Around}
-use Rattle.split.specs.WalkPut.{Walk}
+use Rattle.steps.specs.WalkPut.{Walk}
 use Rattle.marks.specs.Tabled.{DistancesTabled, LastsTabled}
 
 -- What deciding a limit takes: the graph's bytes and the roots (none where the crews have none), the whole forest by weight, the edges around each

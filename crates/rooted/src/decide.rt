@@ -5,7 +5,7 @@ use pieces::whole::light_forest;
 use pieces::whole::stop_at;
 use rooted_parts::parts::assign_parts;
 use rooted_parts::parts::place_pieces;
-use split::steps::count_parts;
+use steps::count_parts;
 ghost use mathlib.Core.Path.{_≡_};
 ghost use Rattle.graph.specs.Bytes.{graphOf};
 ghost use Rattle.rules.specs.Cover.{rooted};

@@ -8,7 +8,7 @@ use lib.ListN.{length, take}
 use Rattle.lists.proofs.Put.{put-taken, put-fits, put-length}
 use Rattle.graph.specs.Bytes.{graphOf}
 use Rattle.edges.specs.Around.{Arcs}
-use Rattle.split.specs.WalkPut.{WalkAsked, WalkPut}
+use Rattle.steps.specs.WalkPut.{WalkAsked, WalkPut}
 use Rattle.rooted.specs.Prepared.{Decidable, WholeWalked}
 
 module _ {b roots kept bounds arcs table : List ℕ} (d : Decidable b roots kept bounds arcs table) {n : ℕ} (n-is : n ≡ graphOf b .vertices) where

@@ -2,7 +2,7 @@
 use crate::decide::accepts_at;
 use cover::crews::Kind;
 use edges::index::weight_of;
-use split::steps::put_walk;
+use steps::put_walk;
 ghost use mathlib.Core.Path.{_≡_};
 ghost use Prim.Native.Nat.{_≤_};
 ghost use lib.ListN.{length};

@@ -21,17 +21,3 @@ pub mod RootsSplit
 pub mod ForestSplit
 -- for callers: the parts and the leftovers by number
 pub mod ByNumber
--- steps: no mark is lost, and nothing is left to be grown
-pub mod StepsMark
--- one pass over the steps counts the parts below a vertex
-pub mod StepsCounted
--- and those of all trees
-pub mod WalkCounted
--- the vertices of the steps
-pub mod StepsInside
--- writing the steps below a vertex, under way
-pub mod StepsUnderway
--- writing the steps of all trees, under way
-pub mod TreesUnderway
--- counting the parts, under way
-pub mod PartsCounting

@@ -13,9 +13,3 @@ pub mod SplitBelow
 pub mod ChildrenWalked
 -- what the public function promises
 pub mod ForestSplit
--- the trees as a list of steps, and the parts counted in one pass
-pub mod Steps
--- growing what hangs below a vertex as steps, over arcs
-pub mod StepsBelow
--- what writing the steps and counting the parts promise
-pub mod WalkPut

@@ -6,7 +6,6 @@ ghost use Rattle.split.specs.ForestSplit.{lent, Splittable, Unwalked, Fo
 
 mod bunch;
 mod piece;
-pub mod steps;
 mod walk;
 
 use piece::put_piece;

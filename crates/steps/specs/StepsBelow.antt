@@ -8,8 +8,8 @@ use mathlib.Core.List.{List, [], _∷_, _++_}
 use lib.ListN.{length, set}
 use Rattle.lists.specs.Segments.{segment}
 use Rattle.edges.specs.Around.{arcHead, arcWeight}
 use Rattle.split.specs.SplitBelow.{unmarked}
-use Rattle.split.specs.Steps.{stepOf}
+use Rattle.steps.specs.Steps.{stepOf}
 
 -- From the vertex v, its arcs still to be looked at and the marks, to the steps and the marks then. A child's step stands behind the steps
 -- of what hangs below the child.

@@ -12,9 +12,9 @@ use Rattle.lists.specs.Member.{_∈_}
 use Rattle.lists.specs.Segments.{segment}
 use Rattle.lists.proofs.Member.{either}
 use Rattle.edges.specs.Around.{arcHead}
 use Rattle.split.specs.SplitBelow.{unmarked}
-use Rattle.split.specs.StepsBelow.{StepsBelow, steps-done, steps-past, steps-child}
+use Rattle.steps.specs.StepsBelow.{StepsBelow, steps-done, steps-past, steps-child}
 use Rattle.split.proofs.Unvisited.{marks-kept, marked-now}
 
 -- The heads of all these arcs have marks.
 abbrev pub HeadsMarked : List ℕ → List ℕ → Type 0

@@ -1,13 +1,13 @@
--- `split::steps::put_trees` meets its contract. The loop's invariant: the steps of the first j roots' trees are written.
+-- `steps::put_trees` meets its contract. The loop's invariant: the steps of the first j roots' trees are written.
 -- The measure is how many roots are left. Assumes nothing.
 use Prim.Native.Nat.{_-_, _<_}
 use native.Mathlib.Omega.{arith}
 use borrow.Author.Needs.{needs}
 use lib.ListN.{length}
 use Rattle.lists.proofs.Put.{put-length}
-use Rattle.split.proofs.TreesUnderway.{TreesUnderway, trees-first, trees-done, root-asked, trees-more}
-use Rattle.split.proofs.steps.put_trees.Statement.{statement}
-use Rattle.split.proofs.steps.put_trees.Tie as tie
+use Rattle.steps.proofs.TreesUnderway.{TreesUnderway, trees-first, trees-done, root-asked, trees-more}
+use Rattle.steps.proofs.put_trees.Statement.{statement}
+use Rattle.steps.proofs.put_trees.Tie as tie
 
 abbrev Inv-loop : tie.InvT-loop
 Inv-loop bounds arcs roots passed₀ walk₀ next₀ j₀ passed walk next j = TreesUnderway bounds arcs roots passed₀ walk₀ j passed walk next

@@ -6,8 +6,8 @@ use edges::arc::arc_head;
 use edges::arc::arc_weight;
 ghost use mathlib.Core.Path.{_≡_};
 ghost use lib.ListN.{length};
-ghost use Rattle.split.specs.Steps.{partsCounted};
-ghost use Rattle.split.specs.WalkPut.{StepsAsked, StepsPut, WalkReady, WalkAsked, WalkPut, Countable};
+ghost use Rattle.steps.specs.Steps.{partsCounted};
+ghost use Rattle.steps.specs.WalkPut.{StepsAsked, StepsPut, WalkReady, WalkAsked, WalkPut, Countable};
 
 // Writes the steps below v from the place `at` on, and says where they end: at each child first the steps below the child, then its own.
 // Each call passes a vertex that no call below it passes again, so that the calls nest at most as deep as the tree.

@@ -12,11 +12,11 @@ use Rattle.lists.specs.Put.{PutTo}
 use Rattle.lists.specs.Segments.{segment}
 use Rattle.lists.proofs.Put.{put-length, put-behind, put-more, put-to-none}
 use Rattle.edges.specs.Around.{arcHead, arcWeight}
 use Rattle.split.specs.SplitBelow.{unmarked, unvisited}
-use Rattle.split.specs.Steps.{stepOf}
-use Rattle.split.specs.StepsBelow.{StepsBelow, steps-done, steps-past, steps-child}
-use Rattle.split.specs.WalkPut.{StepsAsked, StepsPut}
+use Rattle.steps.specs.Steps.{stepOf}
+use Rattle.steps.specs.StepsBelow.{StepsBelow, steps-done, steps-past, steps-child}
+use Rattle.steps.specs.WalkPut.{StepsAsked, StepsPut}
 use Rattle.split.proofs.Unvisited.{unvisited-less}
 
 -- The writing began with the marks `first` at the place `at`, and has come to the place `next`: whatever steps the arcs from i up to `to` give,
 -- they stand behind those that are written.

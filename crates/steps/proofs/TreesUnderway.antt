@@ -9,12 +9,12 @@ use lib.ListN.{length, drop, getD, set, length-set}
 use lib.Seq.{drop-cons, drop-length}
 use Rattle.lists.specs.Put.{PutTo}
 use Rattle.lists.proofs.Put.{put-length, put-behind, put-to-none}
 use Rattle.split.specs.SplitBelow.{unvisited}
-use Rattle.split.specs.StepsBelow.{StepsFrom, no-roots, steps-root}
-use Rattle.split.specs.WalkPut.{StepsAsked, StepsPut, WalkReady, WalkPut}
+use Rattle.steps.specs.StepsBelow.{StepsFrom, no-roots, steps-root}
+use Rattle.steps.specs.WalkPut.{StepsAsked, StepsPut, WalkReady, WalkPut}
 use Rattle.split.proofs.Unvisited.{unvisited-fewer, unvisited-most}
-use Rattle.split.proofs.StepsInside.{steps-inside}
-use Rattle.split.proofs.WalkCounted.{walk-counted}
+use Rattle.steps.proofs.StepsInside.{steps-inside}
+use Rattle.steps.proofs.WalkCounted.{walk-counted}
 
 -- The steps of the first j roots' trees are written: whatever steps the other roots give, they stand behind them.
 pub record TreesUnderway (bounds arcs roots first walk₀ : List ℕ) (j : ℕ) (marks walk : List ℕ) (next : ℕ) : Type 0 where

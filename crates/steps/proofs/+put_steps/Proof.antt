@@ -11,17 +11,17 @@ use borrow.Fn.PlainCycle.{Measures, is, falls, and}
 use lib.ListN.{length, getD, length-set}
 use Rattle.lists.proofs.Put.{put-length}
 use Rattle.edges.specs.Around.{arcWeight}
 use Rattle.split.specs.SplitBelow.{unmarked, unvisited}
-use Rattle.split.specs.Steps.{stepOf}
-use Rattle.split.proofs.StepsUnderway.{StepsUnderway, steps-first, steps-all, steps-past-by, below-fewer, below-asked, step-room, step-fits, steps-child-by}
-use Rattle.split.proofs.steps.put_steps.Reads as put-steps
-use Rattle.split.proofs.steps.put_steps.Kinds as put-steps-kinds
-use Rattle.split.proofs.steps.+put_steps.Lts-put_steps as lts
+use Rattle.steps.specs.Steps.{stepOf}
+use Rattle.steps.proofs.StepsUnderway.{StepsUnderway, steps-first, steps-all, steps-past-by, below-fewer, below-asked, step-room, step-fits, steps-child-by}
+use Rattle.steps.proofs.put_steps.Reads as put-steps
+use Rattle.steps.proofs.put_steps.Kinds as put-steps-kinds
+use Rattle.steps.proofs.+put_steps.Lts-put_steps as lts
 use Rattle.edges.proofs.arc.arc.Reads as arc-reads
 use Rattle.edges.proofs.arc.arc_head.Reads as arc-head-reads
 use Rattle.edges.proofs.arc.arc_weight.Reads as arc-weight-reads
-use Rattle.split.proofs.steps.+put_steps.{statement}
-use Rattle.split.proofs.steps.+put_steps.Tie.{close}
+use Rattle.steps.proofs.+put_steps.{statement}
+use Rattle.steps.proofs.+put_steps.Tie.{close}
 
 abbrev μ-steps : Measures 4 put-steps-kinds.ps ℕ
 μ-steps κs a = unvisited (length (a .1 .1 .1 .1 .0 .now)) (a .1 .1 .1 .1 .0 .now)

@@ -14,7 +14,7 @@ use lib.Seq.{drop-cons, drop-length, getD-set-same, getD-set-other}
 use Rattle.lists.proofs.Zeros.{zeros-at}
 use Rattle.rules.specs.Split.{reachesWeight}
 use Rattle.edges.specs.Around.{arcEdge, arcHead, arcWeight}
-use Rattle.split.specs.Steps.{Tally, tallyStep, tally, partsCounted}
+use Rattle.steps.specs.Steps.{Tally, tallyStep, tally, partsCounted}
 
 -- With threshold 0 nothing is split.
 pub none-split : (steps : List ℕ) (t : Tally) → tally 0 steps t .parts ≡ t .parts

@@ -18,14 +18,14 @@ use Rattle.graph.specs.Graph.{Graph}
 use Rattle.rules.specs.Grow.{Rooted, Grown, growNode, growFrom, grow}
 use Rattle.rules.specs.Split.{Pieces, split, allParts}
 use Rattle.edges.specs.Around.{arcHead, Around}
 use Rattle.split.specs.Settles.{load}
 use Rattle.split.specs.SplitBelow.{unmarked, done, past}
-use Rattle.split.specs.Steps.{Tally, tally, partsCounted}
-use Rattle.split.specs.StepsBelow.{StepsBelow, steps-done, steps-past, steps-child, StepsFrom, no-roots, steps-root}
+use Rattle.steps.specs.Steps.{Tally, tally, partsCounted}
+use Rattle.steps.specs.StepsBelow.{StepsBelow, steps-done, steps-past, steps-child, StepsFrom, no-roots, steps-root}
 use Rattle.split.proofs.Unvisited.{marks-kept, marked-now, unmarked-before}
 use Rattle.split.proofs.SplitAsRules.{MarksAre, Gives, node-as-rules}
-use Rattle.split.proofs.StepsMark.{HeadsMarked, still-marked, steps-close}
-use Rattle.split.proofs.StepsCounted.{tally-on, Clear, Counted, steps-counted}
+use Rattle.steps.proofs.StepsMark.{HeadsMarked, still-marked, steps-close}
+use Rattle.steps.proofs.StepsCounted.{tally-on, Clear, Counted, steps-counted}
 
 -- Nothing is left to be grown from any vertex with a mark.
 abbrev pub AllClosed : List ℕ → List ℕ → List ℕ → Type 0

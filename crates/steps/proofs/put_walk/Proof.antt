@@ -1,13 +1,13 @@
--- `split::steps::put_walk` meets its contract: the first n of 256 zeros are no marks. Assumes nothing.
+-- `steps::put_walk` meets its contract: the first n of 256 zeros are no marks. Assumes nothing.
 use Prim.Native.Nat.{ℕ}
 use mathlib.Core.Path.{_≡_, sym}
 use mathlib.Core.List.{List}
 use borrow.Author.Needs.{needs}
 use lib.ListN.{take, replicate}
-use Rattle.split.specs.WalkPut.{WalkAsked, WalkReady, WalkPut}
+use Rattle.steps.specs.WalkPut.{WalkAsked, WalkReady, WalkPut}
 use Rattle.split.proofs.NoMarks.{zeros-count, zeros-front}
-use Rattle.split.proofs.steps.put_walk.Statement.{statement}
-use Rattle.split.proofs.steps.put_walk.Tie as tie
+use Rattle.steps.proofs.put_walk.Statement.{statement}
+use Rattle.steps.proofs.put_walk.Tie as tie
 
 -- The zeros are no marks.
 no-marks : {n : ℕ} {bounds arcs roots walk : List ℕ} → WalkAsked n bounds arcs roots walk → WalkReady bounds arcs roots (take n (replicate 256 0)) walk

@@ -10,9 +10,9 @@ use Rattle.graph.specs.Graph.{Graph}
 use Rattle.rules.specs.Grow.{grow}
 use Rattle.rules.specs.Split.{split, allParts}
 use Rattle.edges.specs.Around.{arcEdge, arcHead, Arcs, Around}
 use Rattle.split.specs.SplitBelow.{unvisited}
-use Rattle.split.specs.Steps.{partsCounted}
-use Rattle.split.specs.StepsBelow.{StepsBelow}
+use Rattle.steps.specs.Steps.{partsCounted}
+use Rattle.steps.specs.StepsBelow.{StepsBelow}
 
 -- What writing the steps below v asks: the arcs of as many vertices as there are marks, v one of them, and room for a step for each vertex
 -- without a mark, from the place `at` on.

@@ -9,11 +9,11 @@ use lib.ListN.{length, getD, set, length-set}
 use Rattle.lists.specs.Member.{_∈_}
 use Rattle.lists.proofs.Places.{at-place}
 use Rattle.edges.specs.Around.{arcEdge, arcHead, arcWeight}
-use Rattle.split.specs.Steps.{stepOf}
-use Rattle.split.specs.StepsBelow.{StepsBelow, steps-done, steps-past, steps-child, StepsFrom, no-roots, steps-root}
-use Rattle.split.specs.WalkPut.{StepsInside}
-use Rattle.split.proofs.StepsMark.{steps-close}
-use Rattle.split.proofs.StepsCounted.{step-child, step-above}
+use Rattle.steps.specs.Steps.{stepOf}
+use Rattle.steps.specs.StepsBelow.{StepsBelow, steps-done, steps-past, steps-child, StepsFrom, no-roots, steps-root}
+use Rattle.steps.specs.WalkPut.{StepsInside}
+use Rattle.steps.proofs.StepsMark.{steps-close}
+use Rattle.steps.proofs.StepsCounted.{step-child, step-above}
 
 -- Both vertices of a step are below 256, of all of these steps.
 abbrev Small : ℕ → Type 0

@@ -12,12 +12,12 @@ use Rattle.lists.specs.Segments.{segment}
 use Rattle.rules.specs.Cover.{Tree}
 use Rattle.rules.specs.Split.{reachesWeight, partAt}
 use Rattle.edges.specs.Around.{arcEdge, arcHead, arcWeight}
 use Rattle.split.specs.Settles.{Load, load, Settles, alone, full, joins}
 use Rattle.split.specs.SplitBelow.{unmarked, pieceOf, SplitBelow, done, past, child}
-use Rattle.split.specs.Steps.{stepOf, Tally, tallyStep, tally}
-use Rattle.split.specs.StepsBelow.{StepsBelow, steps-done, steps-past, steps-child}
+use Rattle.steps.specs.Steps.{stepOf, Tally, tallyStep, tally}
+use Rattle.steps.specs.StepsBelow.{StepsBelow, steps-done, steps-past, steps-child}
 use Rattle.split.proofs.Unvisited.{unmarked-before, marked-now}
-use Rattle.split.proofs.StepsMark.{Closes, steps-close, still-marked}
+use Rattle.steps.proofs.StepsMark.{Closes, steps-close, still-marked}
 
 -- A step holds its child, the vertex above and the weight.
 module _ (c a w : ℕ) (child-fits : c < 65536) (above-fits : a < 65536) where
