@@ -1,7 +1,7 @@
 //! Measures the linked planner beside the plain Rust version and prints a table. The word behind the program's name is
 //! the number of rounds (101).
 
-use bench::made::{SHAPES, SIZES};
+use bench::made::{Shape, Size, SHAPES, SIZES};
 use bench::measure::{medians, Asked, Question};
 use bench::planners::{linked, plain};
 use bench::question::{ROOTED, UNROOTED};
@@ -13,6 +13,20 @@ const QUESTIONS: [(&str, Asked, u32); 6] = [
     ("unrooted trial", Asked::Trial, UNROOTED),
     ("rooted check", Asked::Check, ROOTED),
     ("unrooted check", Asked::Check, UNROOTED),
+];
+
+/// More and more edges, at fixed n and k.
+const BY_EDGES: [Size; 3] = [
+    Size { n: 256, m: 512, k: 32 },
+    Size { n: 256, m: 1_024, k: 32 },
+    Size { n: 256, m: 2_048, k: 32 },
+];
+
+/// More and more crews, at fixed n and m.
+const BY_CREWS: [Size; 3] = [
+    Size { n: 256, m: 2_048, k: 8 },
+    Size { n: 256, m: 2_048, k: 16 },
+    Size { n: 256, m: 2_048, k: 32 },
 ];
 
 fn main() {
@@ -27,20 +41,20 @@ fn main() {
         println!();
         heading();
         for shape in SHAPES {
-            let mut before: Option<Vec<f64>> = None;
-            for size in SIZES.iter().rev() {
-                let question = Question::new(asked, kind, shape, size);
-                let planners: Vec<_> = linked().into_iter().chain([plain()]).collect();
-                planners.iter().for_each(|planner| question.assert_right(planner));
-                let now = medians(&question, &planners, rounds);
-                print!("{name:15} {:11} {:4} {:5} {:3}", shape.name(), size.n, size.m, size.k);
-                row(&now, before.as_deref());
-                if size.n == SIZES[0].n && now.len() == 2 {
-                    summary.push((name, now[0] / now[1]));
-                }
-                before = Some(now);
+            let sizes: Vec<Size> = SIZES.iter().rev().copied().collect();
+            if let [ours, plain] = rows(name, asked, kind, shape, &sizes, rounds)[..] {
+                summary.push((name, ours / plain));
             }
         }
+    }
+    println!();
+    println!(
+        "At fixed n, growth as m doubles, then as k doubles: the best limit on random graphs."
+    );
+    heading();
+    for (name, asked, kind) in QUESTIONS.iter().copied().filter(|row| row.1 == Asked::Best) {
+        rows(name, asked, kind, Shape::Random, &BY_EDGES, rounds);
+        rows(name, asked, kind, Shape::Random, &BY_CREWS, rounds);
     }
     println!();
     for (name, _, _) in QUESTIONS {
@@ -49,6 +63,28 @@ fn main() {
             println!("{name:15} planner_c : Rust at full size at most {worst:.2}");
         }
     }
+}
+
+/// Prints a row for each size, and gives the medians of the last.
+fn rows(
+    name: &str,
+    asked: Asked,
+    kind: u32,
+    shape: Shape,
+    sizes: &[Size],
+    rounds: usize,
+) -> Vec<f64> {
+    let planners: Vec<_> = linked().into_iter().chain([plain()]).collect();
+    let mut before: Option<Vec<f64>> = None;
+    for size in sizes {
+        let question = Question::new(asked, kind, shape, size);
+        planners.iter().for_each(|planner| question.assert_right(planner));
+        let now = medians(&question, &planners, rounds);
+        print!("{name:15} {:11} {:4} {:5} {:3}", shape.name(), size.n, size.m, size.k);
+        row(&now, before.as_deref());
+        before = Some(now);
+    }
+    before.unwrap_or_default()
 }
 
 fn heading() {
