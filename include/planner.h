@@ -31,7 +31,7 @@ extern "C" {
  * A cover: t, the number of trees (2 bytes); q, the number of entries (2 bytes); t starts (2 bytes each); q tree numbers,
  * then q edge numbers (2 bytes each), rising strictly by tree, then by edge. 4 + 2t + 4q bytes.
  *
- * k is the number of trees, 1 to 32. The roots of a rooted question are vertices 0 to k - 1, so k is at most n.
+ * k is the number of crews, 1 to 32: a rooted cover has k trees, an unrooted one 1 to k. The roots of a rooted question are vertices 0 to k - 1, so k is at most n.
  *
  * For all functions below: any input is answered. Each pointer is to as many bytes as its length says, `values` to exactly
  * three numbers; no pointer is null even where a length is 0, and what is written overlaps nothing else: nothing tests

@@ -110,10 +110,6 @@ module _ {starts bounds edges chosen : List ℕ} {room : ℕ} where
   pub room-for-all : Writable starts bounds edges chosen room → 4 + 2 * length chosen + 4 * entryCount bounds chosen ≤ room
   room-for-all h = omega (arith, chosen-length starts bounds edges chosen (h .held), h .fits)
 
-  -- They may be written where there is.
-  pub writable : AllHeld bounds edges chosen → 4 + 2 * length chosen + 4 * entryCount bounds chosen ≤ room → Writable starts bounds edges chosen room
-  writable held fits = record { held = held; fits = omega (arith, chosen-length starts bounds edges chosen held) }
-
 -- The parts are written one behind the other: there is room for each, and together they are the bytes.
 module _ {starts bounds edges chosen b₀ : List ℕ} (h : Writable starts bounds edges chosen (length b₀)) where
   module _ {b₁ : List ℕ} {n₁ : ℕ} (w₁ : PutTo 0 (u16Bytes (length chosen)) b₀ b₁ n₁) where

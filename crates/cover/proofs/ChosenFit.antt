@@ -1,4 +1,5 @@
--- Chosen trees may be written into the planner's buffer: at most 32 trees of a graph, or at most 33 parts with fewer than 256 edges in all.
+-- Chosen trees: at most 32 trees of a graph may be written into the planner's buffer, and segments of one layout are held, with no more
+-- entries than the layout has elements.
 -- Assumes nothing.
 use Prim.Native.Nat.{ℕ, _+_, _≤_, _<_}
 use mathlib.Core.Path.{_≡_, ap, _∙_}

@@ -1,9 +1,9 @@
--- Laws that the proofs of the cover's functions share.
+-- Laws that belong to no one function, in reading order.
 -- fields put one behind the other
 pub mod Writing
 -- the bytes of chosen trees
 pub mod ChosenBytes
--- chosen trees and parts fit the planner's buffer
+-- chosen trees fit the planner's buffer, and chosen segments are held
 pub mod ChosenFit
 -- the entries of a tree are one run
 pub mod TreeRuns

@@ -1,4 +1,4 @@
--- What the contracts of the cover's bytes cite, in reading order.
+-- What the contracts of `cover` say, in reading order.
 -- trees chosen among those that arrays hold
 pub mod Chosen
 -- runs of entries

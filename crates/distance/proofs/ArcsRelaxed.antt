@@ -4,17 +4,12 @@ use Prim.Native.Nat.{ℕ, _+_, _≤_, _<_}
 use mathlib.Core.Path.{_≡_, refl, sym, _∙_}
 use mathlib.Core.Bool.{Bool, true, false}
 use mathlib.Core.List.{List}
-use mathlib.Core.Logic.{_⊎_, inl, inr}
 use native.Mathlib.Omega.{arith}
 use lib.ListN.{length, getD, set}
-use lib.Dec.{eqb}
 use lib.Seq.{getD-set-same, getD-set-other}
-use borrow.Author.Tests.{eqb-true, eqb-false}
 use Rattle.lists.proofs.AfterStore.{at-or-not}
-use Rattle.lists.proofs.Member.{either}
 use Rattle.edges.specs.Around.{arcEdge, arcHead, arcWeight}
 use Rattle.distance.specs.Trail.{lastOf}
-use Rattle.distance.specs.Shortest.{unreached}
 use Rattle.distance.specs.Relaxing.{ArcIn, ArcRelaxed, kept, lowered, Becomes, same, nearer, Relaxed}
 
 -- One arc, by what is read from it.

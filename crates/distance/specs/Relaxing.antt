@@ -7,7 +7,6 @@ use mathlib.Core.List.{List}
 use lib.ListN.{length, getD, set}
 use Rattle.edges.specs.Around.{arcEdge, arcHead, arcWeight}
 use Rattle.distance.specs.Trail.{lastOf}
-use Rattle.distance.specs.Shortest.{unreached}
 use Rattle.distance.specs.Waiting.{keyOf, Blocks}
 
 -- a is one of the arcs at the places from lo up to hi.

@@ -48,7 +48,7 @@ pub(crate) fn least_from(keys: &[u64], from: usize) -> u64
     lower(one, other)
 }
 
-// Vertex v waits with this key, lower than what stood for it.
+// Vertex v waits with this key, no higher than what stood for it.
 pub(crate) fn put_key(v: usize, key: u64, wait: &mut [u64], low: &mut [u64])
     requires { ⌜ KeyGiven v key (now wait) (now low) ⌝ }
     ensures { λ _. ⌜ KeyPut v key (now (wait .entry)) (now (wait .exit)) (now (low .exit)) ⌝ }

@@ -1,4 +1,4 @@
--- Laws that the proofs of the check share, in reading order.
+-- Laws that belong to no one function, in reading order.
 -- the tests of one entry
 pub mod EntryTests
 -- the tests of the starts

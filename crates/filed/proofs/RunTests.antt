@@ -5,7 +5,6 @@ use mathlib.Core.Path.{_≡_, refl, sym, ap, _∙_}
 use mathlib.Core.Bool.{Bool, true, false, _&&_}
 use mathlib.Core.List.{List, [], _∷_}
 use native.Mathlib.Omega.{arith}
-use Rattle.lists.specs.Count as Count
 use Rattle.graph.specs.Graph.{Graph}
 use Rattle.rules.specs.Labels.{Labels, mergeEdge, mergeAll}
 use Rattle.rules.specs.CoverBytes.{entryEdge}

@@ -1,4 +1,4 @@
--- What the contracts of the check cite, in reading order.
+-- What the contracts of `filed` say, in reading order.
 -- vertices joined by parents
 pub mod Parents
 -- one tree and its run of entries

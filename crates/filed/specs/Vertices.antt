@@ -1,4 +1,4 @@
--- VertexMarked vertices: a byte for each, 1 where a tree of the cover is found to cover it.
+-- Marked vertices: a byte for each, 1 where a tree of the cover is found to cover it.
 -- Assumes nothing.
 use Prim.Native.Nat.{ℕ, _<_}
 use mathlib.Core.Path.{_≡_}

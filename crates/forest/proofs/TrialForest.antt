@@ -1,5 +1,5 @@
--- The forest of a trial is what `keep_edges` leaves over the edges that `order_edges` leaves. At a limit it is what the first of it are
--- that `light_count` counts, and also what `keep_edges` leaves over the edges within the limit alone.
+-- The forest of a trial is what `keep_edges` leaves over the edges that `order_edges` of the crate `edges` leaves. At a limit it is the front of
+-- that, as long as `light_count` there says, and also what `keep_edges` leaves over the edges within the limit alone.
 -- Assumes nothing.
 use Prim.Native.Nat.{ℕ}
 use mathlib.Core.Path.{_≡_, sym, ap, _∙_}

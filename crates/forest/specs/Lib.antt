@@ -1,5 +1,5 @@
 -- What the contracts of `forest` say, in reading order.
--- arrays that hold a label of each vertex, or a list at their front
+-- arrays that hold a label of each vertex
 pub mod Arrays
 -- labels at the start, and merged
 pub mod Labelled

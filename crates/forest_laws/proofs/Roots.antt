@@ -1,4 +1,4 @@
--- The same where a list of roots is joined from the start: two vertices have equal labels exactly where the edges link them, or
+-- Labels mean walks also where a list of roots is joined from the start: two vertices have equal labels exactly where the edges link them, or
 -- link each of them to a root. So a vertex has the roots' label exactly where the edges link it to a root.
 -- Assumes nothing.
 use Prim.Native.Nat.{ℕ, _≤_}

@@ -1,5 +1,5 @@
 // The graph's bytes (document 01: a "sheet"): readers of its fields, and the check with 11 to 16.
-// Everything is read from the caller's own bytes, and every public function of this file takes all bytes. Edges are read through a view.
+// Everything is read from the caller's own bytes, and every public function of this file takes any bytes. Edges are read through a view.
 // The words of the contracts stand in specs/: `graphOf` is the graph that the bytes spell, `checkOf` the check.
 pub mod view;
 

@@ -1,4 +1,4 @@
--- A run of stores into a list leaves what stands behind it. Segments of a list.
+-- Segments of a list: two that meet, and those of lists that begin alike. A run of stores leaves what stands behind it.
 -- Assumes nothing.
 use Prim.Native.Nat.{ℕ, suc, _+_, _-_, _≤_, _<_}
 use mathlib.Core.Path.{_≡_, refl, sym, ap, _∙_}

@@ -12,13 +12,10 @@ use Rattle.lists.specs.Count.{below}
 use Rattle.lists.proofs.AfterStore.{at-or-not}
 use Rattle.lists.proofs.SegmentSizes.{slice-taken}
 use Rattle.lists.proofs.Stores.{slice-same}
-use Rattle.graph.specs.Graph.{Graph, edgeCount}
-use Rattle.edges.specs.Around.{Around}
 use Rattle.distance.specs.Shortest.{Shortest}
 use Rattle.marks.specs.Near.{distanceIn}
 use Rattle.marks.specs.Tabled.{rowOf}
-use Rattle.marks.specs.Table.{ColumnWritten, RootSearched, RootFilled, Tabled, TableFilled}
-use Rattle.marks.proofs.RowPlaces.{place-within}
+use Rattle.marks.specs.Table.{ColumnWritten, RootSearched, RootFilled, TableFilled}
 use Rattle.marks.proofs.RowsMarked.{row-before, replaced-length}
 
 -- Elements of other rows, and of other columns, stand at other places.

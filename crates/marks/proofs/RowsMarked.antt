@@ -1,14 +1,14 @@
 -- Rows of marks in one array, one row for each tree: one row more marked in its place.
 -- Assumes nothing.
-use Prim.Native.Nat.{ℕ, _+_, _*_, _-_, _≤_, _<_}
+use Prim.Native.Nat.{ℕ, _+_, _*_, _≤_, _<_}
 use mathlib.Core.Path.{_≡_, refl, sym, ap, _∙_}
 use mathlib.Core.Bool.{Bool, cond}
 use mathlib.Core.List.{List, _++_}
-use native.Mathlib.Nat.{suc-mul, mul-le-mul-right}
+use native.Mathlib.Nat.{suc-mul}
 use native.Mathlib.Numerals.{add-one}
 use native.Mathlib.Omega.{arith}
-use lib.ListN.{length, getD, take, drop, length-append, length-take, length-drop}
-use lib.Seq.{getD-drop, getD-take, drop-drop, take-at, drop-at, length-take-le, take-append-le}
+use lib.ListN.{length, getD, take, drop, length-append, length-drop}
+use lib.Seq.{getD-drop, getD-take, drop-drop, take-at, drop-at, length-take-le}
 use Rattle.lists.proofs.AfterStore.{at-or-not}
 use Rattle.lists.proofs.OnlyFirst.{is-only-first}
 use Rattle.marks.specs.Near.{Marked, RowsMarked}

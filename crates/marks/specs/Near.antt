@@ -3,15 +3,14 @@
 use Prim.Native.Nat.{ℕ, _+_, _*_, _≤_, _<_}
 use mathlib.Core.Path.{_≡_}
 use mathlib.Core.Bool.{Bool, cond}
-use mathlib.Core.List.{List, [], _∷_}
+use mathlib.Core.List.{List}
 use lib.ListN.{length, getD}
 use lib.Dec.{leb}
 use Rattle.lists.specs.Lists.{any}
 use Rattle.lists.specs.Put.{OnlyFirst}
-use Rattle.graph.specs.Graph.{Graph, oneEnd, otherEnd}
+use Rattle.graph.specs.Graph.{Graph}
 use Rattle.graph.specs.Bytes.{graphOf}
 use Rattle.graph.specs.Valid.{IsGraph}
-use Rattle.rules.specs.Cover.{Tree}
 use Rattle.rules.specs.Distance.{treeVertices}
 use Rattle.rules.specs.Held.{treeAt}
 use Rattle.cover.specs.Chosen.{IsHeld}

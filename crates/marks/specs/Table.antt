@@ -1,6 +1,6 @@
 -- The table of the distances from all roots, column by column, and the rows of their last edges (document 01, step 5).
 -- Assumes nothing.
-use Prim.Native.Nat.{ℕ, _+_, _*_, _≤_, _<_}
+use Prim.Native.Nat.{ℕ, _*_, _≤_, _<_}
 use mathlib.Core.Path.{_≡_}
 use mathlib.Core.List.{List}
 use lib.ListN.{length, getD}
@@ -49,11 +49,12 @@ pub record TableAsked (n : ℕ) (bounds arcs roots : List ℕ) (table lasts : �
   pub table-room : n * length roots ≤ table
   pub lasts-room : length roots * n ≤ lasts
 
--- The table and the last edges are those of whatever graph the arcs are.
+-- The table has the distances of the graph from all roots, and the last edges lead back along paths of these distances.
 pub record Tabled (g : Graph) (roots table lasts : List ℕ) : Type 0 where
   pub distances : DistancesTabled g roots table
   pub last-edges : LastsTabled g roots table lasts
 
+-- What filling promises: of whatever graph the arcs are, the table and the last edges are its own. Both arrays keep their lengths.
 pub record TableFilled (n : ℕ) (bounds arcs roots table table-after lasts lasts-after : List ℕ) : Type 0 where
   pub of-graph : (g : Graph) → Around g (below (edgeCount g)) bounds arcs → g .vertices ≡ n → Tabled g roots table-after lasts-after
   pub table-size : length table-after ≡ length table

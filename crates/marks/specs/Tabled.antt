@@ -16,7 +16,7 @@ pub record DistancesTabled (g : Graph) (roots table : List ℕ) : Type 0 where
   pub each : (v j : ℕ) → v < g .vertices → j < length roots
       → SaysDistance (distanceIn table (length roots) v j) (getD (distances g (getD roots j 0)) v none)
 
--- Root j's distances and last edges, n of each, stand one root after the other: those of root j from j * n on.
+-- The last edges stand one root after the other, n for each: those of root j from j * n on.
 abbrev pub rowOf : ℕ → List ℕ → ℕ → List ℕ
 rowOf n rows j = take n (drop (j * n) rows)
 

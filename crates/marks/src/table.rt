@@ -3,7 +3,6 @@
 // at j * n + v.
 use distance::distances_from;
 use edges::index::wide;
-ghost use mathlib.Core.Path.{_≡_};
 ghost use lib.ListN.{length};
 ghost use Rattle.marks.specs.Table.{ColumnAsked, ColumnWritten, RootAsked, RootFilled, TableAsked, TableFilled};
 

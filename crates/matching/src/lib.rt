@@ -1,7 +1,7 @@
 // The assignment of parts to roots, alone, and the set of parts that admits none (document 01, step 5).
 //
-// `assign` is all that another program calls. Its promise, and every word in it, stands in `specs/Promise.antt` and
-// `specs/Assignment.antt`. The method is that of augmenting paths, one part after the other: `path` finds a path and
+// `assign` is all that another program calls. Its promise stands in `specs/Promise.antt`, its words in
+// `specs/Assignment.antt`, `Assignable.antt` and `Input.antt`, and in `Put` of `lists`. The method is that of augmenting paths, one part after the other: `path` finds a path and
 // exchanges along it, and `deficient` marks the parts that were reached where there is none. No more than y + 1 parts are
 // tried, since no more than y can have a root, each by a search of at most (y + 1) · (y + 1) turns.
 mod deficient;

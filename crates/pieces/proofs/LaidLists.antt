@@ -71,7 +71,7 @@ pub sum-next : (f : ℕ → ℕ) (xs : List ℕ) (i : ℕ) → i < length xs →
 unfolding sumOf
 sum-next f xs i h = rw (rest-next xs i h)
 
--- The same at the front of the array.
+-- A list was put at the front of an array, and then sorted in place: the sorted list was put.
 pub front-then-risen : {r : ℕ} {xs ys a b : List ℕ} → PutTo 0 xs a b r → ys ≡ rise (take r b) → PutTo 0 (rise xs) a (ys ++ drop r b) r
 front-then-risen {r} {xs} {ys} {a} {b} p q =
     let size = rise-length xs in

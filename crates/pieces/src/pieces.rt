@@ -1,4 +1,5 @@
-// Lists of edges held one after the other in one array, cut by bounds: reading the list of a number, and putting one more behind the others.
+// Lists of edges held one after the other in one array, cut by bounds: reading the list of a number, putting a list from a place on, and
+// writing runs of numbers.
 use edges::index::wide;
 use edges::order::rise_edges;
 ghost use mathlib.Core.Path.{_≡_};

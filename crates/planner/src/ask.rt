@@ -130,7 +130,7 @@ pub(crate) fn answer_asked(
     }
 }
 
-// The answer to a question by crews: "the yards are stops 0 to k - 1". Only here is that known.
+// The answer to a question by crews: "the yards are stops 0 to k - 1". Nothing below knows that.
 pub(crate) fn ask_crews(kind: Kind, k: usize, b: &[u8], asked: Asked, buf: &mut [u8]) -> Reply
     requires { ⌜ CrewsAsked kind k (now b) asked (length (now buf)) ⌝ }
     ensures { λ r. ⌜ Answered asked (graphOf (now (b .entry))) (crewsOf kind k) (now (buf .entry)) (now (buf .exit)) r ⌝ }

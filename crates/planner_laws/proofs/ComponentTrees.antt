@@ -1,5 +1,5 @@
--- The trees of a component: each is a part or what is left at the root, started anew at its lowest vertex; together they hold the edges of the
--- component's tree, each as often as it stands there. A leftover is dropped only where it has no edges and there are parts.
+-- The trees of a component: each is a part or what is left at the root, started anew at its lowest vertex. A leftover is dropped only
+-- where it has no edges and there are parts.
 -- Assumes nothing.
 use Prim.Native.Nat.{ℕ, _*_}
 use mathlib.Core.Path.{_≡_, refl}

@@ -33,7 +33,7 @@ pub mod ComponentShare
 -- where the components need more than k trees, every cover by k has a tree above the limit
 pub mod UnrootedTooLow
 -- Unrooted, accepted:
--- the trees of a component, and that they hold its edges
+-- the trees of a component: its parts and its leftover, started anew
 pub mod ComponentTrees
 -- how many trees the answer has
 pub mod UnrootedNumber

@@ -1,5 +1,5 @@
 -- What a reply means, apart from how it is found: of a trial at a limit, and of the best-limit question (demands 2 and 3).
--- A reply is right exactly where what stands here of its case holds.
+-- That v, T, D, C and the trees are the rules' own is not said here: the promises say it by equations (`askTrial`, `askBest`).
 -- Assumes nothing.
 use Prim.Native.Nat.{ℕ, _*_, _≤_, _<_}
 use mathlib.Core.Path.{_≡_}

@@ -1,5 +1,6 @@
 // Whether there is a cover at all, and whether a limit is accepted (document 01, a "yard" trial, steps 2 to 5), over what is prepared once a
-// question. A vertex is joined to a root within the limit exactly where no edge of the whole forest is above the limit.
+// question. Where the whole graph joins every vertex to a root, all are joined within the limit exactly where no edge of the whole
+// forest is above it.
 use forest::lowest::Found;
 use pieces::whole::light_forest;
 use pieces::whole::stop_at;

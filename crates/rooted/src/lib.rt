@@ -1,4 +1,4 @@
-// The steps of a trial by crews with roots (document 01, a "yard" trial).
+// A trial by crews with roots (document 01, a "yard" trial): whether a limit is accepted, and the answer at a limit.
 // The words of the contracts stand in specs/ and in the definitions of the crate `rules`.
 pub mod answer;
 pub mod decide;

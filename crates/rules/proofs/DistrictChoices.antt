@@ -1,4 +1,5 @@
 -- The choices made in the starred rows are such as document 01 allows: the set of two parts at limit 3 and the assignment at limit 4.
+-- The other rooted rows have no part, so that there is nothing to choose.
 -- Assumes nothing.
 use Prim.Native.Nat.{ℕ, zero, suc, _<_}
 use mathlib.Core.Path.{_≡_, refl}
@@ -14,7 +15,7 @@ use Rattle.rules.specs.RootedTrial.{GoodChoices, partOf, rootedParts, ma
 use Rattle.rules.specs.Districts.{N, answer, set, assigned}
 
 -- Limit 3: both parts are in the set, and one root is within 3 of either.
-set-is-good : GoodChoices (graphOf N) (0 ∷ 1 ∷ []) 3 (set (1 ∷ 1 ∷ []))
+pub set-is-good : GoodChoices (graphOf N) (0 ∷ 1 ∷ []) 3 (set (1 ∷ 1 ∷ []))
 unfolding answer N set
 set-is-good =
     record {
@@ -29,7 +30,7 @@ set-is-good =
     mark (suc (suc i)) h = omega arith
 
 -- Limit 4: the one part starts at root 0, so that the path to it has no edge.
-assignment-is-good : GoodChoices (graphOf N) (0 ∷ 1 ∷ []) 4 (assigned (0 ∷ []))
+pub assignment-is-good : GoodChoices (graphOf N) (0 ∷ 1 ∷ []) 4 (assigned (0 ∷ []))
 unfolding answer N assigned
 assignment-is-good =
     record {

@@ -28,7 +28,8 @@ unfoldable pub further : ℕ → Distance → Distance
 further w none = none
 further w (some d) = some (d + w)
 
--- The distance of v, once those at the other ends of its edges are known.
+-- The distance of v after one round more: the one known, or that at the other end of one of its edges with the edge's weight added, whichever
+-- is least.
 unfoldable pub relaxed : Graph → List Distance → ℕ → List ℕ → Distance
 relaxed g known v [] = getD known v none
 relaxed g known v (e ∷ es) =

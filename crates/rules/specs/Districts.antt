@@ -97,6 +97,7 @@ answer (trial sheet crews limit c) = reply (askTrial sheet crews limit 32708 c)
 answer (best sheet crews c) = reply (askBest sheet crews 32708 c)
 answer (check sheet crews cover) = verdict (askCheck sheet crews cover)
 
+-- A row: what is asked, and the answer that document 01 gives.
 pub record Row : Type 0 where
   pub asked : Question
   pub expected : Answer

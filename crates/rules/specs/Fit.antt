@@ -7,7 +7,8 @@ use Rattle.graph.specs.Graph.{Graph}
 use Rattle.rules.specs.Cover.{Crews, rooted, unrooted}
 use Rattle.rules.specs.RootedTrial.{Choices, GoodChoices}
 
--- Crews that 21 does not refuse: there is at least one, and each root is a vertex.
+-- What the theorems ask of crews: there is at least one, and each root is a vertex. Crews with roots 0 to k - 1, or without roots, that 21 does
+-- not refuse are such (proofs/CrewsRight.antt).
 abbrev pub CrewsFit : Graph → Crews → Type 0
 CrewsFit g (rooted roots) = (1 ≤ length roots) × ((r : ℕ) → r ∈ roots → r < g .vertices)
 CrewsFit g (unrooted k) = 1 ≤ k

@@ -7,6 +7,7 @@ use lib.Dec.{eqb}
 use Rattle.lists.specs.Lists.{member}
 use Rattle.graph.specs.Graph.{Graph, oneEnd, otherEnd}
 
+-- The label of each vertex.
 abbrev pub Labels : Type 0
 Labels = ℕ → ℕ
 

@@ -23,9 +23,9 @@ pub mod Split
 pub mod Distance
 -- the replies
 pub mod Reply
--- steps 2 to 6: the rooted trial
+-- steps 1 to 6: the rooted trial
 pub mod RootedTrial
--- steps 2 to 4 and 7: the unrooted trial
+-- steps 1 to 4 and 7: the unrooted trial
 pub mod UnrootedTrial
 -- "The best limit":
 pub mod Search

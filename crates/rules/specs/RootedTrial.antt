@@ -1,4 +1,4 @@
--- The trial of a rooted question at a limit (document 01, a "yard trial", steps 2 to 6).
+-- The trial of a rooted question at a limit (document 01, a "yard trial", steps 1 to 6).
 -- Assumes nothing.
 use Prim.Native.Nat.{ℕ, _<_}
 use mathlib.Core.Path.{_≡_}
@@ -22,7 +22,7 @@ use Rattle.rules.specs.Split.{Pieces, split, allParts, smallestEdge}
 use Rattle.rules.specs.Distance.{reachesPart, IsShortestPath}
 use Rattle.rules.specs.Reply.{Reply, covered, too-low-stop, too-low-parts}
 
--- Step 2: the lowest vertex that no edge of weight at most the limit joins to a root.
+-- Step 2: the lowest vertex that the edges of weight at most the limit join to no root.
 unfoldable pub unjoinedAt : Graph → List ℕ → ℕ → Option ℕ
 unjoinedAt g roots limit = unjoined g roots (labelsAt g (together roots) limit)
 

@@ -1,4 +1,4 @@
--- The trial of an unrooted question at a limit (document 01, a "roving" trial, steps 2 to 4 and 7).
+-- The trial of an unrooted question at a limit (document 01, a "roving" trial, steps 1 to 4 and 7).
 -- Assumes nothing.
 use Prim.Native.Nat.{ℕ, _+_, _*_, _/_, min}
 use mathlib.Core.Bool.{Bool, cond, _&&_, _||_}

@@ -1,1 +1,1 @@
-// Document 01 as definitions, and the theorems about them, on graphs apart from their bytes: see specs/. There is no code here.
+// Document 01 as definitions: see specs/. proofs/ has the laws of them that the theorems of the crates above share. There is no code here.

@@ -18,7 +18,7 @@ use Rattle.rules.specs.RootedTrial.{partOf, leftAt}
 use Rattle.split_laws.proofs.Trees.{grow-roots}
 use Rattle.split.specs.Pieces.{leftOf, piecesOf, leftPlaces, partPlaces}
 use Rattle.split.specs.ForestSplit.{Lent, Splits}
-use Rattle.split.proofs.PiecesOf.{piecesFor, pieces-length, lefts-below, parts-placed, lefts-placed}
+use Rattle.split.proofs.PiecesOf.{piecesFor, pieces-length, parts-placed, lefts-placed}
 
 module _ {g : Graph} {edges roots : List ℕ} {H : ℕ} {a z : Lent} {r used : ℕ} (x : Splits g edges roots H a z r used) where
   -- The trees of the roots, and what each is split into.
@@ -43,10 +43,6 @@ module _ {g : Graph} {edges roots : List ℕ} {H : ℕ} {a z : Lent} {r used : �
   -- The parts of all trees stand at their numbers,
   pub parts-are : map risen (treesAt (z .starts) (z .cuts) (z .flat) (partPlaces 0 pieces)) ≡ allParts pieces
   parts-are = held (partPlaces 0 pieces) ∙ parts-placed g H piece trees 0 r all
-
-  -- and the leftovers, each from its root, at theirs.
-  pub lefts-are : map risen (treesAt (z .starts) (z .cuts) (z .flat) (leftPlaces 0 pieces)) ≡ map (λ (t : Rooted). leftOf t (split g H t)) trees
-  lefts-are = held (leftPlaces 0 pieces) ∙ lefts-placed g H piece trees 0 r all
 
   -- There is a tree for each root, and a leftover for each tree.
   trees-count : length trees ≡ length roots
@@ -86,7 +82,3 @@ module _ {g : Graph} {edges roots : List ℕ} {H : ℕ} {a z : Lent} {r used : �
         ∙ same-images piece left (leftPlaces 0 pieces) trees (lefts-placed g H piece trees 0 r all) 0 t j (omega arith)
         ∙ ap (λ (v : ℕ). partAt v (split g H (getD trees j t) .left)) (sym (List·getD-map (λ (u : Rooted). u .root) trees j t) ∙ ap (λ (rs : List ℕ). getD rs j 0) (grow-roots g edges roots))
         ∙ ap (λ (p : Pieces). partAt (getD roots j 0) (p .left)) (sym (List·getD-map (split g H) trees j t))
-
-    -- The leftover's number is that of a piece.
-    pub left-below : getD (z .lefts) j 0 < r
-    left-below = omega (arith, left-place j l, lefts-below g H trees 0 j (omega (arith, trees-count)), held-count)

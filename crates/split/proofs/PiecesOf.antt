@@ -1,20 +1,20 @@
 -- The pieces of a forest's trees as one list: one tree more; every edge of a piece is one of the forest's; and, for whoever holds the pieces
 -- by number, the parts and the leftovers among them.
 -- Assumes nothing.
-use Prim.Native.Nat.{ℕ, zero, suc, _+_, _-_, _≤_, _<_}
+use Prim.Native.Nat.{ℕ, suc, _+_}
 use mathlib.Core.Path.{_≡_, refl, sym, ap, ap₂, _∙_}
 use mathlib.Core.List.{List, [], _∷_, _++_, map, map-append, List·Memᴰ·append-cases, List·Memᴰ·eq-of-singleton}
 use mathlib.Core.Logic.{_⊎_, inl, inr}
 use native.Mathlib.Numerals.{add-one}
 use native.Mathlib.Omega.{arith}
-use lib.ListN.{length, getD, take, drop, length-append, length-map, List·getD-append}
-use lib.Seq.{append-snoc, take-at, drop-at, getD-append-add}
+use lib.ListN.{length, take, drop, length-append, length-map}
+use lib.Seq.{append-snoc, take-at, drop-at}
 use Rattle.lists.specs.Count.{from}
 use Rattle.lists.specs.Lists.{flat}
 use Rattle.lists.specs.Member.{_∈_}
 use Rattle.lists.proofs.FlatMap.{of-flat-map, flat-map-more}
 use Rattle.lists.proofs.Numbered.{from-append}
-use Rattle.lists.proofs.Runs.{length-from, getD-map-from}
+use Rattle.lists.proofs.Runs.{length-from}
 use Rattle.lists.proofs.Sorting.{of-rise}
 use Rattle.graph.specs.Graph.{Graph}
 use Rattle.rules.specs.Cover.{Tree}
@@ -22,22 +22,7 @@ use Rattle.rules.specs.Grow.{Rooted, grow}
 use Rattle.rules.specs.Split.{Pieces, partAt, split, allParts}
 use Rattle.split_laws.proofs.Trees.{tree-hangs, tree-edge-known}
 use Rattle.split_laws.proofs.SplitTree.{tree-split}
-use Rattle.split.specs.Pieces.{leftOf, withLeft, piecesOf, leftPlaces, partPlaces, firstPiece}
-
--- No pieces, past the last tree.
-abbrev pub noPieces : Pieces
-noPieces = record { parts = []; left = [] }
-
--- No tree, past the last part.
-abbrev pub noTree : Tree
-noTree = record { start = 0; edges = [] }
-
--- The pieces f stand by number, the leftovers at the numbers `lefts`: the parts p of tree j stand from its first piece on, up to its leftover,
--- and behind a piece of each tree before.
-pub record PartsOf (f : ℕ → Tree) (lefts : List ℕ) (first : ℕ) (p : Pieces) (j : ℕ) : Type 0 where
-  pub behind : first + j ≤ firstPiece first lefts j
-  pub count : getD lefts j 0 ≡ firstPiece first lefts j + length (p .parts)
-  pub parts : map f (from (firstPiece first lefts j) (length (p .parts))) ≡ p .parts
+use Rattle.split.specs.Pieces.{leftOf, withLeft, piecesOf, leftPlaces, partPlaces}
 
 module _ (g : Graph) (H : ℕ) where
   -- The pieces of each tree.
@@ -78,19 +63,6 @@ module _ (g : Graph) (H : ℕ) where
       omega (arith, length-append (withLeft u (split g H u)) (piecesFor ts), with-left-length u)
       in
       ap (λ (l : List ℕ). (first + m) ∷ l) (lefts-more ts t (first + m + 1) ∙ ap (λ (k : ℕ). leftPlaces (first + m + 1) (map (split g H) ts) ++ (k ∷ [])) q)
-
-  -- Each leftover's number is that of a piece.
-  pub lefts-below : (ts : List Rooted) (first j : ℕ) → j < length ts → getD (leftPlaces first (map (split g H) ts)) j 0 < first + length (piecesFor ts)
-  unfolding leftPlaces flat
-  lefts-below [] first j l = absurd (omega arith)
-  lefts-below (t ∷ ts) first zero l = omega (arith, length-append (withLeft t (split g H t)) (piecesFor ts), with-left-length t)
-  lefts-below (t ∷ ts) first (suc j) l =
-      omega (
-        arith,
-        lefts-below ts (first + length (split g H t .parts) + 1) j (omega arith),
-        length-append (withLeft t (split g H t)) (piecesFor ts),
-        with-left-length t,
-      )
 
   -- What the pieces that stand by number from the first one on are, of one tree and of those after it.
   record FirstTree (f : ℕ → Tree) (first : ℕ) (t : Rooted) (ts : List Rooted) : Type 0 where
@@ -143,52 +115,6 @@ module _ (g : Graph) (H : ℕ) where
     lefts-placed (t ∷ ts) first k q =
         let x = first-tree t ts first k q in
         ap₂ _∷_ (x .left) (lefts-placed ts (first + length (split g H t .parts) + 1) (length (piecesFor ts)) (x .rest))
-
-    -- The parts of tree j stand from its first piece on, up to its leftover.
-    pub tree-placed : (ts : List Rooted) (first k : ℕ) → map f (from first k) ≡ piecesFor ts → (j : ℕ) → j < length ts
-        → PartsOf f (leftPlaces first (map (split g H) ts)) first (getD (map (split g H) ts) j noPieces) j
-    unfolding leftPlaces firstPiece
-    tree-placed [] first k q j l = absurd (omega arith)
-    tree-placed (t ∷ ts) first k q zero l = record { behind = omega arith; count = refl; parts = first-tree t ts first k q .parts }
-    tree-placed (t ∷ ts) first k q (suc zero) l =
-        let x = tree-placed ts (first + length (split g H t .parts) + 1) (length (piecesFor ts)) (first-tree t ts first k q .rest) zero (omega arith) in
-        record { behind = omega arith; count = x .count; parts = x .parts }
-    tree-placed (t ∷ ts) first k q (suc (suc j)) l =
-        let x = tree-placed ts (first + length (split g H t .parts) + 1) (length (piecesFor ts)) (first-tree t ts first k q .rest) (suc j) (omega arith) in
-        record { behind = omega (arith, x .behind); count = x .count; parts = x .parts }
-
-    -- a part behind those of the first tree
-    behind-parts : (ps rest : List Tree) (first j i : ℕ) → first + length ps + 1 + j ≤ i
-        → getD rest (i - (first + length ps + 1 + j)) noTree ≡ f i → getD (ps ++ rest) (i - (first + suc j)) noTree ≡ f i
-    behind-parts ps rest first j i h q =
-        let e : i - (first + suc j) ≡ length ps + (i - (first + length ps + 1 + j)) = omega arith in
-        rw (e, getD-append-add ps rest) q
-
-    -- So a piece of tree j that is no leftover is the part whose number is less by the leftovers before it.
-    pub part-placed : (ts : List Rooted) (first k : ℕ) → map f (from first k) ≡ piecesFor ts → (j i : ℕ) → j < length ts
-        → firstPiece first (leftPlaces first (map (split g H) ts)) j ≤ i → i < getD (leftPlaces first (map (split g H) ts)) j 0
-        → getD (allParts (map (split g H) ts)) (i - (first + j)) noTree ≡ f i
-    unfolding leftPlaces firstPiece allParts flat
-    part-placed [] first k q j i l lo hi = absurd (omega arith)
-    part-placed (t ∷ ts) first k q zero i l lo hi =
-        let m : ℕ = length (split g H t .parts) in
-        let n : ℕ = i - (first + 0) in
-        let e : first + n ≡ i = omega arith in
-        List·getD-append (split g H t .parts) (allParts (map (split g H) ts)) noTree n (omega arith)
-        ∙ ap (λ (ps : List Tree). getD ps n noTree) (sym (first-tree t ts first k q .parts))
-        ∙ getD-map-from f noTree first m n (omega arith)
-        ∙ ap f e
-    part-placed (t ∷ ts) first k q (suc zero) i l lo hi =
-        let next : ℕ = first + length (split g H t .parts) + 1 in
-        let rest = first-tree t ts first k q .rest in
-        behind-parts (split g H t .parts) (allParts (map (split g H) ts)) first zero i (omega arith)
-        (part-placed ts next (length (piecesFor ts)) rest zero i (omega arith) (omega arith) hi)
-    part-placed (t ∷ ts) first k q (suc (suc j)) i l lo hi =
-        let next : ℕ = first + length (split g H t .parts) + 1 in
-        let rest = first-tree t ts first k q .rest in
-        behind-parts (split g H t .parts) (allParts (map (split g H) ts)) first (suc j) i
-        (omega (arith, tree-placed ts next (length (piecesFor ts)) rest (suc j) (omega arith) .behind))
-        (part-placed ts next (length (piecesFor ts)) rest (suc j) i (omega arith) lo hi)
 
 -- Every edge of a piece is one of the forest's.
 pub piece-edge-known : (g : Graph) (H : ℕ) (edges roots : List ℕ) {p : Tree} {e : ℕ} → p ∈ piecesOf g H edges roots → e ∈ p .edges → e ∈ edges

@@ -1,4 +1,4 @@
--- What the contracts of this crate cite, in reading order.
+-- What the contracts of `split` say, in reading order.
 -- what the rules make of a forest's trees, as one list of pieces
 pub mod Pieces
 -- the pieces that arrays hold

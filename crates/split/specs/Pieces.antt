@@ -1,9 +1,9 @@
 -- What the rules make of a forest's trees (document 01, steps 3 and 4), as one list of pieces: for each root the parts of its tree in the
 -- order in which they are split off, then what is left at the root.
 -- Assumes nothing.
-use Prim.Native.Nat.{ℕ, zero, suc, _+_}
+use Prim.Native.Nat.{ℕ, _+_}
 use mathlib.Core.List.{List, [], _∷_, _++_, map}
-use lib.ListN.{length, getD}
+use lib.ListN.{length}
 use Rattle.lists.specs.Count.{from}
 use Rattle.lists.specs.Lists.{flat}
 use Rattle.graph.specs.Graph.{Graph}
@@ -32,8 +32,3 @@ leftPlaces first (p ∷ ps) = (first + length (p .parts)) ∷ leftPlaces (first 
 unfoldable pub partPlaces : ℕ → List Pieces → List ℕ
 partPlaces first [] = []
 partPlaces first (p ∷ ps) = from first (length (p .parts)) ++ partPlaces (first + length (p .parts) + 1) ps
-
--- The number of tree j's first piece, from the numbers of the leftovers: it stands behind the leftover of the tree before.
-unfoldable pub firstPiece : ℕ → List ℕ → ℕ → ℕ
-firstPiece first lefts zero = first
-firstPiece first lefts (suc j) = getD lefts j 0 + 1

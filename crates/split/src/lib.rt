@@ -58,7 +58,7 @@ fn split_roots(
 }
 
 // Splits the trees of the roots with threshold h. `bounds` and `arcs` hold the edges around each of n vertices of a forest, `Around`
-// in the crate `forest`. The answer is the number of pieces: for each root the parts of its tree in the order in which they are
+// in the crate `edges`. The answer is the number of pieces: for each root the parts of its tree in the order in which they are
 // split off, then what is left at the root.
 //   Piece i starts at starts[i], "the stop where the part was split off" or the root, and its edges are flat[cuts[i] .. cuts[i + 1]].
 //   What is left at root j is piece lefts[j].

@@ -22,7 +22,7 @@ pub mod Grown
 pub mod Deep
 -- the trees grown from all roots
 pub mod Trees
--- every vertex linked to a root is a root or a child, once
+-- every vertex linked to a root is a root or a child
 pub mod Reached
 -- every edge of a forest stands in its trees exactly once
 pub mod Once

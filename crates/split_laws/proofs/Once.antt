@@ -1,5 +1,4 @@
--- Every edge of a list without loops stands in the grown trees exactly once, where it is linked to a root, so that the trees weigh what
--- the list weighs. No edge stands there twice, as when it is taken its far end is new. An edge that were not taken would have both ends
+-- Every edge of a list without loops stands in the grown trees exactly once, where it is linked to a root. No edge stands there twice, as when it is taken its far end is new. An edge that were not taken would have both ends
 -- linked to roots by the edges of the trees, which are other edges of the list: a loop.
 -- Assumes nothing.
 use Prim.Native.Nat.{ℕ, zero, suc, _≤_, _<_}
@@ -54,7 +53,7 @@ module _ (g : Graph) (edges roots : List ℕ) where
         go (suc n) q = omega (arith, edge-at-most-once e)
 
     module _ (once : (e : ℕ) → times e edges ≤ 1) (all : (e : ℕ) → e ∈ edges → Reached g roots edges (oneEnd g e)) where
-      -- Where no edge is listed twice and all are linked to roots, the trees hold each number as often as the list does,
+      -- Where no edge is listed twice and all are linked to roots, the trees hold each number as often as the list does.
       pub edges-same : (e : ℕ) → times e (allEdges (grow g edges roots)) ≡ times e edges
       edges-same e = go (times e edges) refl
         where

@@ -1,5 +1,5 @@
 -- Which vertices the trees hold: every root and child is linked to a root by edges of the trees, and every vertex that the edges link to a
--- root is a root or the child of exactly one branch.
+-- root is a root or a child.
 -- Assumes nothing.
 use Prim.Native.Nat.{ℕ, zero, suc, _+_, _≤_, _<_}
 use mathlib.Core.Path.{_≡_, refl, sym}
@@ -68,7 +68,7 @@ module _ (g : Graph) (edges : List ℕ) (inside : Inside g edges) where
         go zero q = inr (times-in x (allChildren (grow g edges roots)) (omega arith))
         go (suc n) q = inl (times-in x roots (omega arith))
 
-    -- Every vertex that the edges link to a root is a root or a child,
+    -- Every vertex that the edges link to a root is a root or a child.
     pub all-reached : ((r : ℕ) → r ∈ roots → r < g .vertices) → {x : ℕ} → Reached g roots edges x → (x ∈ roots) ⊎ (x ∈ allChildren (grow g edges roots))
     unfolding grow
     all-reached within {x} (r, is-root, linked) =

@@ -36,7 +36,7 @@ module _ {ℓ} {B : Type ℓ} (pick : Pieces → List B) (g : Graph) (H : ℕ) w
       (t, k, rw q at n)
 
 module _ (g : Graph) (H : ℕ) where
-  -- A part of one of the trees is a part of all, and the other way round;
+  -- A part of one of the trees is a part of all, and the other way round.
   pub in-all-parts : {p : Tree} {t : Rooted} {trees : List Rooted} → t ∈ trees → p ∈ split g H t .parts → p ∈ allParts (map (split g H) trees)
   unfolding allParts
   in-all-parts m n = in-picked (λ (s : Pieces). s .parts) g H m n
@@ -45,7 +45,7 @@ module _ (g : Graph) (H : ℕ) where
   unfolding allParts
   of-all-parts trees m = of-picked (λ (s : Pieces). s .parts) g H trees m
 
-  -- So it is with what is left.
+  -- What is left of all trees is left of one of them.
   pub of-all-left : {e : ℕ} (trees : List Rooted) → e ∈ allLeft (map (split g H) trees) → (t : Rooted) × (t ∈ trees) × (e ∈ split g H t .left)
   unfolding allLeft
   of-all-left trees m = of-picked (λ (s : Pieces). s .left) g H trees m

@@ -1,5 +1,5 @@
 -- Laws that belong to no one function, in reading order.
--- steps: no mark is lost, and nothing is left to be grown
+-- no mark is lost, and nothing is left to be grown
 pub mod StepsMark
 -- one pass over the steps counts the parts below a vertex
 pub mod StepsCounted

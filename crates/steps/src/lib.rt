@@ -64,7 +64,7 @@ fn put_trees(
 }
 
 // Writes the walk of the roots' trees over n vertices of a forest, and says how many steps it has. `bounds` and `arcs` hold the edges
-// around each vertex, as for `split_forest`.
+// around each vertex, as for `split_forest` of the crate `split`.
 pub fn put_walk(n: usize, bounds: &[u16], arcs: &[u64], roots: &[u16], walk: &mut [u64]) -> usize
     requires { ⌜ WalkAsked n (now bounds) (now arcs) (now roots) (now walk) ⌝ }
     ensures { λ r. ⌜ WalkPut n (now (bounds .entry)) (now (arcs .entry)) (now (roots .entry)) (now (walk .entry)) (now (walk .exit)) r ⌝ }

@@ -1,4 +1,4 @@
--- Writing the steps below a vertex meets its contract. The measure is what is left to be visited: a child has no mark, and is marked before the call.
+-- `steps::put_steps` meets its contract. The measure is what is left to be visited: a child has no mark, and is marked before the call.
 -- Assumes nothing.
 use Prim.Native.Nat.{ℕ, _+_, _-_, _≤_, _<_}
 use mathlib.Core.Path.{_≡_}

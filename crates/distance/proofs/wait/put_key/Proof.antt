@@ -1,6 +1,5 @@
 -- `distance::wait::put_key` meets its contract: the lower of the block's least and the key is the block's least now. Assumes nothing.
 use mathlib.Core.Path.{refl}
-use native.Mathlib.Omega.{arith}
 use borrow.Author.Needs.{needs}
 use Rattle.distance.proofs.KeyBlocks.{blocks-put}
 use Rattle.distance.proofs.wait.put_key.Statement.{statement}

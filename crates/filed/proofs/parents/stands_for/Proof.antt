@@ -4,7 +4,6 @@ use Prim.Native.Nat.{_<_}
 use mathlib.Core.Path.{_≡_}
 use native.Mathlib.Omega.{arith}
 use lib.ListN.{length, getD, set}
-use borrow.Author.Needs.{needs}
 use Rattle.filed.proofs.JoinedByParents.{OnTheWay, way-begins, way-on, way-ends}
 use Rattle.filed.proofs.parents.stands_for.Statement.{statement}
 use Rattle.filed.proofs.parents.stands_for.Tie as tie

@@ -7,9 +7,6 @@ use lib.Dec.{leb}
 use Rattle.marks.proofs.RowMarks.{Marking, marking-none, marking-more, marking-all}
 use Rattle.marks.proofs.near.mark_near.Statement.{statement}
 use Rattle.marks.proofs.near.mark_near.Tie as tie
-use Rattle.marks.proofs.near.mark_near.Reads as reads
-use Rattle.marks.proofs.near.mark_near.Lts as lts
-use Rattle.marks.proofs.near.marked_near.Reads as marked-near-reads
 
 abbrev Inv-loop : tie.InvT-loop
 Inv-loop distances limit row₀ j₀ row j = Marking (λ i. leb (getD distances i 0) limit) j row₀ row

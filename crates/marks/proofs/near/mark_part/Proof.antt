@@ -1,7 +1,7 @@
 -- `marks::near::mark_part` meets its contract: the row is marked for the start, and then for the ends of one edge after the other.
 -- The loop's invariant: behind the start the row is marked for the ends of the first i edges. Assumes nothing.
-use Prim.Native.Nat.{ℕ, _+_, _-_, _≤_}
-use mathlib.Core.Path.{_≡_, sym, ap, _∙_}
+use Prim.Native.Nat.{ℕ, _-_, _≤_}
+use mathlib.Core.Path.{_≡_, _∙_}
 use mathlib.Core.List.{List, [], _∷_, map}
 use native.Mathlib.Omega.{arith}
 use borrow.Author.Needs.{needs}

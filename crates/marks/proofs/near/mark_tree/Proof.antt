@@ -1,8 +1,6 @@
 -- `marks::near::mark_tree` meets its contract: what stands between the two bounds is the tree's segment. Assumes nothing.
-use Prim.Native.Nat.{ℕ, _+_, _-_, _^_, _≤_, _<_}
-use mathlib.Core.Path.{_≡_, sym, ap}
+use Prim.Native.Nat.{ℕ, _+_, _-_, _^_}
 use mathlib.Core.List.{List}
-use native.Mathlib.Omega.{arith}
 use lib.ListN.{length, getD, take, drop}
 use Rattle.lists.specs.Segments.{segment}
 use Rattle.lists.proofs.SegmentSizes.{slice-taken}

@@ -8,9 +8,6 @@ use Rattle.marks.proofs.RowMarks.{marked-same, part-at}
 use borrow.Author.Needs.{needs}
 use Rattle.marks.proofs.near.mark_vertex.Statement.{statement}
 use Rattle.marks.proofs.near.mark_vertex.Tie as tie
-use Rattle.marks.proofs.near.mark_vertex.Reads as reads
-use Rattle.marks.proofs.near.mark_vertex.Lts as lts
-use Rattle.marks.proofs.near.mark_near.Reads as mark-near-reads
 
 mul-from : tie.Need-mul-from
 mul-from c = search needs

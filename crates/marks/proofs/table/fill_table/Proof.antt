@@ -1,13 +1,11 @@
 -- `marks::table::fill_table` meets its contract. The loop's invariant: the distances and the last edges of the first j roots are written.
 -- The measure is how many roots are left. Assumes nothing.
-use Prim.Native.Nat.{ℕ, _+_, _*_, _-_, _^_, _≤_, _<_}
-use mathlib.Core.Path.{_≡_, refl, _∙_}
-use mathlib.Core.List.{List}
+use Prim.Native.Nat.{ℕ, _+_, _*_, _-_, _≤_}
+use mathlib.Core.Path.{_≡_}
 use native.Mathlib.Omega.{arith}
 use borrow.Author.Needs.{needs}
 use lib.ListN.{length, getD, take, drop, length-drop}
 use lib.Seq.{length-take-le}
-use Rattle.marks.specs.Table.{RootAsked, RootFilled}
 use Rattle.marks.proofs.RowMarks.{row-room}
 use Rattle.marks.proofs.ColumnsWritten.{TableUnderway, table-none, table-put, table-all}
 use Rattle.marks.proofs.table.fill_table.Statement.{statement}

@@ -1,6 +1,6 @@
 -- `marks::table::put_column` meets its contract. The loop's invariant: the first v places of the column are written. The measure is how
 -- many are left. Assumes nothing.
-use Prim.Native.Nat.{ℕ, _+_, _*_, _-_, _≤_, _<_}
+use Prim.Native.Nat.{_+_, _*_, _-_, _<_}
 use native.Mathlib.Omega.{arith}
 use borrow.Author.Needs.{needs}
 use lib.ListN.{length}
