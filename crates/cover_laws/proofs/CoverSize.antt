@@ -54,10 +54,6 @@ entries-few (t ∷ ts) each =
 pub bytes-few : (trees : List Tree) → length trees ≤ 32 → ((t : Tree) → t ∈ trees → length (t .edges) ≤ 255) → length (encode trees) ≤ 32708
 bytes-few trees few each = omega (arith, length-encode trees, entries-few trees each)
 
--- So are the bytes of at most 33 parts with fewer than 256 edges in all.
-pub parts-bytes-few : (parts : List Tree) → length parts ≤ 33 → length (entryEdges parts) < 256 → length (encode parts) ≤ 32708
-parts-bytes-few parts few light = omega (arith, length-encode parts)
-
 module _ (g : Graph) (valid : Valid g) where
   -- A tree has fewer edges than there are vertices.
   pub tree-edges-few : (t : Tree) → IsTree g t → length (t .edges) < g .vertices

@@ -2,13 +2,13 @@
 -- repeats are such lists, and one set of laws serves them all.
 -- Assumes nothing.
 use Prim.Native.Nat.{ℕ, _<_}
-use mathlib.Core.Path.{_≡_, refl}
+use mathlib.Core.Path.{refl}
 use mathlib.Core.Bool.{Bool, true, false, cond}
-use mathlib.Core.List.{List, [], _∷_, _++_, List·Memᴰ·head, List·Memᴰ·tail, List·Memᴰ·append-cases}
+use mathlib.Core.List.{List, _∷_, _++_, List·Memᴰ·head, List·Memᴰ·tail, List·Memᴰ·append-cases}
 use mathlib.Core.Logic.{_⊎_, inl, inr}
 use native.Mathlib.Omega.{arith}
 use Rattle.lists.specs.Lists.{filter}
-use Rattle.lists.specs.Member.{_∈_, Rising, none as rising-none, next as rising-next}
+use Rattle.lists.specs.Member.{_∈_, Rising}
 use Rattle.lists.proofs.Member.{of-filter}
 pub use Rattle.lists.specs.InOrder.{InOrder, none, next, Once}
 

@@ -7,7 +7,7 @@ use mathlib.Core.Logic.{dite}
 use mathlib.Core.List.{List, [], _++_, append-nil}
 use native.Mathlib.Decide.{decLe}
 use native.Mathlib.Omega.{arith}
-use lib.ListN.{length, take, drop, set, length-set, drop-of-length-le}
+use lib.ListN.{length, drop, set, length-set, drop-of-length-le}
 use lib.Seq.{take-all, drop-drop, drop-set-lt}
 use Rattle.lists.specs.Put.{OnlyFirst}
 use Rattle.lists.proofs.Put.{only-first, only-first-length, only-first-rest}

@@ -1,7 +1,7 @@
 -- Segments that begin at the front and follow one another hold every element up to the last bound.
 -- Assumes nothing.
 use Prim.Native.Nat.{ℕ, zero, suc, _+_, _≤_, _<_}
-use mathlib.Core.Path.{_≡_, refl, sym, ap}
+use mathlib.Core.Path.{_≡_, refl}
 use mathlib.Core.List.{List, List·Memᴰ·head, Memᴰ·append-right}
 use mathlib.Core.Logic.{dite}
 use native.Mathlib.Decide.{decLt}

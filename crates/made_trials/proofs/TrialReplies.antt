@@ -1,10 +1,9 @@
 -- What is written of the reply to a trial, reply by reply, and that it fits.
 -- Assumes nothing.
 use Prim.Native.Nat.{ℕ, _≤_}
-use mathlib.Core.Path.{_≡_, sym, ap, subst, _∙_}
+use mathlib.Core.Path.{_≡_, sym, subst}
 use mathlib.Core.Bool.{Bool}
 use mathlib.Core.List.{List, [], _∷_}
-use native.Mathlib.Omega.{arith}
 use lib.ListN.{length, take}
 use denote.Enum.Declared.{tagOf}
 use types.Run.{OneOf, miss}

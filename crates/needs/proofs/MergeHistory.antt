@@ -17,7 +17,7 @@ use Rattle.forest_laws.proofs.VertexLabels.{VertexLabels, own}
 use Rattle.needs.specs.Given.{labelWeight}
 use Rattle.needs.specs.History.{sumTo, componentsSum, valueAt}
 use Rattle.needs.proofs.SumsTo.{sum-to-more, sum-to-same, sum-to-two}
-use Rattle.needs.proofs.MergedWeights.{is-own, own-kept, own-lost, own-other, added-kept, added-other, sum-merged}
+use Rattle.needs.proofs.MergedWeights.{is-own, own-lost, own-other, added-kept, added-other, sum-merged}
 
 -- After j merges: `made` has, at each vertex that is its own label, the merge that completed its component's tree, 0 where there was none. No merge
 -- took that tree up, different components have different ones, and whatever was taken up was so by one of the j.

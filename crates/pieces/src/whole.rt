@@ -12,7 +12,7 @@ ghost use Rattle.forest.specs.Keeping.{Labelable};
 ghost use Rattle.pieces.specs.Whole.{AllJoined, EdgesLabelled, StopAsked, StopFound, WholeAsked, WholeForest, WholeKept, LightForest};
 
 // Joins the ends of each edge, one edge after the other, from the labels given.
-pub fn join_all(b: &[u8], edges: &[u16], label: &mut [u16])
+fn join_all(b: &[u8], edges: &[u16], label: &mut [u16])
     requires { ⌜ Labelable (now b) (now label) ⌝ }
     ensures { λ _. ⌜ AllJoined (graphOf (now (b .entry))) (now (edges .entry)) (now (label .entry)) (now (label .exit)) ⌝ }
 {

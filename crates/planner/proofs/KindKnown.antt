@@ -3,7 +3,6 @@
 use Prim.Native.Nat.{ℕ, _≤_}
 use mathlib.Core.Path.{_≡_, refl}
 use mathlib.Core.List.{List, []}
-use native.Mathlib.Omega.{arith}
 use Rattle.graph.specs.Bytes.{graphOf}
 use Rattle.rules.specs.Order.{ordered}
 use Rattle.cover.specs.declared.crews.Kind.{Kind}

@@ -1,13 +1,13 @@
 -- The questions test by test, in the order of document 01: what each test that fails makes of the reply; and what the replies mean.
 -- Assumes nothing.
 use Prim.Native.Nat.{ℕ, _≤_, _<_}
-use mathlib.Core.Path.{_≡_, refl, sym, ap, _∙_}
-use mathlib.Core.Bool.{Bool, true, false}
+use mathlib.Core.Path.{_≡_, refl, sym, _∙_}
+use mathlib.Core.Bool.{Bool, true}
 use mathlib.Core.List.{List, [], _∷_, List·Memᴰ·head, List·Memᴰ·tail}
-use mathlib.Core.Option.{Option, some, none}
+use mathlib.Core.Option.{some, none}
 use native.Mathlib.Omega.{arith}
 use lib.ListN.{length}
-use lib.Dec.{leb, ltb}
+use lib.Dec.{leb}
 use borrow.Author.Tests.{leb-true, leb-false, lt-ltb, le-ltb}
 use Rattle.graph.specs.Graph.{Graph}
 use Rattle.graph.specs.Bytes.{graphOf}
@@ -15,14 +15,11 @@ use Rattle.graph.specs.Check as sheet
 use Rattle.graph.specs.Fault.{Fault, faultIf, firstFault, refusedOr}
 use Rattle.graph.specs.Valid.{Valid}
 use Rattle.graph.proofs.Faults.{refuses, quiet-each}
-use Rattle.graph.proofs.Exactly.{yes-graph}
 use Rattle.rules.specs.Cover as cover
 use Rattle.rules.specs.Reply as rules
-use Rattle.rules.specs.RootedTrial.{Choices}
-use Rattle.rules.specs.Search.{trial, best, bestLimit}
+use Rattle.rules.specs.Search.{trial, best}
 use Rattle.rules.specs.Questions.{numberIn, sheetFault, crewFault, limitFault, roomFault, trialFault, askTrial, bestFault, askBest, written, bufferAfter}
-use Rattle.rules.specs.Fit.{CrewsFit, GoodFor}
-use Rattle.planner_laws.specs.Meaning.{TrialMeans, BestMeans}
+use Rattle.rules.specs.Fit.{CrewsFit}
 use Rattle.rules.proofs.SheetRight.{sheet-right}
 use Rattle.rules.proofs.CrewsRight.{rooted-fit, unrooted-fit}
 use Rattle.planner_laws.proofs.BothKinds.{trial-bounds}
@@ -31,10 +28,10 @@ use Rattle.cover.specs.declared.crews.Kind.{Kind}
 use Rattle.cover.specs.declared.crews.Kind.the-variants.{Rooted, Unrooted}
 use Rattle.cover.specs.Crews.{crewsOf}
 use Rattle.pieces.specs.declared.reply.Reply.{Reply}
-use Rattle.pieces.specs.Replies.{said, saidOf, says, Replied}
+use Rattle.pieces.specs.Replies.{said, says, Replied}
 use Rattle.planner.specs.declared.ask.Asked.{Asked}
 use Rattle.planner.specs.declared.ask.Asked.the-variants.{At, Best}
-use Rattle.planner.specs.Asking.{limitOf, replyTo, LimitFits, Answered}
+use Rattle.planner.specs.Asking.{Answered}
 use Rattle.planner.specs.Promise.{Refuses, TrialPromise, BestPromise, limitFaultOf, faultOf, LimitTested, QuestionPromise}
 
 -- THE TESTS

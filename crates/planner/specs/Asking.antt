@@ -68,7 +68,7 @@ pub record LimitAsked (kind : Kind) (k : ℕ) (b roots : List ℕ) (limit : ℕ)
   pub answer : AnswerAsked kind k b roots order kept bounds arcs table lasts total until room
   pub limit-most : limit ≤ 2048000000
 
--- The same for what is asked.
+-- Everything that the crews read, for what is asked: a limit that is given is within document 01's range.
 pub record AskedReady (kind : Kind) (k : ℕ) (b roots : List ℕ) (asked : Asked) (order kept bounds arcs table lasts total until : List ℕ) (room : ℕ) : Type 0 where
   pub answer : AnswerAsked kind k b roots order kept bounds arcs table lasts total until room
   pub limit-fits : LimitFits asked
@@ -85,7 +85,7 @@ pub record RootedLent (b roots : List ℕ) (asked : Asked) (order kept bounds al
   pub arrays : RootedRoom (graphOf b .vertices) (edgeCount (graphOf b)) (length roots) (length order) (length kept) (length bounds) (length all) (length arcs)
       (length table) (length lasts)
 
--- The same, about a small graph.
+-- A question by crews with roots of which nothing is prepared yet, about a small graph.
 pub record RootedSmall (b roots : List ℕ) (asked : Asked) (room : ℕ) : Type 0 where
   pub question : RootedAsked b roots asked room
   pub small : Small (graphOf b) (length roots)
@@ -102,7 +102,7 @@ pub record UnrootedLent (k : ℕ) (b : List ℕ) (asked : Asked) (keys spare ord
   pub question : UnrootedAsked k b asked room
   pub for-order : RoomForOrder b keys spare order
 
--- The same, about at most 512 edges.
+-- A question by crews without roots of which nothing is prepared yet, about at most 512 edges.
 pub record UnrootedSmall (k : ℕ) (b : List ℕ) (asked : Asked) (room : ℕ) : Type 0 where
   pub question : UnrootedAsked k b asked room
   pub edges-few : edgeCount (graphOf b) ≤ 512

@@ -1,4 +1,4 @@
-// The answer at a limit, by crews of either kind.
+// Whether there is no cover at all, and the answer at a limit, by crews of either kind.
 use cover::crews::Kind;
 use pieces::reply::Reply;
 use rooted::answer::answer_rooted;

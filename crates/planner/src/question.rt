@@ -5,7 +5,6 @@ use cover::crews::Kind;
 use cover::crews::crews_right;
 use graph::Checked;
 use pieces::reply::Reply;
-ghost use lib.ListN.{length};
 ghost use Rattle.planner.specs.Promise.{LimitTested, QuestionPromise, TrialPromise, BestPromise};
 
 // Whether the limit, where one is given, is at most 2,048,000,000.

@@ -1,5 +1,5 @@
 -- What the components need, without growing or splitting their trees: the sum, over the lowest vertices, of what the forest's edges with that
--- vertex's label ask for. The forest's own edges, merged in any order, show the labels and so the lowest vertices.
+-- vertex's label ask for.
 -- Assumes nothing.
 use Prim.Native.Nat.{ℕ, _+_, _*_, _/_}
 use mathlib.Core.Path.{_≡_, sym, ap, _∙_}

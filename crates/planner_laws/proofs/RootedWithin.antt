@@ -1,5 +1,4 @@
--- A rooted cover in which no tree weighs more than a limit: its trees start at the roots, and their edges are within the limit. So each
--- vertex is linked to a root by edges within the limit.
+-- A rooted cover in which no tree weighs more than a limit: its trees start at the roots, one for each, and their edges are within the limit.
 -- Assumes nothing.
 use Prim.Native.Nat.{ℕ, _≤_, _<_}
 use mathlib.Core.Path.{_≡_, sym, ap, _∙_}

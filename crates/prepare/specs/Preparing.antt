@@ -1,4 +1,4 @@
--- What preparing a question asks, and what stands prepared, for crews of each kind what they read.
+-- What preparing a question asks, for which graphs and crews small arrays are enough, and what stands prepared: for crews of each kind what they read.
 -- Assumes nothing.
 use Prim.Native.Nat.{ℕ, _*_, _≤_, _<_}
 use mathlib.Core.Path.{_≡_}

@@ -6,7 +6,6 @@ use planner::question::trial;
 use reply_text::reply::write_refused;
 use reply_text::reply::write_reply;
 ghost use mathlib.Core.Path.{_≡_};
-ghost use Prim.Native.Nat.{_≤_};
 ghost use lib.ListN.{length};
 ghost use Rattle.question.specs.Question.{unknown as unknownIn, SheetAnswered, Answered, AnswerAsked, AnswerPromise};
 

@@ -7,7 +7,7 @@ use native.Mathlib.Omega.{arith}
 use lib.ListN.{length, length-append}
 use Rattle.graph.specs.Bytes.{graphOf}
 use Rattle.rules.specs.CoverBytes.{decode}
-use Rattle.reply_text.specs.Lines.{bytesOf, digits, spaced, ended, line}
+use Rattle.reply_text.specs.Lines.{bytesOf, spaced, ended, line}
 use Rattle.reply_text.specs.Text.{treeLines}
 use Rattle.reply_text.specs.Replies.{coverText}
 use Rattle.reply_text.proofs.Digits.{digits-few}

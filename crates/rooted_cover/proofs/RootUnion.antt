@@ -8,16 +8,13 @@ use native.Mathlib.Omega.{arith}
 use lib.ListN.{length, getD, replicate, length-replicate}
 use lib.Dec.{eqb}
 use Rattle.lists.specs.Lists.{any, member}
-use Rattle.lists.specs.Put.{PutTo}
 use Rattle.lists.specs.Segments.{segment}
 use Rattle.lists.proofs.AnyOn.{any-on}
 use Rattle.lists.proofs.Zeros.{zeros-at}
 use Rattle.graph.specs.Graph.{Graph, edgeCount}
 use Rattle.graph.specs.Valid.{Valid}
-use Rattle.distance.specs.Trail.{trailOf}
 use Rattle.marks.specs.Near.{Marked}
 use Rattle.rooted_cover.specs.Tree.{AssignedMarked, nobody, somebody, AssignedAre, none, part, TreeKept, RootWritten}
-use Rattle.marks.proofs.RowMarks.{marked-same}
 use Rattle.marks.proofs.TreeMarks.{marked-both}
 use Rattle.marks.proofs.UnionEdges.{union-edges}
 

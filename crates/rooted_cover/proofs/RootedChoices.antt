@@ -112,7 +112,7 @@ module _ {g : Graph} {roots : List ℕ} {limit : ℕ} {a : TrialArrays} {parts :
         let l : i < parts = omega (arith, p .parts-count) in
         (i, l, sym (byte p i l) ∙ eqb-true _ _ t, rw (part-edges i l) at n)
 
-    -- So the root's tree is the cover's, where the root has a part
+    -- So the root's tree is the cover's, where the root has a part,
     with-part : (i : ℕ) → i < parts → getD (a .out) i 0 ≡ j → tree j ≡ unionTree g (getD roots j 0) (own ++ leftAt (rootedPieces g roots limit) j) .edges
     with-part i l q =
         let x = path-of i l in

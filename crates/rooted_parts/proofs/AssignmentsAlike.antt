@@ -1,18 +1,18 @@
--- Assignments and deficient sets by two tests that agree on all parts and roots are the same.
+-- Assignments and deficient sets by two tests that agree on all parts and roots are the same; and more parts than roots have no assignment.
 -- Assumes nothing.
-use Prim.Native.Nat.{ℕ, _<_, _≤_}
+use Prim.Native.Nat.{ℕ, _<_}
 use mathlib.Core.Path.{_≡_, refl, sym, ap, _∙_}
 use mathlib.Core.Bool.{Bool, true, false, _&&_}
 use mathlib.Core.List.{List}
 use mathlib.Core.Logic.{_⊎_, inl, inr}
 use native.Mathlib.Omega.{arith}
-use lib.ListN.{length, getD}
-use Rattle.lists.specs.Count.{below, count, anyBelow}
+use lib.ListN.{getD}
+use Rattle.lists.specs.Count.{below, anyBelow}
 use Rattle.lists.proofs.Fewer.{count-no-more}
 use Rattle.lists.proofs.Member.{either}
 use Rattle.lists.proofs.Pigeonhole.{count-all, count-into}
 use Rattle.lists.proofs.SameTests.{any-below-same}
-use Rattle.matching.specs.Assignment.{IsAssignment, IsDeficient, marked, allowedRoots}
+use Rattle.matching.specs.Assignment.{IsAssignment, IsDeficient, marked}
 use Rattle.matching.specs.Assignable.{assignable}
 use Rattle.matching.proofs.AssignableLaws.{assignable-some, some-assignable}
 

@@ -1,7 +1,7 @@
 -- Chosen pieces that are laid out with their edges rising, and numbered in order of their first edges, are the pieces "ordered by smallest
 -- line"; and they may be written.
 -- Assumes nothing.
-use Prim.Native.Nat.{ℕ, _+_, _*_, _≤_, _<_}
+use Prim.Native.Nat.{ℕ, _≤_, _<_}
 use mathlib.Core.Path.{_≡_, sym, ap, ap₂, _∙_}
 use mathlib.Core.List.{List, map, map-map}
 use native.Mathlib.Omega.{arith}
@@ -18,11 +18,10 @@ use Rattle.lists.proofs.Places.{map-at, map-at-places}
 use Rattle.lists.proofs.Put.{put-front}
 use Rattle.lists.proofs.Runs.{length-below}
 use Rattle.lists.proofs.Sorting.{of-sort, sort-once, sort-length}
-use Rattle.rules.specs.Cover.{Tree}
 use Rattle.rules.specs.Held.{treeAt, treesAt, risen}
 use Rattle.rules.specs.Split.{smallestEdge}
 use Rattle.cover_laws.proofs.Writing.{length-encode}
-use Rattle.cover.specs.Chosen.{startsAt, AllHeld, Writable}
+use Rattle.cover.specs.Chosen.{startsAt, Writable}
 use Rattle.cover.proofs.ChosenBytes.{chosen-trees}
 use Rattle.cover.proofs.ChosenFit.{bounded-held, bounded-entries}
 use Rattle.pieces.specs.Chosen.{byKey}

@@ -5,7 +5,7 @@ pub mod PiecesByNumber
 pub mod NotRefused
 -- the rows of marks say which root a part may go to
 pub mod NearMeansMayGo
--- assignments by tests that agree
+-- assignments by tests that agree, and none for more parts than roots
 pub mod AssignmentsAlike
 -- pieces, rows and assignment together
 pub mod PartsAssembled

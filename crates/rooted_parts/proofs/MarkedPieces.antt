@@ -1,9 +1,8 @@
 -- The pieces of the marked parts: they are held, few and light where all parts' are, and in order they are the marked parts "ordered by smallest
 -- line".
 -- Assumes nothing.
-use Prim.Native.Nat.{ℕ, _+_, _≤_, _<_}
+use Prim.Native.Nat.{ℕ, _≤_, _<_}
 use mathlib.Core.Path.{_≡_, sym, ap, _∙_}
-use mathlib.Core.Bool.{Bool}
 use mathlib.Core.List.{List, [], map, map-map}
 use native.Mathlib.Omega.{arith}
 use lib.ListN.{length, getD, length-map}
@@ -14,7 +13,7 @@ use Rattle.lists.specs.Segments.{segment}
 use Rattle.lists.proofs.Below.{of-below}
 use Rattle.lists.proofs.Member.{of-filter, of-map}
 use Rattle.lists.proofs.Places.{at-place, map-at-places, map-at}
-use Rattle.lists.proofs.Runs.{map-same, length-below}
+use Rattle.lists.proofs.Runs.{map-same}
 use Rattle.lists.proofs.Sums.{sum-split}
 use Rattle.lists.proofs.SumsAlike.{length-sum, sum-of-map}
 use Rattle.matching.specs.Assignment.{marked}

@@ -2,30 +2,30 @@
 -- edges stand.
 -- Assumes nothing.
 use Prim.Native.Nat.{ℕ, _+_, _*_, _/_, _%_, _≤_, _<_}
-use mathlib.Core.Path.{_≡_, refl, sym, ap, _∙_}
+use mathlib.Core.Path.{_≡_, sym, ap, _∙_}
 use mathlib.Core.Bool.{Bool, true, false, cond}
-use mathlib.Core.List.{List, [], _∷_, map, List·Memᴰ·head, List·Memᴰ·tail, List·Memᴰ·not-nil}
+use mathlib.Core.List.{List, _∷_, map, List·Memᴰ·head, List·Memᴰ·tail, List·Memᴰ·not-nil}
 use mathlib.Core.Logic.{_⊎_, inl, inr}
-use mathlib.Core.Option.{some, none}
+use mathlib.Core.Option.{none}
 use native.Mathlib.Nat.{div-add-mod', div-lt-iff-lt-mul, mod-lt}
 use native.Mathlib.Omega.{arith}
 use lib.ListN.{length, getD, take}
 use lib.Seq.{getD-take, length-take-le}
 use lib.Dec.{leb, eqb}
-use borrow.Author.Tests.{lt-leb, le-leb}
+use borrow.Author.Tests.{lt-leb}
 use Rattle.lists.specs.Lists.{any, flat}
 use Rattle.lists.specs.Member.{_∈_}
 use Rattle.lists.specs.Sort.{rise}
 use Rattle.lists.proofs.FlatMap.{in-flat-map, of-flat-map}
 use Rattle.lists.proofs.Member.{any-found, found-any, either}
 use Rattle.lists.proofs.Sorting.{in-rise, of-rise}
-use Rattle.graph.specs.Graph.{Graph, oneEnd, otherEnd}
+use Rattle.graph.specs.Graph.{Graph}
 use Rattle.graph.specs.Valid.{Valid}
 use Rattle.graph.proofs.Ranges.{one-end-below, other-end-below}
 use Rattle.rules.specs.Cover.{Tree}
 use Rattle.rules.specs.Distance.{Distance, distances, isWithin, treeVertices, reachesPart}
 use Rattle.rules.specs.Held.{treeAt, risen}
-use Rattle.rules.specs.RootedTrial.{mayGo, partOf, rootedParts}
+use Rattle.rules.specs.RootedTrial.{mayGo}
 use Rattle.matching.specs.Input.{allowedAt}
 use Rattle.distance.specs.Shortest.{SaysDistance, nowhere, there, unreached}
 use Rattle.pieces.specs.Pieces.{endsOf}

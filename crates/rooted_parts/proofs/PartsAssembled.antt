@@ -1,8 +1,8 @@
 -- The parts of a rooted trial are placed, once the pieces are, the rows are marked and the assignment is done.
 -- Assumes nothing.
 use Prim.Native.Nat.{ℕ, _+_, _*_, _≤_, _<_}
-use mathlib.Core.Path.{_≡_, refl, sym, ap, _∙_}
-use mathlib.Core.Bool.{Bool, true, false}
+use mathlib.Core.Path.{_≡_, sym, ap, _∙_}
+use mathlib.Core.Bool.{Bool}
 use mathlib.Core.List.{List}
 use native.Mathlib.Nat.{mul-le-mul-right}
 use native.Mathlib.Omega.{arith}
@@ -15,7 +15,7 @@ use Rattle.lists.proofs.Places.{place-of}
 use Rattle.graph.specs.Graph.{Graph}
 use Rattle.graph.specs.Valid.{Valid}
 use Rattle.graph.specs.Bytes.{graphOf}
-use Rattle.rules.specs.RootedTrial.{rootedParts, mayGo, isAssignable}
+use Rattle.rules.specs.RootedTrial.{mayGo, isAssignable}
 use Rattle.matching.specs.Assignable.{assignable}
 use Rattle.matching.specs.Input.{allowedAt}
 use Rattle.planner_laws.proofs.RootedSize.{rooted-parts-few}

@@ -1,12 +1,12 @@
 -- The pieces of a rooted trial, held in arrays after the trees of the whole forest are split: the parts and the leftovers by their numbers.
 -- Assumes nothing.
-use Prim.Native.Nat.{ℕ, zero, suc, _+_, _-_, _≤_, _<_}
-use mathlib.Core.Path.{_≡_, refl, sym, ap, subst, _∙_}
-use mathlib.Core.List.{List, [], _∷_, _++_, map, List·Memᴰ·append-cases, List·Memᴰ·not-nil}
+use Prim.Native.Nat.{ℕ, zero, suc, _+_, _≤_, _<_}
+use mathlib.Core.Path.{_≡_, sym, ap, subst, _∙_}
+use mathlib.Core.List.{List, [], _∷_, map, List·Memᴰ·append-cases, List·Memᴰ·not-nil}
 use mathlib.Core.Logic.{_⊎_, inl, inr}
 use native.Mathlib.Omega.{arith}
 use lib.ListN.{length, getD, take, length-map, length-append}
-use lib.Seq.{getD-take, length-take-le}
+use lib.Seq.{getD-take}
 use Rattle.lists.specs.Count.{from}
 use Rattle.lists.specs.Lists.{flat}
 use Rattle.lists.specs.Member.{_∈_}
@@ -14,13 +14,12 @@ use Rattle.lists.specs.Put.{PutTo}
 use Rattle.lists.specs.Segments.{segment}
 use Rattle.lists.specs.Sort.{rise}
 use Rattle.lists.proofs.Below.{of-from}
-use Rattle.lists.proofs.Places.{at-place, place-of}
+use Rattle.lists.proofs.Places.{at-place}
 use Rattle.lists.proofs.Put.{put-count, put-taken, put-fits, put-length, only-first-length}
-use Rattle.lists.proofs.Runs.{length-from}
 use Rattle.graph.specs.Graph.{Graph}
 use Rattle.graph.specs.Valid.{Valid}
 use Rattle.rules.specs.Cover.{Tree}
-use Rattle.rules.specs.Grow.{Rooted, grow}
+use Rattle.rules.specs.Grow.{grow}
 use Rattle.rules.specs.Held.{treeAt, treesAt, risen}
 use Rattle.rules.specs.Split.{Pieces, partAt, split, allParts}
 use Rattle.rules.specs.Order.{ordered}
@@ -36,7 +35,7 @@ use Rattle.planner_laws.proofs.RootedPrepared.{pieces-of-whole}
 use Rattle.planner_laws.proofs.RootedSize.{rooted-parts-few}
 use Rattle.marks.specs.Near.{TreeHeld}
 use Rattle.marks.specs.Places.{between}
-use Rattle.rooted_parts.specs.Parts.{PieceArrays, arraysOf, PiecesAsked, PiecesPlaced}
+use Rattle.rooted_parts.specs.Parts.{arraysOf, PiecesAsked, PiecesPlaced}
 use Rattle.marks.proofs.PartsBetween.{between-lefts}
 
 -- The number of a part is below that of all pieces,

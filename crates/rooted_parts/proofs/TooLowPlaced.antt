@@ -1,18 +1,15 @@
 -- Where the parts of a rooted trial are placed and a deficient set was found, its parts may be written; and what is written is the trial's answer.
 -- Assumes nothing.
-use Prim.Native.Nat.{ℕ, _*_, _≤_, _<_}
-use mathlib.Core.Path.{_≡_, refl, sym, ap, _∙_}
-use mathlib.Core.Bool.{Bool, false, _&&_}
+use Prim.Native.Nat.{ℕ, _*_, _≤_}
+use mathlib.Core.Path.{_≡_, refl, ap, _∙_}
+use mathlib.Core.Bool.{false, _&&_}
 use mathlib.Core.List.{List, map}
 use native.Mathlib.Omega.{arith}
 use lib.ListN.{length, take, length-take}
-use Rattle.lists.specs.Count.{count, anyBelow, below}
-use Rattle.lists.specs.Lists.{flat, sumOf}
+use Rattle.lists.specs.Lists.{flat}
 use Rattle.lists.specs.Segments.{segment}
 use Rattle.lists.proofs.Pigeonhole.{count-same}
-use Rattle.lists.proofs.Below.{of-below}
-use Rattle.lists.proofs.Chosen.{chosen-count}
-use Rattle.lists.proofs.SameTests.{filter-same, any-below-same}
+use Rattle.lists.proofs.SameTests.{any-below-same}
 use Rattle.lists.proofs.Sorting.{rise-length}
 use Rattle.lists.proofs.SumsAlike.{sum-same, sum-of-map, length-flat-map}
 use Rattle.graph.specs.Graph.{Graph}
@@ -22,7 +19,7 @@ use Rattle.matching.specs.Input.{allowedAt}
 use Rattle.rules.specs.Cover.{Tree}
 use Rattle.rules.specs.CoverBytes.{entryEdges}
 use Rattle.rules.specs.Held.{treeAt, treesAt, risen}
-use Rattle.rules.specs.RootedTrial.{rootedParts, mayGo}
+use Rattle.rules.specs.RootedTrial.{mayGo}
 use Rattle.planner_laws.proofs.RootedSize.{parts-edges-few, rooted-parts-few}
 use Rattle.rooted_parts.specs.declared.too_low_parts.Deficient.{Deficient}
 use Rattle.rooted_parts.specs.Placed.{TrialArrays, PartsPlaced}

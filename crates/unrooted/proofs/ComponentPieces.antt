@@ -5,7 +5,7 @@ use Prim.Native.Nat.{ℕ, zero, suc, _+_, _-_, _*_, _≤_, _<_, min}
 use mathlib.Core.Path.{_≡_, refl, sym, ap, ap₂, _∙_}
 use mathlib.Core.Logic.{dite}
 use mathlib.Core.List.{List, [], _∷_, _++_, map, foldr, headD}
-use native.Mathlib.Decide.{decLe, ℕ-discrete}
+use native.Mathlib.Decide.{decLe}
 use native.Mathlib.Omega.{arith}
 use lib.ListN.{length, getD, take, drop, set, length-set, List·getD-eq-default, length-take}
 use lib.Seq.{slice, getD-set-same, getD-set-other, getD-drop, getD-take, take-take, take-at, drop-at, drop-drop, length-take-le, take-all}
@@ -19,7 +19,6 @@ use Rattle.lists.proofs.Put.{put-head, put-rest, put-length}
 use Rattle.lists.proofs.SegmentSizes.{slice-taken, segment-length}
 use Rattle.lists.proofs.Sorting.{rise-length}
 use Rattle.lists.proofs.Stores.{slice-same}
-use Rattle.lists.proofs.SumsAlike.{length-sum}
 use Rattle.graph.specs.Graph.{Graph, oneEnd, otherEnd}
 use Rattle.rules.specs.Split.{smallestEdge}
 use Rattle.rules.specs.Distance.{treeVertices}

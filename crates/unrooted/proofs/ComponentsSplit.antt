@@ -4,7 +4,7 @@ use Prim.Native.Nat.{ℕ, _+_, _*_, _≤_, _<_}
 use mathlib.Core.Path.{_≡_, sym, ap, _∙_}
 use mathlib.Core.List.{List}
 use native.Mathlib.Omega.{arith}
-use lib.ListN.{length, getD, take}
+use lib.ListN.{length, take}
 use Rattle.lists.specs.Member.{_∈_}
 use Rattle.lists.specs.Sort.{rise}
 use Rattle.lists.proofs.Put.{put-count, put-taken, put-fits, put-length, only-first-length}

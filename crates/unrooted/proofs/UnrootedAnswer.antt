@@ -1,18 +1,16 @@
 -- The steps of the trial without roots, put together: the pieces that are trees, each from its lowest vertex and in order, are the answer's
 -- trees.
 -- Assumes nothing.
-use Prim.Native.Nat.{ℕ, _+_, _*_, _≤_, _<_}
-use mathlib.Core.Path.{_≡_, refl, sym, ap, ap₂, _∙_}
-use mathlib.Core.Bool.{Bool}
-use mathlib.Core.List.{List, [], _∷_, _++_, map, map-map}
+use Prim.Native.Nat.{ℕ, _≤_}
+use mathlib.Core.Path.{_≡_, sym, ap, _∙_}
+use mathlib.Core.List.{List, _++_}
 use native.Mathlib.Omega.{arith}
-use lib.ListN.{length, getD, take, drop, length-append}
+use lib.ListN.{length, take, drop, length-append}
 use lib.Seq.{take-at}
 use Rattle.lists.specs.Put.{PutTo}
-use Rattle.lists.specs.Sort.{rise, sortBy}
+use Rattle.lists.specs.Sort.{sortBy}
 use Rattle.lists.proofs.Put.{put-count, put-taken}
 use Rattle.lists.proofs.Sorting.{sort-length}
-use Rattle.lists.proofs.SumsAlike.{length-sum}
 use Rattle.graph.specs.Graph.{Graph}
 use Rattle.pieces.specs.Chosen.{byKey}
 use Rattle.unrooted.specs.Components.{PiecesGiven, SegmentsRisen, LowestSet, KeysWritten}

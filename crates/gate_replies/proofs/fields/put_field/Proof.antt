@@ -1,13 +1,12 @@
 -- `gate_replies::fields::put_field` meets its contract. The loop's invariant: what is left to put is the rest of the number, in the bytes that are
 -- left. The measure is how many are left.
 -- Assumes nothing.
-use Prim.Native.Nat.{_+_, _≤_, _/_, _%_}
-use mathlib.Core.Path.{_≡_}
+use Prim.Native.Nat.{_+_, _≤_}
 use native.Mathlib.Omega.{arith}
 use lib.ListN.{length, length-set}
-use Rattle.lists.proofs.PutOneByOne.{PutSoFar, so-far-none, so-far-more, so-far-all, so-far-behind}
+use Rattle.lists.proofs.PutOneByOne.{PutSoFar, so-far-none, so-far-more, so-far-all}
 use Rattle.gate_replies.specs.Fields.{field}
-use Rattle.gate_replies.proofs.FieldLaws.{field-length, field-next, field-none}
+use Rattle.gate_replies.proofs.FieldLaws.{field-next, field-none}
 use borrow.Author.Needs.{needs}
 use Rattle.gate_replies.proofs.fields.put_field.Statement.{statement}
 use Rattle.gate_replies.proofs.fields.put_field.Tie as tie

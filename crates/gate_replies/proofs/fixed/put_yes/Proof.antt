@@ -1,6 +1,5 @@
 -- `gate_replies::fixed::put_yes` meets its contract, with either word.
 -- Assumes nothing.
-use mathlib.Core.Path.{sym}
 use Rattle.gate_replies.specs.Fixed.{yesWord}
 use borrow.Author.Needs.{needs}
 use Rattle.gate_replies.proofs.fixed.put_yes.Statement.{statement}

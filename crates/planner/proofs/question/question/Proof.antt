@@ -1,9 +1,8 @@
 -- `planner::question::question` meets its contract: the graph's bytes, the crews, the limit, then the buffer decide; and what passes is asked.
 -- Assumes nothing.
-use Prim.Native.Nat.{ℕ, _≤_, _<_}
 use mathlib.Core.Path.{_≡_, refl, sym, ap, _∙_}
 use mathlib.Core.Bool.{true}
-use mathlib.Core.Option.{some, none}
+use mathlib.Core.Option.{none}
 use native.Mathlib.Omega.{arith}
 use borrow.Author.Tests.{not-true, not-false}
 use Rattle.graph.specs.Bytes.{graphOf}

@@ -1,9 +1,6 @@
 -- `question::question::unknown` meets its contract: each test of 41 in turn.
 -- Assumes nothing.
-use Prim.Native.Nat.{ℕ, _≤_}
 use native.Mathlib.Omega.{arith}
-use lib.ListN.{length}
-use Rattle.question.specs.Question.{askedIn}
 use Rattle.question.proofs.Asked.{too-short, too-long, none-asked, beyond-asked, known}
 use borrow.Author.Needs.{needs}
 use Rattle.question.proofs.question.unknown.Statement.{statement}

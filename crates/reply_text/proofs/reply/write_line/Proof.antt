@@ -2,7 +2,7 @@
 -- Assumes nothing.
 use mathlib.Core.List.{[], _∷_}
 use native.Mathlib.Omega.{arith}
-use lib.ListN.{length, length-append}
+use lib.ListN.{length-append}
 use Rattle.reply_text.specs.Lines.{ended}
 use Rattle.reply_text.proofs.TextLengths.{last-few}
 use borrow.Author.Needs.{needs}

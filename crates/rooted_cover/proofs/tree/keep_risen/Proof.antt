@@ -1,10 +1,8 @@
 -- `rooted_cover::tree::keep_risen` meets its contract: the marked edges are kept, and then sorted where they stand. Assumes nothing.
-use mathlib.Core.Path.{_≡_, sym, ap, _∙_}
-use native.Mathlib.Omega.{arith}
-use lib.ListN.{length, take}
-use lib.Seq.{length-take-le}
+use mathlib.Core.Path.{sym, ap, _∙_}
+use lib.ListN.{length}
 use borrow.Author.Needs.{needs}
-use Rattle.lists.proofs.Put.{put-taken, put-count, put-fits, put-length}
+use Rattle.lists.proofs.Put.{put-taken, put-count}
 use Rattle.pieces.proofs.LaidLists.{front-then-risen}
 use Rattle.rooted_cover.proofs.tree.keep_risen.Statement.{statement}
 use Rattle.rooted_cover.proofs.tree.keep_risen.Tie as tie

@@ -6,10 +6,9 @@ use native.Mathlib.Omega.{arith}
 use lib.ListN.{length, getD}
 use borrow.Author.Needs.{needs}
 use Rattle.lists.specs.Member.{_∈_}
-use Rattle.lists.specs.Segments.{segment}
 use Rattle.lists.proofs.Places.{at-place}
 use Rattle.graph.specs.Graph.{Graph}
-use Rattle.rooted_cover.specs.Tree.{ReachGiven, ReachMarked, AssignedMarked, nobody, somebody}
+use Rattle.rooted_cover.specs.Tree.{ReachGiven, ReachMarked, nobody, somebody}
 use Rattle.rooted_cover.proofs.tree.mark_assigned.Statement.{statement}
 use Rattle.rooted_cover.proofs.tree.mark_assigned.Tie as tie
 

@@ -1,5 +1,4 @@
 -- `rooted_parts::parts::place_parts` meets its contract: the pieces are placed, and the parts assigned. Assumes nothing.
-use native.Mathlib.Omega.{arith}
 use Rattle.rooted_parts.proofs.PartsAssembled.{asked-held, rows-enough, out-enough, parts-placed}
 use borrow.Author.Needs.{needs}
 use Rattle.rooted_parts.proofs.parts.place_parts.Statement.{statement}

@@ -1,9 +1,7 @@
 -- `rooted_parts::parts::place_pieces` meets its contract: the trees of the whole forest are split, and the parts stand between the leftovers.
 -- Assumes nothing.
-use Prim.Native.Nat.{ℕ, _≤_}
 use mathlib.Core.Path.{_≡_, sym}
 use native.Mathlib.Omega.{arith}
-use lib.ListN.{length, take}
 use lib.Seq.{length-take-le}
 use borrow.Author.Needs.{needs}
 use Rattle.lists.proofs.Put.{only-first-length}

@@ -1,6 +1,6 @@
 -- `rooted_parts::too_low_parts::first_edge` meets its contract. Assumes nothing.
 use Prim.Native.Nat.{ℕ, _≤_, _<_}
-use mathlib.Core.Path.{_≡_, sym, ap, _∙_}
+use mathlib.Core.Path.{_≡_, sym, ap}
 use mathlib.Core.List.{List, headD}
 use native.Mathlib.Omega.{arith}
 use lib.ListN.{length, getD, take, length-take, drop-of-length-le}

@@ -1,6 +1,6 @@
 -- `rooted_parts::too_low_parts::write_deficient` meets its contract: the places of the marked parts are taken, and their pieces written.
 -- Assumes nothing.
-use Prim.Native.Nat.{ℕ, _≤_}
+use Prim.Native.Nat.{ℕ}
 use mathlib.Core.Path.{_≡_, sym, ap, _∙_}
 use mathlib.Core.List.{List}
 use native.Mathlib.Omega.{arith}

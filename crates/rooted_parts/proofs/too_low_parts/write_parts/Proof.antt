@@ -1,6 +1,6 @@
 -- `rooted_parts::too_low_parts::write_parts` meets its contract: the chosen pieces are laid out with their edges rising, numbered in order of
 -- their first edges, and written. Assumes nothing.
-use Prim.Native.Nat.{ℕ, _+_, _≤_, _<_}
+use Prim.Native.Nat.{ℕ, _+_}
 use mathlib.Core.Path.{_≡_, sym, ap, _∙_}
 use mathlib.Core.List.{List, _++_, map}
 use native.Mathlib.Omega.{arith}
@@ -9,7 +9,7 @@ use lib.Seq.{take-at}
 use borrow.Author.Needs.{needs}
 use Rattle.lists.specs.Count.{below}
 use Rattle.lists.specs.Sort.{sortBy}
-use Rattle.lists.proofs.Put.{put-taken, put-count}
+use Rattle.lists.proofs.Put.{put-taken}
 use Rattle.lists.proofs.Runs.{length-below}
 use Rattle.lists.proofs.Sorting.{sort-length}
 use Rattle.rules.specs.Held.{treesAt, risen}

@@ -1,6 +1,5 @@
 -- `search::limit::search` meets its contract. The loop's invariant: from low and high, with the trials left, the search ends where it would have
 -- ended. The measure is how many trials are left. Assumes nothing.
-use Prim.Native.Nat.{_+_, _-_, _/_, _≤_, _<_}
 use mathlib.Core.Path.{sym, _∙_}
 use native.Mathlib.Omega.{arith}
 use Rattle.graph.specs.Bytes.{graphOf}

@@ -1,10 +1,8 @@
 -- `search::limit::write_walk` meets its contract: the kind decides whether there is a walk to write. Assumes nothing.
-use Prim.Native.Nat.{ℕ}
 use mathlib.Core.Path.{_≡_}
 use native.Mathlib.Omega.{arith}
 use Rattle.graph.specs.Bytes.{graphOf}
 use Rattle.rooted.specs.Prepared.{Decidable}
-use Rattle.cover.specs.declared.crews.Kind.the-variants.{Rooted, Unrooted}
 use borrow.Author.Needs.{needs}
 use Rattle.search.proofs.WalkWritten.{walk-asked, walk-written, walk-fits}
 use Rattle.search.proofs.KindDecides.{one-kind}

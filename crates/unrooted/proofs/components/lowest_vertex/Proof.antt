@@ -1,9 +1,8 @@
 -- `unrooted::components::lowest_vertex` meets its contract. The loop's invariant: v is the lowest of the start and the ends of the edges
 -- before i. The measure is how many edges are left. Assumes nothing.
-use Prim.Native.Nat.{ℕ, _-_, _≤_, min}
+use Prim.Native.Nat.{ℕ, _-_, min}
 use mathlib.Core.Path.{_≡_, sym, ap, ap₂, _∙_}
 use mathlib.Core.List.{List}
-use native.Mathlib.Omega.{arith}
 use lib.ListN.{length, getD}
 use borrow.Author.Needs.{needs}
 use Rattle.graph.specs.Graph.{Graph, oneEnd, otherEnd}

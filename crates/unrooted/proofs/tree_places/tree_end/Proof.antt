@@ -1,6 +1,5 @@
 -- `unrooted::tree_places::tree_end` meets its contract: the definition takes the arm that the tests say. Assumes nothing.
-use mathlib.Core.Path.{_≡_, sym}
-use native.Mathlib.Omega.{arith}
+use mathlib.Core.Path.{sym}
 use borrow.Author.Needs.{needs}
 use Rattle.unrooted.proofs.TreesPlaced.{end-alone, end-dropped, end-kept}
 use Rattle.unrooted.proofs.tree_places.tree_end.Statement.{statement}

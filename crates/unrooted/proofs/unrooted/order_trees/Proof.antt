@@ -1,11 +1,8 @@
 -- `unrooted::unrooted::order_trees` meets its contract: its steps one after the other. Assumes nothing.
-use Prim.Native.Nat.{_≤_}
-use mathlib.Core.Path.{_≡_, sym}
+use mathlib.Core.Path.{sym}
 use native.Mathlib.Omega.{arith}
-use lib.ListN.{length}
 use lib.Seq.{length-take-le}
 use Rattle.lists.proofs.Put.{put-fits, put-length}
-use Rattle.unrooted.specs.Components.{PiecesGiven}
 use Rattle.unrooted.proofs.UnrootedAnswer.{given-on, trees-ordered}
 use borrow.Author.Needs.{needs}
 use Rattle.unrooted.proofs.unrooted.order_trees.Statement.{statement}

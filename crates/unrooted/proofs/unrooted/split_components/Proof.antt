@@ -1,7 +1,6 @@
 -- `unrooted::unrooted::split_components` meets its contract: the roots are the components' lowest vertices, the arcs are the forest's.
 -- Assumes nothing.
-use Prim.Native.Nat.{_≤_, _<_}
-use mathlib.Core.Path.{_≡_, sym, ap, _∙_}
+use mathlib.Core.Path.{sym, ap, _∙_}
 use native.Mathlib.Omega.{arith}
 use lib.ListN.{length}
 use Rattle.lists.proofs.Put.{put-count, put-taken}

@@ -1,8 +1,6 @@
 -- `unrooted::unrooted::unrooted_trees` meets its contract: its steps one after the other. Assumes nothing.
-use Prim.Native.Nat.{_≤_}
-use mathlib.Core.Path.{_≡_, sym, ap, _∙_}
+use mathlib.Core.Path.{sym, ap, _∙_}
 use native.Mathlib.Omega.{arith}
-use lib.ListN.{length}
 use lib.Seq.{length-take-le}
 use Rattle.graph.specs.Bytes.{graphOf}
 use Rattle.rules.specs.Cover.{heaviest}
