@@ -8,7 +8,7 @@ use mathlib.Core.List.{List, _∷_, _++_, List·Memᴰ·head, List·Memᴰ·tail
 use mathlib.Core.Logic.{_⊎_, inl, inr}
 use native.Mathlib.Omega.{arith}
 use Rattle.lists.specs.Lists.{filter}
-use Rattle.lists.specs.Member.{_∈_, Rising}
+use Rattle.lists.specs.Member.{_∈_, Rising, none as rising-none, next as rising-next}
 use Rattle.lists.proofs.Member.{of-filter}
 pub use Rattle.lists.specs.InOrder.{InOrder, none, next, Once}
 
