@@ -11,7 +11,8 @@ use Rattle.lists.specs.Lists.{sumOf, largest}
 use Rattle.lists.specs.Segments.{segment}
 use Rattle.lists.proofs.Largest.{largest-more, largest-map}
 use Rattle.lists.proofs.Numbered.{map-below-more}
-use Rattle.lists.proofs.OneMore.{take-more, sum-more}
+use Rattle.lists.proofs.OneMore.{sum-more}
+use Rattle.lists.proofs.TakeDrop.{take-more}
 use Rattle.graph.specs.Graph.{Graph, weightOf}
 use Rattle.rules.specs.Walk.{totalWeight}
 use Rattle.rules.specs.Cover.{treeWeight, heaviest}
@@ -33,7 +34,7 @@ module _ (g : Graph) where
 
   -- So along a list.
   pub list-weight-next : (es : List ℕ) (i : ℕ) → i < length es → totalWeight g (take (i + 1) es) ≡ totalWeight g (take i es) + weightOf g (getD es i 0)
-  list-weight-next es i h = ap (totalWeight g) (take-more es i 0 h) ∙ weight-more (take i es) (getD es i 0)
+  list-weight-next es i h = ap (totalWeight g) (take-more 0 es i h) ∙ weight-more (take i es) (getD es i 0)
 
   -- So along a run of entries.
   module _ (c : List ℕ) where
@@ -80,7 +81,7 @@ module _ (g : Graph) where
 
     pub chosen-next : (j : ℕ) → j < length chosen → max (heaviestOfFirst j) (totalWeight g (segment bounds edges (getD chosen j 0))) ≡ heaviestOfFirst (j + 1)
     unfolding heaviestOfFirst
-    chosen-next j h = sym (ap (largest weightAt) (take-more chosen j 0 h) ∙ largest-more weightAt (take j chosen) (getD chosen j 0))
+    chosen-next j h = sym (ap (largest weightAt) (take-more 0 chosen j h) ∙ largest-more weightAt (take j chosen) (getD chosen j 0))
 
     pub chosen-all : (j : ℕ) {r : ℕ} → length chosen ≤ j → r ≡ heaviestOfFirst j → HeaviestChosen g bounds edges chosen r
     unfolding heaviestOfFirst heaviest treeWeight treesAt treeAt

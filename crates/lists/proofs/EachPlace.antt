@@ -8,7 +8,7 @@ use native.Mathlib.Omega.{arith}
 use lib.ListN.{length, take, drop, getD, length-append, take-append-drop}
 use lib.Seq.{length-take-le}
 use Rattle.lists.specs.Lists.{flat}
-use Rattle.lists.proofs.OneMore.{take-more}
+use Rattle.lists.proofs.TakeDrop.{take-more}
 
 module _ {A B : Type 0} (f : ℕ → A → List B) where
   -- what f makes of each element and its place, places counted from j on
@@ -29,7 +29,7 @@ module _ {A B : Type 0} (f : ℕ → A → List B) where
     unfolding madeFrom
     made-more =
         let place : 0 + length (take i xs) ≡ i = zero-add (length (take i xs)) ∙ length-take-le i xs (omega arith) in
-        ap (madeFrom 0) (take-more xs i d h)
+        ap (madeFrom 0) (take-more d xs i h)
         ∙ made-append 0 (take i xs) (getD xs i d ∷ [])
         ∙ ap (λ k. madeFrom 0 (take i xs) ++ (f k (getD xs i d) ++ [])) place
         ∙ ap (λ l. madeFrom 0 (take i xs) ++ l) (append-nil (f i (getD xs i d)))

@@ -25,6 +25,8 @@ pub mod Sorting
 pub mod Below
 -- lists written place by place along a run of numbers
 pub mod Runs
+-- a list gone through element by element
+pub mod TakeDrop
 -- a list from a place on, and from the next place on
 pub mod NextPlace
 -- what holds after one store
@@ -53,6 +55,8 @@ pub mod Stores
 pub mod Put
 -- a list put into an array element by element
 pub mod PutOneByOne
+-- what stands before a list that was put, and the list as a segment
+pub mod PutSlice
 -- only the first elements of an array changed
 pub mod OnlyFirst
 -- several lists in one array: one more bound adds one more list
@@ -101,8 +105,6 @@ pub mod OneOrder
 pub mod Risen
 -- numbers put into buckets: the same numbers, by bucket
 pub mod BucketOrder
--- a list gone through element by element
-pub mod TakeDrop
 -- running sums in place
 pub mod RunningSums
 -- insertion in place
@@ -115,7 +117,5 @@ pub mod PutMapped
 pub mod Zeros
 -- some element of two lists passes a test
 pub mod AnyOn
--- arrays of which only the first elements changed, one change after the other
-pub mod Fronts
 -- every element up to the last bound stands in a segment
 pub mod SegmentOf

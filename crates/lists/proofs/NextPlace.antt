@@ -9,14 +9,14 @@ use native.Mathlib.Nat.{sub-zero}
 use native.Mathlib.Numerals.{add-one}
 use native.Mathlib.Omega.{arith}
 use lib.ListN.{length, getD, drop, drop-of-length-le}
-use lib.Seq.{drop-cons}
 use Rattle.lists.specs.Count.{anyBelow, from, below}
 use Rattle.lists.specs.Lists.{filter}
+use Rattle.lists.proofs.TakeDrop.{drop-more}
 
 module _ (list : List ℕ) (i : ℕ) where
   -- of a list: the element at the place, and what is left from the next place on
   pub rest-next : i < length list → drop i list ≡ getD list i 0 ∷ drop (i + 1) list
-  rest-next h = rw (add-one, drop-cons list i 0)
+  rest-next h = drop-more 0 list i h
 
   pub rest-none : length list ≤ i → drop i list ≡ []
   rest-none h = drop-of-length-le list h

@@ -1,20 +1,15 @@
--- One more element at the end: what it makes of the first elements of a list, and of their sum.
+-- One more element at the end: what it makes of the sum over the first elements of a list.
 -- Assumes nothing.
 use Prim.Native.Nat.{ℕ, _+_, _≤_, _<_}
 use mathlib.Core.Path.{_≡_, ap, _∙_}
 use mathlib.Core.List.{List, [], _∷_, _++_}
-use native.Mathlib.Numerals.{add-one}
 use native.Mathlib.Omega.{arith}
 use lib.ListN.{length, take, drop, getD, take-append-drop}
-use lib.Seq.{take-suc}
 use Rattle.lists.specs.Lists.{sumOf}
 use Rattle.lists.proofs.Sums.{sum-append}
+use Rattle.lists.proofs.TakeDrop.{take-more}
 
 module _ {A : Type 0} where
-  -- the first elements, with the next one
-  pub take-more : (xs : List A) (i : ℕ) (d : A) → i < length xs → take (i + 1) xs ≡ take i xs ++ (getD xs i d ∷ [])
-  take-more xs i d h = rw add-one (take-suc xs i d h)
-
   module _ (f : A → ℕ) where
     -- the sum with one element more
     pub sum-more : (xs : List A) (x : A) → sumOf f (xs ++ (x ∷ [])) ≡ sumOf f xs + f x
@@ -23,7 +18,7 @@ module _ {A : Type 0} where
 
     -- the sum over the first elements, with the next one
     pub sum-first-more : (xs : List A) (i : ℕ) (d : A) → i < length xs → sumOf f (take (i + 1) xs) ≡ sumOf f (take i xs) + f (getD xs i d)
-    sum-first-more xs i d h = ap (sumOf f) (take-more xs i d h) ∙ sum-more (take i xs) (getD xs i d)
+    sum-first-more xs i d h = ap (sumOf f) (take-more d xs i h) ∙ sum-more (take i xs) (getD xs i d)
 
     -- the first elements sum to no more than all
     pub sum-first : (xs : List A) (i : ℕ) → sumOf f (take i xs) ≤ sumOf f xs

@@ -1,5 +1,5 @@
 -- Only the first n elements of an array changed, exactly where the array keeps its length and what stands behind them; so it is after
--- no change, after one more store among them, and after one change behind the other.
+-- no change, after one more store among them, after a list put among them, and after one change behind the other.
 -- Assumes nothing.
 use Prim.Native.Nat.{ℕ, _+_, _-_, _≤_, _<_}
 use mathlib.Core.Path.{_≡_, refl, sym, ap, _∙_}
@@ -9,8 +9,8 @@ use native.Mathlib.Decide.{decLe}
 use native.Mathlib.Omega.{arith}
 use lib.ListN.{length, drop, set, length-set, drop-of-length-le}
 use lib.Seq.{take-all, drop-drop, drop-set-lt}
-use Rattle.lists.specs.Put.{OnlyFirst}
-use Rattle.lists.proofs.Put.{only-first, only-first-length, only-first-rest}
+use Rattle.lists.specs.Put.{Put, OnlyFirst}
+use Rattle.lists.proofs.Put.{put-length, put-rest, only-first, only-first-length, only-first-rest}
 
 module _ {A : Type 0} where
   -- nothing is left of a list behind its end
@@ -62,3 +62,14 @@ module _ {A : Type 0} where
         ∙ ap (drop (m - n)) (only-first-behind n o)
         ∙ drop-drop (m - n) n a
         ∙ ap (λ k. drop k a) (sym q))
+
+  -- One change, then another of no fewer elements.
+  pub only-first-then : {m k : ℕ} {a b c : List A} → OnlyFirst m a b → OnlyFirst k b c → m ≤ k → OnlyFirst k a c
+  only-first-then {k = k} p q h = only-first-on (only-first-of-more p k h) q
+
+  -- A list put within the first elements.
+  pub only-first-put : {a b : List A} {at : ℕ} {xs : List A} → Put at xs a b → (n : ℕ) → at + length xs ≤ n → OnlyFirst n a b
+  only-first-put {at = at} {xs} p n h =
+      let k : ℕ = n - (at + length xs) in
+      let e : n ≡ at + length xs + k = omega arith in
+      is-only-first n (put-length p) (rw e (put-rest p k))

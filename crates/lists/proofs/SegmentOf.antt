@@ -1,22 +1,16 @@
 -- Segments that begin at the front and follow one another hold every element up to the last bound.
 -- Assumes nothing.
 use Prim.Native.Nat.{ℕ, zero, suc, _+_, _≤_, _<_}
-use mathlib.Core.Path.{_≡_, refl}
-use mathlib.Core.List.{List, List·Memᴰ·head, Memᴰ·append-right}
+use mathlib.Core.Path.{_≡_}
+use mathlib.Core.List.{List}
 use mathlib.Core.Logic.{dite}
 use native.Mathlib.Decide.{decLt}
 use native.Mathlib.Numerals.{add-one}
 use native.Mathlib.Omega.{arith}
 use lib.ListN.{length, getD}
-use lib.Seq.{slice, slice-cons}
 use Rattle.lists.specs.Member.{_∈_}
 use Rattle.lists.specs.Segments.{segment, Bounded}
-use Rattle.lists.proofs.Stores.{slice-join}
-
--- An element between two places stands in the slice between them.
-pub in-slice : {A : Type 0} (l : List A) (d : A) (a i c : ℕ) → a ≤ i → i < c → c ≤ length l → getD l i d ∈ slice a c l
-in-slice l d a i c h k m =
-    rw (slice-join a i c l h (omega arith) (omega arith), slice-cons i c l d k m) (Memᴰ·append-right (slice a i l) (List·Memᴰ·head refl))
+use Rattle.lists.proofs.SlicePlaces.{in-slice}
 
 module _ {bounds : List ℕ} {k used : ℕ} (b : Bounded bounds k used) (first : getD bounds 0 0 ≡ 0) (i : ℕ) where
   -- below some bound the place lies in a segment before it

@@ -1,13 +1,11 @@
 -- Segments of a list: two that meet, and those of lists that begin alike. A run of stores leaves what stands behind it.
 -- Assumes nothing.
-use Prim.Native.Nat.{ℕ, suc, _+_, _-_, _≤_, _<_}
+use Prim.Native.Nat.{ℕ, suc, _+_, _≤_}
 use mathlib.Core.Path.{_≡_, refl, sym, ap, _∙_}
-use mathlib.Core.List.{List, [], _∷_, _++_, Memᴰ·cast}
+use mathlib.Core.List.{List, [], _∷_, _++_}
 use native.Mathlib.Omega.{arith}
 use lib.ListN.{length, take, drop, getD, set, take-append-drop}
-use Rattle.lists.specs.Member.{_∈_}
-use Rattle.lists.proofs.Places.{at-place}
-use lib.Seq.{sets, slice, take-take, drop-append-le, length-take-le, getD-set-other, getD-drop, getD-take, length-slice}
+use lib.Seq.{sets, slice, take-take, drop-append-le, length-take-le, getD-set-other}
 
 module _ {A : Type 0} where
   -- the elements up to c are those up to b, then those from b to c
@@ -28,11 +26,3 @@ module _ {A : Type 0} where
   getD-sets-past l i [] j d h = refl
   getD-sets-past l i (x ∷ vs) j d h =
       getD-sets-past (set l i x) (suc i) vs j d (omega arith) ∙ getD-set-other l i j x d (omega arith)
-
-module _ {A : Type 0} (d : A) where
-  -- what stands at a place stands in every segment around it
-  pub at-place-in-slice : (f t i : ℕ) (l : List A) → f ≤ i → i < t → t ≤ length l → getD l i d ∈ slice f t l
-  at-place-in-slice f t i l a b c =
-      let place : f + (i - f) ≡ i = omega arith in
-      let same : getD (slice f t l) (i - f) d ≡ getD l i d = getD-drop f (take t l) (i - f) d ∙ ap (λ k. getD (take t l) k d) place ∙ getD-take t l i d b in
-      Memᴰ·cast (sym same) (at-place d (slice f t l) (i - f) (omega (arith, length-slice f t l c)))

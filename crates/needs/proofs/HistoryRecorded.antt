@@ -10,7 +10,8 @@ use lib.ListN.{length, getD, take}
 use Rattle.lists.specs.Lists.{filter, sumOf}
 use Rattle.lists.proofs.AfterStore.{at-or-not}
 use Rattle.lists.proofs.Bounds.{sum-most}
-use Rattle.lists.proofs.OneMore.{take-more, sum-first}
+use Rattle.lists.proofs.OneMore.{sum-first}
+use Rattle.lists.proofs.TakeDrop.{take-more}
 use Rattle.graph.specs.Graph.{Graph, oneEnd, otherEnd, weightOf}
 use Rattle.graph.specs.Valid.{Valid}
 use Rattle.graph.proofs.Ranges.{one-end-below, other-end-below, weight-at-most}
@@ -110,7 +111,7 @@ module _ {g : Graph} (valid : Valid g) {kept : List ℕ} (k : AllKept g apart ke
       noted = noted-places j asked (noted-of one-label other-label refl (m .noted))
 
       edges-more : take (j + 1) kept ≡ take j kept ++ (e ∷ [])
-      edges-more = take-more kept j 0 h
+      edges-more = take-more 0 kept j h
 
       labels-more : labelsAfter g kept (j + 1) ≡ mergeEdge g before e
       unfolding mergeAll

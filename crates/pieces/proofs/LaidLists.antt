@@ -11,7 +11,7 @@ use Rattle.lists.specs.Lists.{sumOf}
 use Rattle.lists.specs.Put.{PutTo}
 use Rattle.lists.specs.Segments.{segment}
 use Rattle.lists.specs.Sort.{rise}
-use Rattle.lists.proofs.Fronts.{put-slice, put-before}
+use Rattle.lists.proofs.PutSlice.{put-slice, put-before}
 use Rattle.lists.proofs.NextPlace.{rest-next}
 use Rattle.lists.proofs.Put.{put-rest, put-length, put-fits, put-count, put-taken, put-dropped}
 use Rattle.lists.proofs.SegmentSizes.{slice-taken}

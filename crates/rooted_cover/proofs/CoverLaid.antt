@@ -12,7 +12,7 @@ use Rattle.lists.specs.Count.{below}
 use Rattle.lists.specs.Put.{PutTo}
 use Rattle.lists.specs.Segments.{segment}
 use Rattle.lists.proofs.Below.{of-below}
-use Rattle.lists.proofs.Fronts.{put-slice, put-before}
+use Rattle.lists.proofs.PutSlice.{put-slice, put-before}
 use Rattle.lists.proofs.Put.{put-length}
 use Rattle.lists.proofs.Runs.{length-below, map-same}
 use Rattle.lists.proofs.Segments.{segment-kept, segment-new, bounded-more}

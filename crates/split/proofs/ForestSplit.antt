@@ -14,8 +14,8 @@ use Rattle.lists.specs.Member.{_∈_}
 use Rattle.lists.proofs.Member.{in-map}
 use Rattle.lists.proofs.Below.{in-below}
 use Rattle.lists.proofs.Sorting.{in-rise}
-use Rattle.lists.proofs.Put.{put-to-none, put-only-first, only-first-length}
-use Rattle.lists.proofs.Fronts.{only-first-set, only-first-on}
+use Rattle.lists.proofs.Put.{put-to-none, put-only-first}
+use Rattle.lists.proofs.OnlyFirst.{only-first-none, only-first-store, only-first-then}
 use Rattle.lists.proofs.SegmentOf.{in-some-segment}
 use Rattle.graph.specs.Graph.{Graph}
 use Rattle.rules.specs.Cover.{Tree}
@@ -152,8 +152,7 @@ module _ {n : ℕ} {bounds arcs roots : List ℕ} {H : ℕ} (a : Lent) {s : Stat
         bounded = k .room .sound .bounded;
         starts-rest = k .added .starts-rest;
         cuts-rest =
-            only-first-on (only-first-set 1 (a .cuts) 0 0 (omega arith) some) (k .added .cuts-rest) (omega arith)
-            (omega (arith, only-first-length (k .added .cuts-rest), length-set (a .cuts) 0 0, k .room .sound .cuts-room, k .room .sound .used-few));
+            only-first-then (only-first-store (only-first-none 1 (a .cuts)) 0 0 (omega arith)) (k .added .cuts-rest) (omega arith);
         flat-rest = k .added .flat-rest;
         lefts-rest = put-only-first (k .lefts-put);
       }

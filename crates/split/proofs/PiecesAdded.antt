@@ -11,8 +11,9 @@ use lib.Seq.{getD-set-same, getD-set-other}
 use Rattle.lists.specs.Count.{below}
 use Rattle.lists.specs.Put.{Put}
 use Rattle.lists.proofs.Numbered.{map-below-more}
-use Rattle.lists.proofs.Put.{put-length, only-first-length}
-use Rattle.lists.proofs.Fronts.{only-first-none, only-first-set, only-first-on, only-first-put, put-before, put-slice}
+use Rattle.lists.proofs.Put.{put-length}
+use Rattle.lists.proofs.OnlyFirst.{only-first-none, only-first-store, only-first-then, only-first-put}
+use Rattle.lists.proofs.PutSlice.{put-before, put-slice}
 use Rattle.lists.proofs.Segments.{segment-kept, segment-new, bounded-more}
 use Rattle.rules.specs.Cover.{Tree}
 use Rattle.rules.specs.Held.{treeAt, treesAt, risen}
@@ -27,26 +28,22 @@ added-none {s = s} h =
       held = sym (append-nil (heldIn s));
       pieces-more = omega arith;
       used-more = omega arith;
-      starts-rest = only-first-none (s .pieces) (s .starts) (omega (arith, h .starts-room, h .used-few));
-      cuts-rest = only-first-none (s .pieces + 1) (s .cuts) (omega (arith, h .cuts-room, h .used-few));
-      flat-rest = only-first-none (s .used) (s .flat) (omega (arith, h .flat-room, h .used-few));
+      starts-rest = only-first-none (s .pieces) (s .starts);
+      cuts-rest = only-first-none (s .pieces + 1) (s .cuts);
+      flat-rest = only-first-none (s .used) (s .flat);
     }
 
 -- Some trees are added, then others.
 pub added-on : {n : ℕ} {xs ys : List Tree} {s t u : Store} → Added n xs s t → Added n ys t u → Added n (xs ++ ys) s u
-added-on {xs = xs} {ys = ys} {s = s} {t = t} {u = u} a b =
-    let z = b .sound in
-    let starts-same : length (u .starts) ≡ length (s .starts) = only-first-length (b .starts-rest) ∙ only-first-length (a .starts-rest) in
-    let cuts-same : length (u .cuts) ≡ length (s .cuts) = only-first-length (b .cuts-rest) ∙ only-first-length (a .cuts-rest) in
-    let flat-same : length (u .flat) ≡ length (s .flat) = only-first-length (b .flat-rest) ∙ only-first-length (a .flat-rest) in
+added-on {xs = xs} {ys = ys} {s = s} a b =
     record {
-      sound = z;
+      sound = b .sound;
       held = b .held ∙ ap (λ (l : List Tree). l ++ ys) (a .held) ∙ append-assoc (heldIn s) xs ys;
       pieces-more = omega (arith, a .pieces-more, b .pieces-more, length-append xs ys);
       used-more = omega (arith, a .used-more, b .used-more);
-      starts-rest = only-first-on (a .starts-rest) (b .starts-rest) (omega (arith, b .pieces-more)) (omega (arith, z .starts-room, z .used-few));
-      cuts-rest = only-first-on (a .cuts-rest) (b .cuts-rest) (omega (arith, b .pieces-more)) (omega (arith, z .cuts-room, z .used-few));
-      flat-rest = only-first-on (a .flat-rest) (b .flat-rest) (b .used-more) (omega (arith, z .flat-room, z .used-few));
+      starts-rest = only-first-then (a .starts-rest) (b .starts-rest) (omega (arith, b .pieces-more));
+      cuts-rest = only-first-then (a .cuts-rest) (b .cuts-rest) (omega (arith, b .pieces-more));
+      flat-rest = only-first-then (a .flat-rest) (b .flat-rest) (b .used-more);
     }
 
 -- One piece is added, for which there is room.
@@ -128,7 +125,7 @@ module _ {n : ℕ} {s : Store} (h : Sound n s) (v : ℕ) (inside : v < n) (edges
         held = held-more;
         pieces-more = refl;
         used-more = omega arith;
-        starts-rest = only-first-set (s .pieces + 1) (s .starts) (s .pieces) v (omega arith) (omega (arith, start-fits));
-        cuts-rest = only-first-set (s .pieces + 1 + 1) (s .cuts) (s .pieces + 1) next (omega arith) (omega (arith, cut-fits));
-        flat-rest = only-first-put put next (omega arith) (omega (arith, h .flat-room));
+        starts-rest = only-first-store (only-first-none (s .pieces + 1) (s .starts)) (s .pieces) v (omega arith);
+        cuts-rest = only-first-store (only-first-none (s .pieces + 1 + 1) (s .cuts)) (s .pieces + 1) next (omega arith);
+        flat-rest = only-first-put put next (omega arith);
       }
