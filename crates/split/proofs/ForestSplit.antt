@@ -132,9 +132,9 @@ module _ {n : ℕ} {bounds arcs roots : List ℕ} {H : ℕ} (a : Lent) {s : Stat
       piece-edge-known g H edges roots (rw (held-all b) at m) e
 
   -- What is promised.
-  pub all-split : 1 ≤ length (a .cuts) → ForestSplit n bounds arcs roots H a ends (s .store .pieces)
+  pub all-split : ForestSplit n bounds arcs roots H a ends (s .store .pieces)
   unfolding heldIn
-  all-split some =
+  all-split =
       record {
         used = s .store .used;
         of-graph =

@@ -133,7 +133,7 @@ returns c =
     let s = entry (at .before) in
     let a = s .args in
     let q : at .loop .j ≡ length (a .roots .now) = omega (arith, at .loop .inv .within, c .loop-test .left) in
-    all-split (lent (a .starts .now) (a .cuts .now) (a .flat .now) (a .lefts .now)) (rw q at (at .loop .inv)) (omega (arith, s .pre .splittable .cuts-room))
+    all-split (lent (a .starts .now) (a .cuts .now) (a .flat .now) (a .lefts .now)) (rw q at (at .loop .inv))
 
 pub split-roots-spec : {M : Type 1} → statement M
 split-roots-spec =
