@@ -13,10 +13,10 @@ use Rattle.lists.proofs.Every.{first-false}
 use Rattle.graph.specs.Bytes.{graphOf}
 use Rattle.rules.specs.RootedTrial.{Choices}
 use Rattle.rules.specs.Reply as rules
-use Rattle.rules.specs.Questions.{askRounds}
+use Rattle.rules.specs.Questions.{askedIn, crewCountIn, limitIn, sheetIn, unknown, askSheet, askRounds}
 use Rattle.pieces.specs.declared.reply.Reply.{Reply}
 use Rattle.reply_text.specs.Replies.{TextWritten, RefusalWritten}
-use Rattle.question.specs.Question.{askedIn, crewCountIn, limitIn, sheetIn, unknown, askSheet, SheetAnswered, Answered}
+use Rattle.question.specs.Question.{SheetAnswered, Answered}
 
 module _ (input : List ℕ) where
   pub too-short : length input < 8 → true ≡ unknown input
@@ -49,11 +49,11 @@ module _ (input : List ℕ) where
 -- The rules' reply to an unknown question, and to a known one.
 module _ (input : List ℕ) (c : Choices) where
   unknown-reply : true ≡ unknown input → askRounds input c ≡ rules.refused 41
-  unfolding askRounds unknown
+  unfolding askRounds
   unknown-reply q = rw (sym q)
 
   known-reply : unknown input ≡ false → askRounds input c ≡ askSheet (askedIn input) (crewCountIn input) (limitIn input) (sheetIn input) 32708 c
-  unfolding askRounds askSheet unknown
+  unfolding askRounds
   known-reply q = rw q
 
 -- No choice is made.

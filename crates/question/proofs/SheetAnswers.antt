@@ -14,14 +14,14 @@ use Rattle.rules.specs.Cover.{Crews, rooted, unrooted}
 use Rattle.rules.specs.RootedTrial.{Choices}
 use Rattle.rules.specs.Reply as rules
 use Rattle.rules.specs.Search.{trial, bestLimit, best}
-use Rattle.rules.specs.Questions.{trialFault, askTrial, bestFault, askBest}
+use Rattle.rules.specs.Questions.{trialFault, askTrial, bestFault, askBest, askSheet}
 use Rattle.cover.specs.declared.crews.Kind.{Kind}
 use Rattle.cover.specs.declared.crews.Kind.the-variants.{Rooted, Unrooted}
 use Rattle.cover.specs.Crews.{crewsOf}
 use Rattle.pieces.specs.declared.reply.Reply.{Reply}
 use Rattle.planner.specs.Promise.{TrialPromise, BestPromise}
 use Rattle.reply_text.proofs.PrintableReplies.{ask-trial-printable, ask-best-printable}
-use Rattle.question.specs.Question.{Unrefused, crewsAsked, limitAsked, askSheet, SheetAnswered}
+use Rattle.question.specs.Question.{Unrefused, crewsAsked, limitAsked, SheetAnswered}
 
 -- What is not refused has no fault.
 quiet : (f : Fault) (answer : rules.Reply) → Unrefused (refusedOr rules.refused f answer) → f ≡ none

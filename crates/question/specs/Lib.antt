@@ -1,3 +1,3 @@
 -- What the contracts of the program's question cite, in reading order.
--- the question's fields, its reply, and what is promised of the text
+-- whom the question is for, and what is promised of the text
 pub mod Question

@@ -1,42 +1,25 @@
--- The program's question (document 01, "The program `rounds`"): its fields, its reply, and what is promised of the text.
+-- The program's question (document 01, "The program `rounds`"): whom it is for, and what is promised of the text of its reply.
 -- Assumes nothing.
 use Prim.Native.Nat.{ℕ, _≤_, _<_}
 use mathlib.Core.Path.{_≡_}
-use mathlib.Core.Bool.{Bool, cond, not, _&&_, _||_}
+use mathlib.Core.Bool.{cond, _||_}
 use mathlib.Core.List.{List}
-use lib.Dec.{leb, ltb, eqb}
-use lib.ListN.{length, drop}
+use lib.Dec.{eqb}
+use lib.ListN.{length}
 use Rattle.lists.specs.Count.{below}
 use Rattle.lists.specs.Put.{PutTo}
-use Rattle.graph.specs.Bytes.{u16At, u32At, graphOf}
+use Rattle.graph.specs.Bytes.{graphOf}
 use Rattle.rules.specs.Cover.{Crews, rooted, unrooted}
 use Rattle.rules.specs.RootedTrial.{Choices}
 use Rattle.rules.specs.Reply as rules
 use Rattle.rules.specs.Search.{bestLimit}
-use Rattle.rules.specs.Questions.{askTrial, askBest, askRounds}
+use Rattle.rules.specs.Questions.{askedIn, crewCountIn, limitIn, sheetIn, askSheet, askRounds}
 use Rattle.rules.specs.Fit.{GoodFor}
 use Rattle.planner_laws.specs.Meaning.{TrialMeans, BestMeans}
 use Rattle.pieces.specs.declared.reply.Reply.{Reply}
 use Rattle.pieces.specs.Replies.{Replied}
 use Rattle.reply_text.specs.Replies.{Printable}
 use Rattle.reply_text.specs.Text.{textOf}
-
--- The fields: "question (2 bytes), k (2), B (4, unread in 3 and 4), sheet".
-abbrev pub askedIn : List ℕ → ℕ
-askedIn input = u16At input 0
-
-abbrev pub crewCountIn : List ℕ → ℕ
-crewCountIn input = u16At input 2
-
-abbrev pub limitIn : List ℕ → ℕ
-limitIn input = u32At input 4
-
-abbrev pub sheetIn : List ℕ → List ℕ
-sheetIn input = drop 8 input
-
--- 41: "input below 8 or above 16,396 bytes, or an unknown question".
-unfoldable pub unknown : List ℕ → Bool
-unknown input = ltb (length input) 8 || (ltb 16396 (length input) || not (leb 1 (askedIn input) && leb (askedIn input) 4))
 
 -- Whom the question is for: "1 yard trial, 2 roving trial, 3 yard best, 4 roving best".
 unfoldable pub crewsAsked : ℕ → ℕ → Crews
@@ -45,14 +28,6 @@ crewsAsked asked k = cond (eqb asked 1 || eqb asked 3) (rooted (below k)) (unroo
 -- The limit at which the answer is found: B, or the best.
 unfoldable pub limitAsked : ℕ → ℕ → ℕ → List ℕ → ℕ
 limitAsked asked k limit b = cond (eqb asked 1 || eqb asked 2) limit (bestLimit (graphOf b) (crewsAsked asked k))
-
--- The reply to a known question.
-unfoldable pub askSheet : ℕ → ℕ → ℕ → List ℕ → ℕ → Choices → rules.Reply
-askSheet asked k limit b room c =
-    cond (eqb asked 1) (askTrial b (rooted (below k)) limit room c)
-    (cond (eqb asked 2) (askTrial b (unrooted k) limit room c)
-    (cond (eqb asked 3) (askBest b (rooted (below k)) room c)
-    (askBest b (unrooted k) room c)))
 
 -- Nothing is refused.
 abbrev pub Unrefused : rules.Reply → Type 0

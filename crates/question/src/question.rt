@@ -7,7 +7,8 @@ use reply_text::reply::write_refused;
 use reply_text::reply::write_reply;
 ghost use mathlib.Core.Path.{_≡_};
 ghost use lib.ListN.{length};
-ghost use Rattle.question.specs.Question.{unknown as unknownIn, SheetAnswered, Answered, AnswerAsked, AnswerPromise};
+ghost use Rattle.rules.specs.Questions.{unknown as unknownIn};
+ghost use Rattle.question.specs.Question.{SheetAnswered, Answered, AnswerAsked, AnswerPromise};
 
 // Whether the input is too short or too long, or the question unknown (41).
 fn unknown(input: &[u8]) -> bool

@@ -26,7 +26,8 @@ use Rattle.cover.proofs.ChosenBytes.{chosen-trees}
 use Rattle.cover.proofs.ChosenFit.{bounded-held, bounded-entries}
 use Rattle.pieces.specs.Chosen.{byKey}
 use Rattle.pieces.specs.Pieces.{Laid}
-use Rattle.rooted_parts.specs.TooLowParts.{bySmallest, Keyed}
+use Rattle.rules.specs.RootedTrial.{bySmallest}
+use Rattle.rooted_parts.specs.TooLowParts.{Keyed}
 use Rattle.pieces.proofs.SortedImages.{sorted-by-keys}
 
 module _ (starts cuts flat chosen : List ℕ) {before laid bounds edges keys : List ℕ} {used : ℕ}

@@ -19,10 +19,10 @@ use Rattle.lists.proofs.SumsAlike.{length-sum, sum-of-map}
 use Rattle.matching.specs.Assignment.{marked}
 use Rattle.rules.specs.Held.{treeAt, treesAt, risen}
 use Rattle.rules.specs.Cover.{Tree}
-use Rattle.rules.specs.RootedTrial.{partOf, chosenParts}
+use Rattle.rules.specs.RootedTrial.{partOf, bySmallest, chosenParts}
 use Rattle.cover.specs.Chosen.{AllHeld}
 use Rattle.marks.specs.Deficient.{placesMarked}
-use Rattle.rooted_parts.specs.TooLowParts.{bySmallest, edgesOf, ChosenGiven}
+use Rattle.rooted_parts.specs.TooLowParts.{edgesOf, ChosenGiven}
 
 module _ (starts cuts flat places marks : List ℕ) where
   -- The numbers of the marked parts.

@@ -4,25 +4,17 @@ use Prim.Native.Nat.{ℕ, _+_, _*_, _≤_, _<_}
 use mathlib.Core.Path.{_≡_}
 use mathlib.Core.List.{List, map, headD}
 use lib.ListN.{length, getD, take}
-use lib.Dec.{leb}
 use Rattle.lists.specs.Lists.{sumOf}
 use Rattle.lists.specs.Put.{PutTo}
 use Rattle.lists.specs.Segments.{segment}
-use Rattle.lists.specs.Sort.{sortBy}
 use Rattle.graph.specs.Graph.{Graph}
 use Rattle.matching.specs.Assignment.{markedParts, allowedRoots}
 use Rattle.matching.specs.Input.{allowedAt}
-use Rattle.rules.specs.Cover.{Tree}
 use Rattle.rules.specs.CoverBytes.{encode}
 use Rattle.rules.specs.Held.{treesAt, risen}
-use Rattle.rules.specs.Split.{smallestEdge}
 use Rattle.rules.specs.RootedTrial.{rootedParts, mayGo, chosenParts}
 use Rattle.cover.specs.Chosen.{AllHeld}
 use Rattle.rooted_parts.specs.declared.too_low_parts.Deficient.{Deficient}
-
--- "Ordered by smallest line."
-abbrev pub bySmallest : List Tree → List Tree
-bySmallest trees = sortBy (λ t u. leb (smallestEdge t) (smallestEdge u)) trees
 
 -- How many edges pieces of these numbers have together.
 abbrev pub edgesOf : List ℕ → List ℕ → List ℕ → ℕ

@@ -21,7 +21,8 @@ ghost use Rattle.rules.specs.CoverBytes.{encode};
 ghost use Rattle.rules.specs.Held.{treesAt, risen};
 ghost use Rattle.cover.specs.Chosen.{startsAt};
 ghost use Rattle.pieces.specs.Pieces.{Laid};
-ghost use Rattle.rooted_parts.specs.TooLowParts.{bySmallest, LayGiven, KeysGiven, Keyed, ChosenGiven, SetGiven, SetWritten};
+ghost use Rattle.rules.specs.RootedTrial.{bySmallest};
+ghost use Rattle.rooted_parts.specs.TooLowParts.{LayGiven, KeysGiven, Keyed, ChosenGiven, SetGiven, SetWritten};
 
 // How many parts the set has ("T"), and how many roots are allowed to them ("D").
 pub struct Deficient {

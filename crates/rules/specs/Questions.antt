@@ -87,16 +87,32 @@ written no-cover = []
 unfoldable pub bufferAfter : Reply → List ℕ → List ℕ
 bufferAfter reply buffer = written reply ++ drop (length (written reply)) buffer
 
--- The program's question (document 01, "The program `rounds`"): "question (2 bytes: 1 yard trial, 2 roving trial, 3 yard best,
--- 4 roving best), k (2), B (4, unread in 3 and 4), sheet". 41 is "input below 8 or above 16,396 bytes, or an unknown question. Tried first."
+-- The fields of the program's question (document 01, "The program `rounds`"): "question (2 bytes), k (2), B (4, unread in 3 and 4), sheet".
+abbrev pub askedIn : List ℕ → ℕ
+askedIn input = u16At input 0
+
+abbrev pub crewCountIn : List ℕ → ℕ
+crewCountIn input = u16At input 2
+
+abbrev pub limitIn : List ℕ → ℕ
+limitIn input = u32At input 4
+
+abbrev pub sheetIn : List ℕ → List ℕ
+sheetIn input = drop 8 input
+
+-- 41: "input below 8 or above 16,396 bytes, or an unknown question".
+unfoldable pub unknown : List ℕ → Bool
+unknown input = ltb (length input) 8 || (ltb 16396 (length input) || not (leb 1 (askedIn input) && leb (askedIn input) 4))
+
+-- The reply to a known question: "1 yard trial, 2 roving trial, 3 yard best, 4 roving best".
+unfoldable pub askSheet : ℕ → ℕ → ℕ → List ℕ → ℕ → Choices → Reply
+askSheet asked k limit b room c =
+    cond (eqb asked 1) (askTrial b (rooted (below k)) limit room c)
+    (cond (eqb asked 2) (askTrial b (unrooted k) limit room c)
+    (cond (eqb asked 3) (askBest b (rooted (below k)) room c)
+    (askBest b (unrooted k) room c)))
+
+-- The reply to the program's question. 41 is "tried first".
 unfoldable pub askRounds : List ℕ → Choices → Reply
 askRounds input c =
-    let asked = u16At input 0 in
-    let k = u16At input 2 in
-    let limit = u32At input 4 in
-    let b = drop 8 input in
-    cond (ltb (length input) 8 || (ltb 16396 (length input) || not (leb 1 asked && leb asked 4))) (refused 41)
-    (cond (eqb asked 1) (askTrial b (rooted (below k)) limit 32708 c)
-    (cond (eqb asked 2) (askTrial b (unrooted k) limit 32708 c)
-    (cond (eqb asked 3) (askBest b (rooted (below k)) 32708 c)
-    (askBest b (unrooted k) 32708 c))))
+    cond (unknown input) (refused 41) (askSheet (askedIn input) (crewCountIn input) (limitIn input) (sheetIn input) 32708 c)

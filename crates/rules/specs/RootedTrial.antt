@@ -81,10 +81,13 @@ rootedCover g roots limit c =
     let pieces = rootedPieces g roots limit in
     map (λ j. unionTree g (getD roots j 0) (assignedEdges (allParts pieces) c j ++ leftAt pieces j)) (below (length roots))
 
--- Step 5: the parts of the set, "ordered by smallest line".
+-- Parts "ordered by smallest line".
+abbrev pub bySmallest : List Tree → List Tree
+bySmallest parts = sortBy (λ t u. leb (smallestEdge t) (smallestEdge u)) parts
+
+-- Step 5: the parts of the set, so ordered.
 unfoldable pub chosenParts : List Tree → List ℕ → List Tree
-chosenParts parts marks =
-    sortBy (λ t u. leb (smallestEdge t) (smallestEdge u)) (map (partOf parts) (filter (marked marks) (below (length parts))))
+chosenParts parts marks = bySmallest (map (partOf parts) (filter (marked marks) (below (length parts))))
 
 -- "Too low, stop v", where there is such a vertex.
 unfoldable pub stopOr : Option ℕ → Reply → Reply

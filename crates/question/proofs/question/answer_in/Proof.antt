@@ -4,7 +4,7 @@ use Prim.Native.Nat.{_≤_}
 use mathlib.Core.Path.{_≡_, sym, _∙_}
 use mathlib.Core.Bool.{false}
 use lib.ListN.{length}
-use Rattle.question.specs.Question.{unknown}
+use Rattle.rules.specs.Questions.{unknown}
 use Rattle.question.proofs.Asked.{known-long, sheet-is, unknown-answered, known-answered}
 use borrow.Author.Needs.{needs}
 use Rattle.question.proofs.question.answer_in.Statement.{statement}

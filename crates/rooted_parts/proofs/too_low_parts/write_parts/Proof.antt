@@ -15,7 +15,7 @@ use Rattle.lists.proofs.Sorting.{sort-length}
 use Rattle.rules.specs.Held.{treesAt, risen}
 use Rattle.cover.specs.Chosen.{Writable}
 use Rattle.pieces.specs.Chosen.{byKey}
-use Rattle.rooted_parts.specs.TooLowParts.{bySmallest}
+use Rattle.rules.specs.RootedTrial.{bySmallest}
 use Rattle.rooted_parts.proofs.ChosenLaid.{laid-in-order, laid-writable}
 use Rattle.rooted_parts.proofs.too_low_parts.write_parts.Statement.{statement}
 use Rattle.rooted_parts.proofs.too_low_parts.write_parts.Tie as tie
