@@ -5,5 +5,3 @@ pub mod Labelling
 pub mod KeptOneByOne
 -- the lowest vertices, as loops over the vertices find them
 pub mod LowestVertices
--- the forest of a trial is what keeping leaves over the order, whole and at a limit
-pub mod TrialForest
