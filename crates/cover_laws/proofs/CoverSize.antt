@@ -83,6 +83,3 @@ module _ (g : Graph) (valid : Valid g) where
 
     pub cover-fits : Fits trees
     cover-fits = trees-fit trees cover-few (cover .all-covered .are-trees)
-
-    pub cover-length : length (encode trees) ≤ 32708
-    cover-length = trees-length trees cover-few (cover .all-covered .are-trees)

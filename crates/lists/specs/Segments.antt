@@ -2,19 +2,14 @@
 -- Assumes nothing.
 use Prim.Native.Nat.{ℕ, _+_, _≤_, _<_}
 use mathlib.Core.Path.{_≡_}
-use mathlib.Core.List.{List, map}
+use mathlib.Core.List.{List}
 use lib.ListN.{getD}
 use lib.Seq.{slice}
-use Rattle.lists.specs.Count.{below}
 
 module _ {ℓ} {A : Type ℓ} where
   -- The segment of a number.
   unfoldable pub segment : List ℕ → List A → ℕ → List A
   segment bounds xs i = slice (getD bounds i 0) (getD bounds (i + 1) 0) xs
-
-  -- The first k segments.
-  unfoldable pub segments : List ℕ → List A → ℕ → List (List A)
-  segments bounds xs k = map (segment bounds xs) (below k)
 
 -- The bounds of k segments, which take up the first elements, `used` of them.
 pub record Bounded (bounds : List ℕ) (k used : ℕ) : Type 0 where

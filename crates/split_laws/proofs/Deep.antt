@@ -80,7 +80,7 @@ module _ {g : Graph} where
 
 module _ (g : Graph) (edges : List ℕ) (inside : Inside g edges) where
   -- What an edge leads to is a vertex of the graph.
-  pub far-inside : {e u w : ℕ} → e ∈ edges → Joins g e u w → w < g .vertices
+  far-inside : {e u w : ℕ} → e ∈ edges → Joins g e u w → w < g .vertices
   far-inside {e} m (onward p q) = rw q (inside e m .1)
   far-inside {e} m (back p q) = rw q (inside e m .0)
 

@@ -10,13 +10,13 @@ use Rattle.lists.specs.Member.{_∈_}
 use Rattle.lists.proofs.Times.{times, times-none, in-times, times-in}
 use Rattle.graph.specs.Graph.{Graph, oneEnd, otherEnd}
 use Rattle.rules.specs.Walk.{Joins, onward, back, Linked}
-use Rattle.rules.specs.Grow.{Rooted, growNode, grow}
+use Rattle.rules.specs.Grow.{growNode, grow}
 use Rattle.rules.proofs.Linked.{linked-same, linked-more, linked-least}
 use Rattle.forest_laws.proofs.Roots.{Reached}
-use Rattle.split_laws.proofs.Along.{children, child-branch, children-linked}
+use Rattle.split_laws.proofs.Along.{children-linked}
 use Rattle.split_laws.proofs.Grown.{kept, node-grows}
-use Rattle.split_laws.proofs.Deep.{Inside, far-inside, vertices-deep}
-use Rattle.split_laws.proofs.Trees.{allChildren, allEdges, in-all-edges, of-all-children, passedFrom, trees-grow, tree-root, tree-hangs, tree-edge-known}
+use Rattle.split_laws.proofs.Deep.{Inside, vertices-deep}
+use Rattle.split_laws.proofs.Trees.{allChildren, allEdges, in-all-edges, of-all-children, passedFrom, trees-grow, tree-root, tree-hangs}
 
 -- Both ends of each edge at a vertex of the list stand in the list.
 abbrev ClosedAlong : Graph → List ℕ → List ℕ → Type 0
@@ -31,10 +31,6 @@ closed-linked {g} {edges} {xs} closed l =
     (λ u v a. (a .1, a .0))
     (λ e m. (closed e (oneEnd g e) (otherEnd g e) m (onward refl refl), closed e (otherEnd g e) (oneEnd g e) m (back refl refl)))
     l .0
-
--- Children are vertices of the graph.
-pub child-inside : (g : Graph) (edges roots : List ℕ) → Inside g edges → {t : Rooted} → t ∈ grow g edges roots → {c : ℕ} → c ∈ children (t .branches) → c < g .vertices
-child-inside g edges roots inside m n = let (u, e, i, j) = child-branch (tree-hangs g edges roots m) n in far-inside g edges inside (tree-edge-known g edges roots m i) j
 
 -- Every root and child is linked to a root by edges of the trees.
 pub reached-from-root : (g : Graph) (edges roots : List ℕ) {x : ℕ} → (x ∈ roots) ⊎ (x ∈ allChildren (grow g edges roots)) → Reached g roots (allEdges (grow g edges roots)) x
