@@ -21,6 +21,7 @@ pub rooted-ready : {k room : ℕ} {b roots order kept bounds arcs table lasts : 
 rooted-ready given p few most =
     record {
       ready = record { graph = given .graph; roots-some = λ _. given .some; decidable = λ _. p .decidable; history = λ q. absurd (one-kind refl q) };
+      around = λ _. p .around;
       in-order = p .in-order;
       last-edges = λ _. p .last-edges;
       crews-few = few;
@@ -39,6 +40,7 @@ unrooted-ready in-order h few most =
             decidable = λ q. absurd (one-kind q refl);
             history = λ _. h;
           };
+      around = λ q. absurd (one-kind q refl);
       in-order = in-order;
       last-edges = λ q. absurd (one-kind q refl);
       crews-few = few;
@@ -46,7 +48,7 @@ unrooted-ready in-order h few most =
     }
 
 -- Whether no cover exists.
-pub forest-ready : {kind : Kind} {b roots kept bounds arcs table total until : List ℕ} → CrewsReady kind b roots kept bounds arcs table total until
+pub forest-ready : {kind : Kind} {b roots kept table total until : List ℕ} → CrewsReady kind b roots kept table total until
     → ForestReady kind b roots kept
 forest-ready r =
     record {
@@ -60,7 +62,13 @@ module _ {kind : Kind} {k limit room : ℕ} {b roots order kept bounds arcs tabl
   pub rooted-answer-asked : kind ≡ Rooted → rooted-answer.AnswerAsked b roots limit order kept bounds arcs table lasts room
   rooted-answer-asked q =
       record {
-        prepared = record { decidable = a .answer .ready .decidable q; in-order = a .answer .in-order; last-edges = a .answer .last-edges q };
+        prepared =
+            record {
+              decidable = a .answer .ready .decidable q;
+              around = a .answer .around q;
+              in-order = a .answer .in-order;
+              last-edges = a .answer .last-edges q;
+            };
         roots-some = a .answer .ready .roots-some q;
         limit-most = a .limit-most;
         most = a .answer .room-most;

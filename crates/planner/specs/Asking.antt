@@ -22,6 +22,7 @@ use Rattle.pieces.specs.declared.reply.Reply.{Reply}
 use Rattle.pieces.specs.Replies.{Replied}
 use Rattle.edges.specs.Order.{RoomForOrder}
 use Rattle.marks.specs.Tabled.{LastsTabled}
+use Rattle.rooted.specs.Prepared.{WholeAround}
 use Rattle.rooted.specs.Decide.{NoCoverAsked}
 use Rattle.needs.specs.Given.{ForestKept}
 use Rattle.planner.specs.declared.ask.Asked.{Asked}
@@ -57,7 +58,8 @@ pub record ForestReady (kind : Kind) (b roots kept : List ℕ) : Type 0 where
 
 -- Everything that the crews read, at most 32 of them, and a buffer that is large enough.
 pub record AnswerAsked (kind : Kind) (k : ℕ) (b roots order kept bounds arcs table lasts total until : List ℕ) (room : ℕ) : Type 0 where
-  pub ready : CrewsReady kind b roots kept bounds arcs table total until
+  pub ready : CrewsReady kind b roots kept table total until
+  pub around : kind ≡ Rooted → WholeAround b roots bounds arcs
   pub in-order : order ≡ ordered (graphOf b)
   pub last-edges : kind ≡ Rooted → LastsTabled (graphOf b) roots table lasts
   pub crews-few : k ≤ 32

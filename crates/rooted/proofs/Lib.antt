@@ -1,6 +1,12 @@
 -- Laws that belong to no one function, in reading order.
 -- what the whole forest says of a limit
 pub mod LimitDecided
+-- the parts are counted
+pub mod PartsCounted
+-- and to which roots each may go
+pub mod PartsNear
+-- by rows of bytes, which decide
+pub mod RowsNear
 -- arrays of zeros have room for the parts of every trial
 pub mod PartsReady
 -- the three answers of a rooted trial

@@ -33,7 +33,7 @@ joined-asked a joined = record { asked = rw (a .prepared .decidable .forest) at 
 
 module _ {b roots : List ℕ} {limit : ℕ} {order bounds arcs table lasts : List ℕ} {room : ℕ} (j : JoinedAsked b roots limit order bounds arcs table lasts room) where
   -- The parts may be placed,
-  pub joined-ready : PartsReady b roots limit bounds arcs table
+  pub joined-ready : PartsReady b roots limit table
   joined-ready =
       let a = j .asked in
       record {

@@ -6,14 +6,16 @@ use mathlib.Core.Bool.{false}
 use mathlib.Core.List.{List}
 use mathlib.Core.Option.{none}
 use lib.ListN.{length, getD}
+use Rattle.graph.specs.Graph.{Graph}
 use Rattle.graph.specs.Bytes.{graphOf}
 use Rattle.graph.specs.Valid.{IsGraph}
 use Rattle.rules.specs.Cover.{rooted}
 use Rattle.rules.specs.Order.{ordered}
 use Rattle.rules.specs.Labels.{together}
 use Rattle.rules.specs.Forest.{keep}
-use Rattle.rules.specs.RootedTrial.{unjoinedAt, rootedParts}
+use Rattle.rules.specs.RootedTrial.{unjoinedAt, rootedParts, mayGo}
 use Rattle.rules.specs.Search.{noCover}
+use Rattle.near.specs.Bits.{bitAt}
 use Rattle.rooted.specs.Prepared.{Decidable, WholeWalked}
 
 -- What saying "no cover" asks: a graph's bytes, roots among its vertices, and the whole forest.
@@ -24,28 +26,40 @@ pub record NoCoverAsked (b roots kept : List ℕ) : Type 0 where
   pub forest : kept ≡ keep (graphOf b) (together roots) (ordered (graphOf b))
 
 -- What a trial at a limit asks: what is prepared, a root, and a limit no larger than document 01 has it.
-pub record TrialAsked (b roots : List ℕ) (limit : ℕ) (kept bounds arcs table : List ℕ) : Type 0 where
-  pub decidable : Decidable b roots kept bounds arcs table
+pub record TrialAsked (b roots : List ℕ) (limit : ℕ) (kept table : List ℕ) : Type 0 where
+  pub decidable : Decidable b roots kept table
   pub roots-some : 1 ≤ length roots
   pub limit-most : limit ≤ 2048000000
 
 -- What deciding a limit asks besides: the walk of the whole forest's trees, and that the whole graph joins every vertex to a root.
-pub record DecisionAsked (b roots : List ℕ) (limit : ℕ) (kept bounds arcs table walk : List ℕ) : Type 0 where
-  pub asked : TrialAsked b roots limit kept bounds arcs table
+pub record DecisionAsked (b roots : List ℕ) (limit : ℕ) (kept table walk : List ℕ) : Type 0 where
+  pub asked : TrialAsked b roots limit kept table
   pub walked : WholeWalked b roots walk
   pub some-cover : noCover (graphOf b) (rooted roots) ≡ false
 
 -- What a trial asks for its parts: the edges within the limit join every vertex to a root.
-pub record PartsReady (b roots : List ℕ) (limit : ℕ) (bounds arcs table : List ℕ) : Type 0 where
-  pub asked : TrialAsked b roots limit (keep (graphOf b) (together roots) (ordered (graphOf b))) bounds arcs table
+pub record PartsReady (b roots : List ℕ) (limit : ℕ) (table : List ℕ) : Type 0 where
+  pub asked : TrialAsked b roots limit (keep (graphOf b) (together roots) (ordered (graphOf b))) table
   pub joined : unjoinedAt (graphOf b) roots limit ≡ none
 
 -- What counting the parts asks besides: the walk of the whole forest's trees.
-pub record CountReady (b roots : List ℕ) (limit : ℕ) (bounds arcs table walk : List ℕ) : Type 0 where
-  pub ready : PartsReady b roots limit bounds arcs table
+pub record CountReady (b roots : List ℕ) (limit : ℕ) (table walk : List ℕ) : Type 0 where
+  pub ready : PartsReady b roots limit table
   pub walked : WholeWalked b roots walk
 
--- What assigning no more parts than roots asks.
-pub record FewReady (b roots : List ℕ) (limit : ℕ) (bounds arcs table : List ℕ) : Type 0 where
-  pub ready : PartsReady b roots limit bounds arcs table
+-- What assigning some parts, and no more than roots, asks.
+pub record FewReady (b roots : List ℕ) (limit : ℕ) (table walk : List ℕ) : Type 0 where
+  pub counted : CountReady b roots limit table walk
   pub few : length (rootedParts (graphOf b) roots limit) ≤ length roots
+  pub limit-some : 0 < limit
+
+-- What writing the roots near each part asks besides: a word for each root, and so for each part.
+pub record NearReady (b roots : List ℕ) (limit : ℕ) (table walk parts : List ℕ) : Type 0 where
+  pub ready : FewReady b roots limit table walk
+  pub room : length roots ≤ length parts
+
+-- There are r parts, and a word for each says to which roots it may go.
+pub record PartsNear (g : Graph) (roots : List ℕ) (limit : ℕ) (parts : List ℕ) (r : ℕ) : Type 0 where
+  pub count : r ≡ length (rootedParts g roots limit)
+  pub within : r ≤ length parts
+  pub each : (i j : ℕ) → i < r → j < length roots → bitAt j (getD parts i 0) ≡ mayGo g roots limit i j

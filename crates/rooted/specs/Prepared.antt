@@ -15,22 +15,26 @@ use Rattle.edges.specs.Around.{Around}
 use Rattle.steps.specs.WalkPut.{Walk}
 use Rattle.marks.specs.Tabled.{DistancesTabled, LastsTabled}
 
--- What deciding a limit takes: the graph's bytes and the roots (none where the crews have none), the whole forest by weight, the edges around each
--- vertex over it, and the distances from the roots.
-pub record Decidable (b roots kept bounds arcs table : List ℕ) : Type 0 where
+-- What deciding a limit takes, beside a walk: the graph's bytes and the roots (none where the crews have none), the whole forest by weight, and the
+-- distances from the roots.
+pub record Decidable (b roots kept table : List ℕ) : Type 0 where
   pub graph : IsGraph b
   pub roots-inside : (j : ℕ) → j < length roots → getD roots j 0 < graphOf b .vertices
   pub roots-few : length roots ≤ 32
   pub forest : kept ≡ keep (graphOf b) (together roots) (ordered (graphOf b))
-  pub around : Around (graphOf b) (rise (keep (graphOf b) (together roots) (ordered (graphOf b)))) bounds arcs
   pub distances : DistancesTabled (graphOf b) roots table
 
--- The walk of the whole forest's trees, by which every limit's parts are counted.
+-- The edges around each vertex over the whole forest.
+abbrev pub WholeAround : List ℕ → List ℕ → List ℕ → List ℕ → Type 0
+WholeAround b roots bounds arcs = Around (graphOf b) (rise (keep (graphOf b) (together roots) (ordered (graphOf b)))) bounds arcs
+
+-- The walk of the whole forest's trees, by which every limit's parts are counted, and their vertices passed.
 abbrev pub WholeWalked : List ℕ → List ℕ → List ℕ → Type 0
 WholeWalked b roots walk = Walk (graphOf b) (rise (keep (graphOf b) (together roots) (ordered (graphOf b)))) roots walk
 
--- What writing an answer takes besides: the edges in order, and the last edges of the shortest paths.
+-- What writing an answer takes besides: the edges around each vertex, all edges in order, and the last edges of the shortest paths.
 pub record Prepared (b roots order kept bounds arcs table lasts : List ℕ) : Type 0 where
-  pub decidable : Decidable b roots kept bounds arcs table
+  pub decidable : Decidable b roots kept table
+  pub around : WholeAround b roots bounds arcs
   pub in-order : order ≡ ordered (graphOf b)
   pub last-edges : LastsTabled (graphOf b) roots table lasts

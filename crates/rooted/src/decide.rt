@@ -2,18 +2,19 @@
 // question. Where the whole graph joins every vertex to a root, all are joined within the limit exactly where no edge of the whole
 // forest is above it.
 use forest::lowest::Found;
+use near::parts::near_parts;
+use near::rows::put_rows;
+use near::vertices::near_vertices;
 use pieces::whole::light_forest;
 use pieces::whole::stop_at;
-use rooted_parts::parts::assign_parts;
-use rooted_parts::parts::place_pieces;
+use rooted_parts::parts::is_assigned;
 use steps::count_parts;
 ghost use mathlib.Core.Path.{_≡_};
 ghost use Rattle.graph.specs.Bytes.{graphOf};
 ghost use Rattle.rules.specs.Cover.{rooted};
 ghost use Rattle.rules.specs.RootedTrial.{isAssignable};
 ghost use Rattle.rules.specs.Search.{accepts, noCover};
-ghost use Rattle.rooted.specs.Decide.{NoCoverAsked, DecisionAsked, FewReady, CountReady};
-ghost use Rattle.rooted_parts.specs.Parts.{FewHeld};
+ghost use Rattle.rooted.specs.Decide.{NoCoverAsked, DecisionAsked, CountReady, FewReady, NearReady, PartsNear};
 
 // Whether some vertex is joined to no root by any edge ("no cover"). The whole forest joins what all edges join.
 pub fn no_cover_rooted(b: &[u8], roots: &[u16], kept: &[u16]) -> bool
@@ -28,93 +29,45 @@ pub fn no_cover_rooted(b: &[u8], roots: &[u16], kept: &[u16]) -> bool
     }
 }
 
-// Whether each of no more parts than roots gets a root of its own. So few parts have rows of at most 32 times 32 marks.
-fn few_assigned(
+// For each part of the trial a word, whose bit j says whether the part may go to root j. Says how many parts there are. No tree is split for them:
+// the walk passes the vertices of each part.
+fn parts_near(
     b: &[u8],
     roots: &[u16],
     limit: u64,
     table: &[u32],
-    starts: &[u16],
-    cuts: &[u16],
-    flat: &[u16],
-    places: &[u16],
-    parts: usize,
-) -> bool
-    requires { ⌜ FewHeld (now b) (now roots) limit (now table) (now starts) (now cuts) (now flat) (now places) parts ⌝ }
-    ensures { λ r. ⌜ r ≡ isAssignable (graphOf (now (b .entry))) (now (roots .entry)) limit ⌝ }
+    walk: &[u64],
+    parts: &mut [u32],
+) -> usize
+    requires { ⌜ NearReady (now b) (now roots) limit (now table) (now walk) (now parts) ⌝ }
+    ensures { λ r. ⌜ PartsNear (graphOf (now (b .entry))) (now (roots .entry)) limit (now (parts .exit)) r ⌝ }
 {
-    let mut rows = [0u8; 1024];
-    let mut out = [0u8; 32];
-    assign_parts(
-        b,
-        roots,
-        limit,
-        table,
-        starts,
-        cuts,
-        flat,
-        places,
-        parts,
-        &mut rows,
-        &mut out,
-    )
+    let n = graph::vertex_count(b);
+    let mut near = [0u32; 256];
+    near_vertices(table, roots.len(), limit as u32, &mut near[..n]);
+    near_parts(walk, limit, &near, parts)
 }
 
-// Whether each part of the trial gets a root of its own, where there are no more parts than roots: the trees are split, so that the distances from
-// each part are known.
-fn split_assigned(
-    b: &[u8],
-    roots: &[u16],
-    limit: u64,
-    bounds: &[u16],
-    arcs: &[u64],
-    table: &[u32],
-) -> bool
-    requires { ⌜ FewReady (now b) (now roots) limit (now bounds) (now arcs) (now table) ⌝ }
+// Whether each part of the trial gets a root of its own, where there are some parts and no more than roots. So few have rows of at most 32 times 32
+// bytes.
+fn few_assigned(b: &[u8], roots: &[u16], limit: u64, table: &[u32], walk: &[u64]) -> bool
+    requires { ⌜ FewReady (now b) (now roots) limit (now table) (now walk) ⌝ }
     ensures { λ r. ⌜ r ≡ isAssignable (graphOf (now (b .entry))) (now (roots .entry)) limit ⌝ }
 {
-    let mut starts = [0u16; 288];
-    let mut cuts = [0u16; 289];
-    let mut flat = [0u16; 256];
-    let mut lefts = [0u16; 32];
-    let mut places = [0u16; 256];
-    let parts = place_pieces(
-        b,
-        roots,
-        limit,
-        bounds,
-        arcs,
-        &mut starts,
-        &mut cuts,
-        &mut flat,
-        &mut lefts,
-        &mut places,
-    );
-    few_assigned(
-        b,
-        roots,
-        limit,
-        table,
-        &starts,
-        &cuts,
-        &flat,
-        &places,
-        parts,
-    )
+    let k = roots.len();
+    let mut parts = [0u32; 32];
+    let p = parts_near(b, roots, limit, table, walk, &mut parts);
+    let mut rows = [0u8; 1024];
+    put_rows(&parts[..p], k, &mut rows);
+    let size = p * k;
+    let mut out = [0u8; 32];
+    is_assigned(p, k, &rows[..size], &mut out)
 }
 
 // Whether each part of the trial gets a root of its own, where every vertex is joined to a root. The parts are counted first: more than there are
-// roots never do, and where there is none nothing is needed, so that no tree is split for them.
-fn parts_assigned(
-    b: &[u8],
-    roots: &[u16],
-    limit: u64,
-    bounds: &[u16],
-    arcs: &[u64],
-    table: &[u32],
-    walk: &[u64],
-) -> bool
-    requires { ⌜ CountReady (now b) (now roots) limit (now bounds) (now arcs) (now table) (now walk) ⌝ }
+// roots never do, and where there is none nothing is needed, so that no distance is looked at for them.
+fn parts_assigned(b: &[u8], roots: &[u16], limit: u64, table: &[u32], walk: &[u64]) -> bool
+    requires { ⌜ CountReady (now b) (now roots) limit (now table) (now walk) ⌝ }
     ensures { λ r. ⌜ r ≡ isAssignable (graphOf (now (b .entry))) (now (roots .entry)) limit ⌝ }
 {
     let parts = count_parts(walk, limit);
@@ -124,7 +77,7 @@ fn parts_assigned(
     if parts == 0 {
         return true;
     }
-    split_assigned(b, roots, limit, bounds, arcs, table)
+    few_assigned(b, roots, limit, table, walk)
 }
 
 // Whether the limit is accepted, where the whole graph joins every vertex to a root.
@@ -133,16 +86,14 @@ pub fn accepts_rooted(
     roots: &[u16],
     limit: u64,
     kept: &[u16],
-    bounds: &[u16],
-    arcs: &[u64],
     table: &[u32],
     walk: &[u64],
 ) -> bool
-    requires { ⌜ DecisionAsked (now b) (now roots) limit (now kept) (now bounds) (now arcs) (now table) (now walk) ⌝ }
+    requires { ⌜ DecisionAsked (now b) (now roots) limit (now kept) (now table) (now walk) ⌝ }
     ensures { λ r. ⌜ r ≡ accepts (graphOf (now (b .entry))) (rooted (now (roots .entry))) limit ⌝ }
 {
     if light_forest(b, kept, limit) < kept.len() {
         return false;
     }
-    parts_assigned(b, roots, limit, bounds, arcs, table, walk)
+    parts_assigned(b, roots, limit, table, walk)
 }

@@ -1,13 +1,12 @@
 -- The marks of the rows say which root a part may go to: the table says the distances, and a tree has the same vertices in whatever order its
 -- edges stand.
 -- Assumes nothing.
-use Prim.Native.Nat.{ℕ, _+_, _*_, _/_, _%_, _≤_, _<_}
+use Prim.Native.Nat.{ℕ, _+_, _*_, _≤_, _<_}
 use mathlib.Core.Path.{_≡_, sym, ap, _∙_}
 use mathlib.Core.Bool.{Bool, true, false, cond}
 use mathlib.Core.List.{List, _∷_, map, List·Memᴰ·head, List·Memᴰ·tail, List·Memᴰ·not-nil}
 use mathlib.Core.Logic.{_⊎_, inl, inr}
 use mathlib.Core.Option.{none}
-use native.Mathlib.Nat.{div-add-mod', div-lt-iff-lt-mul, mod-lt}
 use native.Mathlib.Omega.{arith}
 use lib.ListN.{length, getD, take}
 use lib.Seq.{getD-take, length-take-le}
@@ -32,7 +31,7 @@ use Rattle.pieces.specs.Pieces.{endsOf}
 use Rattle.marks.specs.Near.{distanceIn, nearOne, nearTree, RowsMarked}
 use Rattle.marks.specs.Tabled.{DistancesTabled}
 use Rattle.rooted_parts.specs.Parts.{PieceArrays, PiecesPlaced}
-use Rattle.marks.proofs.RowPlaces.{place-within}
+use Rattle.marks.proofs.RowPlaces.{place-within, every-place}
 
 -- Some element of one list passes a test exactly where one of the other does, where they have the same elements and the tests agree on them.
 pub any-alike : {A : Type 0} (f h : A → Bool) (xs ys : List A) → ((x : A) → x ∈ xs → x ∈ ys) → ((y : A) → y ∈ ys → y ∈ xs)
@@ -46,7 +45,7 @@ any-alike f h xs ys to back same = go (either (any f xs)) (either (any h ys))
     go (inr p) (inr q) = p ∙ sym q
 
 -- A number that says a distance is at most the limit exactly where the distance is.
-says-within : (limit x : ℕ) (d : Distance) → limit < unreached → SaysDistance x d → leb x limit ≡ isWithin limit d
+pub says-within : (limit x : ℕ) (d : Distance) → limit < unreached → SaysDistance x d → leb x limit ≡ isWithin limit d
 unfolding isWithin
 says-within limit x d h (nowhere p q) = lt-leb x limit (omega arith) ∙ ap (isWithin limit) (sym q)
 says-within limit x d h (there p q) = ap (isWithin limit) (sym q)
@@ -122,9 +121,4 @@ module _ {g : Graph} {roots : List ℕ} {limit : ℕ} {a : PieceArrays} {p : ℕ
 
   -- Every mark is 0 or 1.
   pub marks-small : 1 ≤ length roots → (x : ℕ) → x < p * length roots → getD rows′ x 0 ≤ 1
-  marks-small one x h =
-      let k : ℕ = length roots in
-      let q : x / k * k + x % k ≡ x = div-add-mod' x k in
-      let i : x / k < p = div-lt-iff-lt-mul {k = k} {x = x} {y = p} one .1 h in
-      let j : x % k < k = mod-lt x one in
-      rw q at (row-small (x / k) (x % k) i j)
+  marks-small one = every-place (λ x. getD rows′ x 0 ≤ 1) p (length roots) one row-small

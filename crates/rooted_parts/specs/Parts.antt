@@ -86,11 +86,6 @@ pub record PartsHeld (b roots : List ℕ) (limit : ℕ) (table starts cuts flat 
   pub lefts : List ℕ
   pub placed : PiecesPlaced (graphOf b) roots limit (arraysOf starts cuts flat lefts places) parts
 
--- They are no more than the roots.
-pub record FewHeld (b roots : List ℕ) (limit : ℕ) (table starts cuts flat places : List ℕ) (parts : ℕ) : Type 0 where
-  pub held : PartsHeld b roots limit table starts cuts flat places parts
-  pub few : parts ≤ length roots
-
 -- What marking their rows and assigning them asks besides: a row of zeros for each part, and a byte for each.
 pub record RowsAsked (b roots : List ℕ) (limit : ℕ) (table starts cuts flat places : List ℕ) (parts : ℕ) (rows out : List ℕ) : Type 0 where
   pub held : PartsHeld b roots limit table starts cuts flat places parts

@@ -16,7 +16,7 @@ pub struct Placed {
 }
 
 // Splits the trees of the forest, and finds the places of the parts. Says how many.
-pub fn place_pieces(
+fn place_pieces(
     b: &[u8],
     roots: &[u16],
     limit: u64,
@@ -38,7 +38,7 @@ pub fn place_pieces(
 }
 
 // Gives each of p parts a root of its own, or else marks a deficient set.
-fn is_assigned(p: usize, k: usize, rows: &[u8], out: &mut [u8]) -> bool
+pub fn is_assigned(p: usize, k: usize, rows: &[u8], out: &mut [u8]) -> bool
     requires { ⌜ AssignAsked p k (now rows) (now out) ⌝ }
     ensures { λ r. ⌜ AssignDone p k (now (rows .entry)) (now (out .exit)) r ⌝ }
 {
@@ -51,7 +51,7 @@ fn is_assigned(p: usize, k: usize, rows: &[u8], out: &mut [u8]) -> bool
 }
 
 // Marks the roots near each part in its row, and gives each part a root of its own, or else marks a deficient set. The rows come as zeros.
-pub fn assign_parts(
+fn assign_parts(
     b: &[u8],
     roots: &[u16],
     limit: u64,

@@ -14,8 +14,8 @@ pub one-kind : {kind : Kind} → kind ≡ Rooted → kind ≡ Unrooted → ⊥
 one-kind {kind} p q = let z : _≡_ {A = ℕ} 0 1 = cc in omega arith
 
 -- What a decision by crews with roots asks.
-pub rooted-decision : {kind : Kind} {k limit : ℕ} {b roots kept bounds arcs table total until walk : List ℕ}
-    → DecisionAsked kind k b roots limit kept bounds arcs table total until walk → kind ≡ Rooted → rooted.DecisionAsked b roots limit kept bounds arcs table walk
+pub rooted-decision : {kind : Kind} {k limit : ℕ} {b roots kept table total until walk : List ℕ}
+    → DecisionAsked kind k b roots limit kept table total until walk → kind ≡ Rooted → rooted.DecisionAsked b roots limit kept table walk
 rooted-decision {kind} a q =
     let same : kind ≡ Rooted = q in
     record {

@@ -9,19 +9,20 @@ use Rattle.lists.proofs.Put.{put-taken, put-fits, put-length}
 use Rattle.graph.specs.Bytes.{graphOf}
 use Rattle.edges.specs.Around.{Arcs}
 use Rattle.steps.specs.WalkPut.{WalkAsked, WalkPut}
-use Rattle.rooted.specs.Prepared.{Decidable, WholeWalked}
+use Rattle.rooted.specs.Prepared.{Decidable, WholeAround, WholeWalked}
 
-module _ {b roots kept bounds arcs table : List ℕ} (d : Decidable b roots kept bounds arcs table) {n : ℕ} (n-is : n ≡ graphOf b .vertices) where
+module _ {b roots kept bounds arcs table : List ℕ} (d : Decidable b roots kept table) (around : WholeAround b roots bounds arcs) {n : ℕ}
+    (n-is : n ≡ graphOf b .vertices) where
   pub walk-asked : {walk : List ℕ} → length walk ≡ 256 → WalkAsked n bounds arcs roots walk
   walk-asked size =
       record {
-        around = subst (λ m. Arcs m bounds arcs) (sym n-is) (d .around .sound);
+        around = subst (λ m. Arcs m bounds arcs) (sym n-is) (around .sound);
         roots-inside = λ j h. omega (arith, d .roots-inside j h);
         room = omega (arith, d .graph .valid .vertices-most);
       }
 
   pub walk-written : {before walk : List ℕ} {r : ℕ} → WalkPut n bounds arcs roots before walk r → WholeWalked b roots (take r walk)
-  walk-written w = rw (put-taken (w .put)) (w .of-graph (graphOf b) _ (d .around) (sym n-is))
+  walk-written w = rw (put-taken (w .put)) (w .of-graph (graphOf b) _ around (sym n-is))
 
 -- Its steps stand in the array.
 pub walk-fits : {n : ℕ} {bounds arcs roots before walk : List ℕ} {r : ℕ} → WalkPut n bounds arcs roots before walk r → r ≤ length walk

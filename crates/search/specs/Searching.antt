@@ -11,7 +11,7 @@ use Rattle.rules.specs.Order.{ordered}
 use Rattle.rules.specs.Search.{accepts, Bounds, searched}
 use Rattle.cover.specs.declared.crews.Kind.{Kind}
 use Rattle.cover.specs.declared.crews.Kind.the-variants.{Rooted}
-use Rattle.rooted.specs.Prepared.{Decidable, WholeWalked}
+use Rattle.rooted.specs.Prepared.{Decidable, WholeAround, WholeWalked}
 use Rattle.search.specs.Crews.{CrewsPrepared}
 
 -- Where the search stands.
@@ -23,26 +23,29 @@ abbrev pub searchEnd : Graph → cover.Crews → ℕ → ℕ → ℕ
 searchEnd g crews sum budget = searched (accepts g crews) budget (between 0 sum) .high
 
 -- What the search asks: prepared crews, the walk of the whole forest's trees, and a sum within document 01's range.
-pub record SearchAsked (kind : Kind) (k : ℕ) (b roots kept bounds arcs table total until walk : List ℕ) (sum : ℕ) : Type 0 where
-  pub crews : CrewsPrepared kind k b roots kept bounds arcs table total until
+pub record SearchAsked (kind : Kind) (k : ℕ) (b roots kept table total until walk : List ℕ) (sum : ℕ) : Type 0 where
+  pub crews : CrewsPrepared kind k b roots kept table total until
   pub walked : kind ≡ Rooted → WholeWalked b roots walk
   pub sum-most : sum ≤ 2048000000
 
--- What the best limit asks besides: the edges in order.
-pub record BestAsked (kind : Kind) (k : ℕ) (b roots order kept bounds arcs table total until : List ℕ) : Type 0 where
-  pub crews : CrewsPrepared kind k b roots kept bounds arcs table total until
+-- What the best limit by the walk asks: the edges in order, by which the sum is taken.
+pub record WalkedAsked (kind : Kind) (k : ℕ) (b roots order kept table total until walk : List ℕ) : Type 0 where
+  pub crews : CrewsPrepared kind k b roots kept table total until
   pub in-order : order ≡ ordered (graphOf b)
-
--- The same with the walk of the whole forest's trees.
-pub record WalkedAsked (kind : Kind) (k : ℕ) (b roots order kept bounds arcs table total until walk : List ℕ) : Type 0 where
-  pub asked : BestAsked kind k b roots order kept bounds arcs table total until
   pub walked : kind ≡ Rooted → WholeWalked b roots walk
+
+-- What the best limit asks where no walk is written yet: for crews with roots the edges around each vertex of the whole forest.
+pub record BestAsked (kind : Kind) (k : ℕ) (b roots order kept bounds arcs table total until : List ℕ) : Type 0 where
+  pub crews : CrewsPrepared kind k b roots kept table total until
+  pub in-order : order ≡ ordered (graphOf b)
+  pub around : kind ≡ Rooted → WholeAround b roots bounds arcs
 
 -- What writing the walk asks: where crews have roots, the edges around each vertex of the whole forest; and a place for each vertex.
 pub record WalkGiven (kind : Kind) (b roots bounds arcs walk : List ℕ) : Type 0 where
   pub kept : List ℕ
   pub table : List ℕ
-  pub decidable : kind ≡ Rooted → Decidable b roots kept bounds arcs table
+  pub decidable : kind ≡ Rooted → Decidable b roots kept table
+  pub around : kind ≡ Rooted → WholeAround b roots bounds arcs
   pub room : length walk ≡ 256
 
 -- The first r elements are the walk of the whole forest's trees, where crews have roots.

@@ -33,8 +33,6 @@ fn search(
     b: &[u8],
     roots: &[u16],
     kept: &[u16],
-    bounds: &[u16],
-    arcs: &[u64],
     table: &[u32],
     total: &[u64],
     until: &[u16],
@@ -42,7 +40,7 @@ fn search(
     sum: u64,
     budget: usize,
 ) -> u64
-    requires { ⌜ SearchAsked kind k (now b) (now roots) (now kept) (now bounds) (now arcs) (now table) (now total) (now until) (now walk) sum ⌝ }
+    requires { ⌜ SearchAsked kind k (now b) (now roots) (now kept) (now table) (now total) (now until) (now walk) sum ⌝ }
     ensures { λ r. ⌜ r ≡ searchEnd (graphOf (now (b .entry))) (crewsWith kind k (now (roots .entry))) sum budget ⌝ }
 {
     let mut low = 0;
@@ -54,20 +52,7 @@ fn search(
         }
         left -= 1;
         let middle = (low + high) / 2;
-        if accepts_at(
-            kind,
-            k,
-            b,
-            roots,
-            middle,
-            kept,
-            bounds,
-            arcs,
-            table,
-            total,
-            until,
-            walk,
-        ) {
+        if accepts_at(kind, k, b, roots, middle, kept, table, total, until, walk) {
             high = middle;
             continue;
         }
@@ -84,51 +69,22 @@ fn search_limit(
     roots: &[u16],
     order: &[u16],
     kept: &[u16],
-    bounds: &[u16],
-    arcs: &[u64],
     table: &[u32],
     total: &[u64],
     until: &[u16],
     walk: &[u64],
 ) -> u64
-    requires { ⌜ WalkedAsked kind k (now b) (now roots) (now order) (now kept) (now bounds) (now arcs) (now table) (now total) (now until) (now walk) ⌝ }
+    requires { ⌜ WalkedAsked kind k (now b) (now roots) (now order) (now kept) (now table) (now total) (now until) (now walk) ⌝ }
     ensures { λ r. ⌜ r ≡ bestLimit (graphOf (now (b .entry))) (crewsWith kind k (now (roots .entry))) ⌝ }
 {
-    if accepts_at(
-        kind,
-        k,
-        b,
-        roots,
-        0,
-        kept,
-        bounds,
-        arcs,
-        table,
-        total,
-        until,
-        walk,
-    ) {
+    if accepts_at(kind, k, b, roots, 0, kept, table, total, until, walk) {
         return 0;
     }
     let sum = sum_weights(b, order);
-    search(
-        kind,
-        k,
-        b,
-        roots,
-        kept,
-        bounds,
-        arcs,
-        table,
-        total,
-        until,
-        walk,
-        sum,
-        31,
-    )
+    search(kind, k, b, roots, kept, table, total, until, walk, sum, 31)
 }
 
-// Writes the walk of the whole forest's trees, by which crews with roots count parts. Says how many steps it has.
+// Writes the walk of the whole forest's trees, by which crews with roots decide. Says how many steps it has.
 fn write_walk(
     kind: Kind,
     b: &[u8],
@@ -172,8 +128,6 @@ pub fn best_limit(
         roots,
         order,
         kept,
-        bounds,
-        arcs,
         table,
         total,
         until,

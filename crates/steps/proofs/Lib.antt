@@ -1,10 +1,16 @@
 -- Laws that belong to no one function, in reading order.
 -- no mark is lost, and nothing is left to be grown
 pub mod StepsMark
--- one pass over the steps counts the parts below a vertex
-pub mod StepsCounted
--- and those of all trees
-pub mod WalkCounted
+-- at which parts a test holds, and at which edges
+pub mod PartTouched
+-- one step of the pass settles a child's piece
+pub mod StepSwept
+-- one pass over the steps tells the parts below a vertex
+pub mod StepsSwept
+-- it tells of as many parts as counting counts
+pub mod SweepCounts
+-- so the parts of all trees are told, and counted
+pub mod WalkSwept
 -- the vertices of the steps
 pub mod StepsInside
 -- writing the steps below a vertex, under way

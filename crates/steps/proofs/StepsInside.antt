@@ -13,7 +13,7 @@ use Rattle.steps.specs.Steps.{stepOf}
 use Rattle.steps.specs.StepsBelow.{StepsBelow, steps-done, steps-past, steps-child, StepsFrom, no-roots, steps-root}
 use Rattle.steps.specs.WalkPut.{StepsInside}
 use Rattle.steps.proofs.StepsMark.{steps-close}
-use Rattle.steps.proofs.StepsCounted.{step-child, step-above}
+use Rattle.steps.proofs.StepSwept.{step-child, step-above}
 
 -- Both vertices of a step are below 256, of all of these steps.
 abbrev Small : ℕ → Type 0

@@ -14,7 +14,7 @@ use Rattle.steps.specs.StepsBelow.{StepsFrom, no-roots, steps-root}
 use Rattle.steps.specs.WalkPut.{StepsAsked, StepsPut, WalkReady, WalkPut}
 use Rattle.split.proofs.Unvisited.{unvisited-fewer, unvisited-most}
 use Rattle.steps.proofs.StepsInside.{steps-inside}
-use Rattle.steps.proofs.WalkCounted.{walk-counted}
+use Rattle.steps.proofs.WalkSwept.{walk-touched, walk-counted}
 
 -- The steps of the first j roots' trees are written: whatever steps the other roots give, they stand behind them.
 pub record TreesUnderway (bounds arcs roots first walk₀ : List ℕ) (j : ℕ) (marks walk : List ℕ) (next : ℕ) : Type 0 where
@@ -49,7 +49,11 @@ module _ {bounds arcs roots first walk₀ : List ℕ} {j : ℕ} {marks walk : Li
         put = u .put;
         of-graph =
             λ g edges around n-is.
-            record { inside = steps-inside all (ready .asked .around .few); counts = walk-counted around (sym n-is) (ready .none-marked) all };
+            record {
+              inside = steps-inside all (ready .asked .around .few);
+              counts = walk-counted around (sym n-is) (ready .none-marked) all;
+              touches = walk-touched around (sym n-is) (ready .none-marked) all;
+            };
       }
 
   -- One root more: the steps below it may be written,

@@ -2,16 +2,20 @@
 -- Assumes nothing.
 use Prim.Native.Nat.{ℕ, _+_, _≤_, _<_}
 use mathlib.Core.Path.{_≡_}
+use mathlib.Core.Bool.{Bool}
 use mathlib.Core.List.{List, map}
 use lib.ListN.{length, getD}
+use Rattle.lists.specs.Lists.{any}
 use Rattle.lists.specs.Put.{PutTo}
 use Rattle.lists.specs.Segments.{segment}
 use Rattle.graph.specs.Graph.{Graph}
 use Rattle.rules.specs.Grow.{grow}
 use Rattle.rules.specs.Split.{split, allParts}
+use Rattle.rules.specs.Distance.{treeVertices}
 use Rattle.edges.specs.Around.{arcEdge, arcHead, Arcs, Around}
 use Rattle.split.specs.SplitBelow.{unvisited}
 use Rattle.steps.specs.Steps.{partsCounted}
+use Rattle.steps.specs.Touched.{partsTouched}
 use Rattle.steps.specs.StepsBelow.{StepsBelow}
 
 -- What writing the steps below v asks: the arcs of as many vertices as there are marks, v one of them, and room for a step for each vertex
@@ -45,10 +49,12 @@ pub record StepsInside (steps : List ℕ) : Type 0 where
   pub children : (i : ℕ) → i < length steps → arcEdge (getD steps i 0) < 256
   pub above : (i : ℕ) → i < length steps → arcHead (getD steps i 0) < 256
 
--- The steps of the trees that are grown along the edges from the roots: one pass counts the parts at every threshold.
+-- The steps of the trees that are grown along the edges from the roots: one pass counts the parts at every threshold, and one tells at which of
+-- them a test holds.
 pub record Walk (g : Graph) (edges roots steps : List ℕ) : Type 0 where
   pub inside : StepsInside steps
   pub counts : (H : ℕ) → partsCounted H steps ≡ length (allParts (map (split g H) (grow g edges roots)))
+  pub touches : (H : ℕ) (test : ℕ → Bool) → partsTouched H test steps ≡ map (λ part. any test (treeVertices g part)) (allParts (map (split g H) (grow g edges roots)))
 
 -- What is promised of the walk: it stands in the array's first r places, whatever graph's forest the arcs are of.
 pub record WalkPut (n : ℕ) (bounds arcs roots walk walk′ : List ℕ) (r : ℕ) : Type 0 where

@@ -104,9 +104,9 @@ returns c =
                   roots-inside = given .inside;
                   roots-few = given .few;
                   forest = kept .forest;
-                  around = rw (kept .forest) at (p .put-arcs .ensures .around);
                   distances = tabled .distances;
                 };
+            around = rw (kept .forest) at (p .put-arcs .ensures .around);
             in-order = kept .in-order;
             last-edges = tabled .last-edges;
           };

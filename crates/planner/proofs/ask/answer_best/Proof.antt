@@ -31,7 +31,7 @@ best-limit-requires : tie.Need-best-limit-requires
 best-limit-requires c κs =
     let n = c .before in
     let p = s n .pre in
-    record { crews = record { ready = p .ready; some-cover = sym (n .no-cover .ensures) ∙ c .if1 .left }; in-order = p .in-order }
+    record { crews = record { ready = p .ready; some-cover = sym (n .no-cover .ensures) ∙ c .if1 .left }; in-order = p .in-order; around = p .around }
 
 answer-at-requires : tie.Need-answer-at-requires
 answer-at-requires c κs =

@@ -45,7 +45,7 @@ slice-aggregate-place-parts-7 : tie.Need-slice-aggregate-place-parts-7
 slice-aggregate-place-parts-7 c = search needs
 
 place-parts-requires : tie.Need-place-parts-requires
-place-parts-requires c κs = parts-asked (joined-ready (start c .pre))
+place-parts-requires c κs = let p = start c .pre in parts-asked (joined-ready p) (p .asked .prepared .around)
 
 slice-aggregate-answer-placed : tie.Need-slice-aggregate-answer-placed
 slice-aggregate-answer-placed c = search needs

@@ -17,7 +17,7 @@ use Rattle.rooted.proofs.decide.accepts_rooted.Tie as tie
 -- Where the forest's edges within the limit are counted: what came.
 module _ (l : tie.After-light-forest) where
   abbrev s : tie.Start
-  s = let k = l .before .before .before .before in k .before .before .before .before
+  s = let k = l .before .before .before .before in k .before .before
 
   abbrev g : Graph
   g = graphOf (s .args .b .now)

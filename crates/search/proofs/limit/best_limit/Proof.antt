@@ -16,7 +16,14 @@ slice-aggregate-write-walk c = search needs
 
 write-walk-requires : tie.Need-write-walk-requires
 write-walk-requires c κs =
-    record { kept = start c .args .kept .now; table = start c .args .table .now; decidable = start c .pre .crews .ready .decidable; room = length-replicate {A = ℕ} 256 0 }
+    let s = start c in
+    record {
+      kept = s .args .kept .now;
+      table = s .args .table .now;
+      decidable = s .pre .crews .ready .decidable;
+      around = s .pre .around;
+      room = length-replicate {A = ℕ} 256 0;
+    }
 
 array-share-prefix-walk : tie.Need-array-share-prefix-walk
 array-share-prefix-walk c = search needs
@@ -25,7 +32,7 @@ slice-aggregate-search-limit : tie.Need-slice-aggregate-search-limit
 slice-aggregate-search-limit c = let w = c .before .before in sym (length-take-le _ _ (w .write-walk .ensures .fits))
 
 search-limit-requires : tie.Need-search-limit-requires
-search-limit-requires c κs = let w = c .before .before in record { asked = start (w .before) .pre; walked = w .write-walk .ensures .walked }
+search-limit-requires c κs = let w = c .before .before in let p = start (w .before) .pre in record { crews = p .crews; in-order = p .in-order; walked = w .write-walk .ensures .walked }
 
 returns : tie.Need-returns
 returns c = search needs

@@ -17,7 +17,7 @@ use Rattle.search.proofs.limit.search_limit.Tie as tie
 -- Where 0 is tried: the graph, and the crews.
 module _ (a : tie.After-accepts-at) where
   abbrev s : tie.Start
-  s = let d = a .before .before .before .before in d .before .before .before .before .before .before .before
+  s = let d = a .before .before .before .before in d .before .before .before .before .before
 
   abbrev g : Graph
   g = graphOf (s .args .b .now)
@@ -26,7 +26,7 @@ module _ (a : tie.After-accepts-at) where
   crews = crewsWith (s .args .kind) (s .args .k) (s .args .roots .now)
 
   valid : Valid g
-  valid = s .pre .asked .crews .ready .graph .valid
+  valid = s .pre .crews .ready .graph .valid
 
 -- Where the sum is known.
 module _ (w : tie.After-sum-weights) where
@@ -34,7 +34,7 @@ module _ (w : tie.After-sum-weights) where
   tried = w .before .before
 
   sum-is : w .sum-weights .result ≡ allWeights (g tried)
-  sum-is = w .sum-weights .ensures ∙ ap (totalWeight (g tried)) (s tried .pre .asked .in-order)
+  sum-is = w .sum-weights .ensures ∙ ap (totalWeight (g tried)) (s tried .pre .in-order)
 
 accepts-at-requires : tie.Need-accepts-at-requires
 accepts-at-requires c κs = search needs
@@ -43,11 +43,11 @@ returns : tie.Need-returns
 returns c = best-at-zero (valid (c .before)) (crews (c .before)) (sym (c .before .accepts-at .ensures) ∙ c .if1 .taken)
 
 sum-weights-requires : tie.Need-sum-weights-requires
-sum-weights-requires c κs = order-few (valid (c .before)) (s (c .before) .pre .asked .in-order)
+sum-weights-requires c κs = order-few (valid (c .before)) (s (c .before) .pre .in-order)
 
 search-requires : tie.Need-search-requires
 search-requires c κs =
-    record { crews = s (tried c) .pre .asked .crews; walked = s (tried c) .pre .walked; sum-most = omega (arith, sum-is c, sum-bounded (valid (tried c))) }
+    record { crews = s (tried c) .pre .crews; walked = s (tried c) .pre .walked; sum-most = omega (arith, sum-is c, sum-bounded (valid (tried c))) }
 
 returns-2 : tie.Need-returns-2
 returns-2 c =

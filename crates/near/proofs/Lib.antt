@@ -1,0 +1,13 @@
+-- Laws that belong to no one function, in reading order.
+-- a word of bits, made bit by bit
+pub mod BitsMade
+-- the words of the vertices, one after the other
+pub mod NearWords
+-- the bits of a word that joins two
+pub mod BitsLaws
+-- one step of the pass, by the way it goes
+pub mod SweepWays
+-- marking the parts, under way
+pub mod PartsMarking
+-- the bits of a word as a row of bytes, and such rows one after the other
+pub mod RowBits

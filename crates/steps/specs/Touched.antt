@@ -1,0 +1,40 @@
+-- The parts in one pass over the steps, each by whether a test holds at one of its vertices (document 01, steps 4 and 5). For the test "within the
+-- limit of root j" that is whether the part may go to root j, so that a decision needs no piece.
+-- Assumes nothing.
+use Prim.Native.Nat.{ℕ, _+_}
+use mathlib.Core.Bool.{Bool, false, cond, _||_}
+use mathlib.Core.List.{List, [], _∷_, _++_}
+use lib.ListN.{getD, set, replicate}
+use Rattle.rules.specs.Split.{reachesWeight}
+use Rattle.edges.specs.Around.{arcEdge, arcHead, arcWeight}
+
+-- The weight of what is left at each vertex, whether the test holds at a vertex of that, and of each part split off, whether it holds at one of its.
+pub record Sweep : Type 0 where
+  pub left : List ℕ
+  pub touched : List Bool
+  pub parts : List Bool
+
+-- A child's piece: its edge, with both ends, and what is left at the child.
+unfoldable pub touchesPiece : (ℕ → Bool) → ℕ → Sweep → Bool
+touchesPiece test step s = getD (s .touched) (arcEdge step) false || (test (arcEdge step) || test (arcHead step))
+
+-- It becomes a part alone, or the bunch of the vertex above with it becomes one, or it joins the bunch, as for `tallyStep`.
+unfoldable pub sweepStep : ℕ → (ℕ → Bool) → ℕ → Sweep → Sweep
+sweepStep H test step s =
+    let above = arcHead step in
+    let piece = arcWeight step + getD (s .left) (arcEdge step) 0 in
+    let bunch = getD (s .left) above 0 + piece in
+    let own = touchesPiece test step s in
+    let both = getD (s .touched) above false || own in
+    cond (reachesWeight H piece) (record { left = s .left; touched = s .touched; parts = s .parts ++ (own ∷ []) })
+    (cond (reachesWeight H bunch) (record { left = set (s .left) above 0; touched = set (s .touched) above false; parts = s .parts ++ (both ∷ []) })
+    (record { left = set (s .left) above bunch; touched = set (s .touched) above both; parts = s .parts }))
+
+-- All steps, one after the other.
+unfoldable pub sweep : ℕ → (ℕ → Bool) → List ℕ → Sweep → Sweep
+sweep H test [] s = s
+sweep H test (step ∷ steps) s = sweep H test steps (sweepStep H test step s)
+
+-- For each part whether the test holds at one of its vertices, where nothing is left at any of 256 vertices to begin with.
+unfoldable pub partsTouched : ℕ → (ℕ → Bool) → List ℕ → List Bool
+partsTouched H test steps = sweep H test steps (record { left = replicate 256 0; touched = replicate 256 false; parts = [] }) .parts
