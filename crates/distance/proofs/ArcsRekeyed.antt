@@ -9,8 +9,9 @@ use lib.ListN.{length, getD, set}
 use lib.Seq.{getD-set-same, getD-set-other}
 use Rattle.lists.proofs.AfterStore.{at-or-not}
 use Rattle.edges.specs.Around.{arcHead}
-use Rattle.distance.specs.Waiting.{keyOf, Blocks, KeyGiven}
-use Rattle.distance.specs.Relaxing.{ArcRelaxed, kept, lowered, Rekeyed, key-kept, key-new}
+use Rattle.waiting.specs.Waiting.{keyOf, Blocks, KeyGiven}
+use Rattle.waiting.specs.OneArc.{ArcRelaxed, kept, lowered}
+use Rattle.distance.specs.Relaxing.{Rekeyed, key-kept, key-new}
 use Rattle.distance.proofs.WhoWaits.{key-nearer}
 
 -- Each vertex has its key since the start.

@@ -1,25 +1,17 @@
 -- The arcs of a vertex relaxed one after the other.
 -- Assumes nothing.
 use Prim.Native.Nat.{ℕ, _+_, _≤_, _<_}
-use mathlib.Core.Path.{_≡_, refl, sym, _∙_}
-use mathlib.Core.Bool.{Bool, true, false}
+use mathlib.Core.Path.{_≡_, refl, _∙_}
+use mathlib.Core.Bool.{Bool}
 use mathlib.Core.List.{List}
 use native.Mathlib.Omega.{arith}
 use lib.ListN.{length, getD, set}
 use lib.Seq.{getD-set-same, getD-set-other}
 use Rattle.lists.proofs.AfterStore.{at-or-not}
 use Rattle.edges.specs.Around.{arcEdge, arcHead, arcWeight}
-use Rattle.distance.specs.Trail.{lastOf}
-use Rattle.distance.specs.Relaxing.{ArcIn, ArcRelaxed, kept, lowered, Becomes, same, nearer, Relaxed}
-
--- One arc, by what is read from it.
-module _ {a u d v w : ℕ} (head : v ≡ arcHead a) (weight : w ≡ arcWeight a) (dist last : List ℕ) where
-  pub arc-kept : getD dist v 0 ≤ d + w → ArcRelaxed a u d dist last dist last false
-  arc-kept h = kept (rw (sym head, sym weight) h) refl refl refl
-
-  pub arc-changed : {e x : ℕ} → d + w < getD dist v 0 → e ≡ arcEdge a → x ≡ lastOf e u
-      → ArcRelaxed a u d dist last (set dist v (d + w)) (set last v x) true
-  arc-changed {e} {x} h edge q = lowered (rw (sym head, sym weight) h) (rw (head, weight)) (rw (q, edge, head)) refl
+use Rattle.waiting.specs.Last.{lastOf}
+use Rattle.waiting.specs.OneArc.{ArcRelaxed, kept, lowered}
+use Rattle.distance.specs.Relaxing.{ArcIn, Becomes, same, nearer, Relaxed}
 
 -- An arc among fewer is one among more.
 arc-wider : {arcs : List ℕ} {lo hi a : ℕ} → ArcIn arcs lo hi a → ArcIn arcs lo (hi + 1) a

@@ -21,7 +21,8 @@ use Rattle.distance_laws.proofs.Bounding.{joins-inside}
 use Rattle.distance_laws.proofs.Least.{distanceTo, distance-reached, distance-most}
 use Rattle.distance_laws.proofs.PathWeights.{turned-weight, weight-most}
 use Rattle.edges.specs.Around.{arcEdge, arcHead, arcWeight, Around}
-use Rattle.distance.specs.Trail.{lastOf, lastEdge, vertexBefore, IsTrail, home, over}
+use Rattle.waiting.specs.Last.{lastOf, lastEdge, vertexBefore}
+use Rattle.distance.specs.Trail.{IsTrail, home, over}
 use Rattle.distance.specs.Shortest.{unreached, SaysDistance, nowhere, there, IsPathBack, Shortest}
 use Rattle.distance.proofs.Trails.{trail-of}
 use Rattle.distance.proofs.ArcEdges.{IsEdge, arc-edges, edge-arcs}

@@ -3,8 +3,6 @@
 pub mod ArcsRelaxed
 -- the start of a search
 pub mod SearchStart
--- keys in blocks, and the least of each
-pub mod KeyBlocks
 -- trails, followed edge by edge
 pub mod Trails
 -- the invariant of the search

@@ -8,7 +8,7 @@ use lib.ListN.{length, getD, set, drop}
 use lib.Seq.{getD-set-same, getD-set-other, drop-set-lt}
 use Rattle.lists.proofs.AfterStore.{after-store}
 use Rattle.distance.specs.Shortest.{unreached}
-use Rattle.distance.specs.Waiting.{Started}
+use Rattle.distance.specs.Start.{Started}
 
 -- The vertices below v are not reached.
 pub record Starting (n v : ℕ) (dist₀ dist : List ℕ) : Type 0 where

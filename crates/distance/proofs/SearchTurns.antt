@@ -13,8 +13,9 @@ use borrow.Author.Tests.{ltb-true, ltb-false}
 use Rattle.lists.proofs.Member.{either}
 use Rattle.lists.proofs.Put.{only-first, only-first-length, only-first-rest}
 use Rattle.edges.specs.Around.{arcHead, Arcs}
+use Rattle.waiting.specs.Waiting.{keyOf, vertexOf, nobody, LeastFrom, Blocks, KeyPut}
 use Rattle.distance.specs.Shortest.{unreached, Searchable, Searched}
-use Rattle.distance.specs.Waiting.{keyOf, vertexOf, nobody, LeastFrom, Blocks, KeyPut, Started}
+use Rattle.distance.specs.Start.{Started}
 use Rattle.distance.specs.Relaxing.{ArcAt, Becomes, same, nearer, Relaxed, Relaxable, Rekeyed, key-kept, key-new, AllRelaxed}
 use Rattle.distance.proofs.SettledInvariant.{Settling, settling-none, settling-more, Settled, settled-all}
 use Rattle.distance.proofs.ArraysSayDistances.{traced-all}

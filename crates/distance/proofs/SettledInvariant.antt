@@ -9,7 +9,7 @@ use native.Mathlib.Decide.{ℕ-discrete}
 use native.Mathlib.Omega.{arith}
 use lib.ListN.{getD}
 use Rattle.edges.specs.Around.{arcEdge, arcHead, arcWeight}
-use Rattle.distance.specs.Trail.{lastOf}
+use Rattle.waiting.specs.Last.{lastOf}
 use Rattle.distance.specs.Shortest.{unreached}
 use Rattle.distance.specs.Relaxing.{ArcAt, Becomes, same, nearer, Relaxed}
 use Rattle.distance.proofs.ArcsRelaxed.{becomes-low}

@@ -8,7 +8,8 @@ use lib.ListN.{length, getD, set, length-set}
 use borrow.Author.Tests.{eq-eqb, ne-eqb}
 use Rattle.lists.specs.Put.{PutTo}
 use Rattle.lists.proofs.Put.{put-to-none, put-more}
-use Rattle.distance.specs.Trail.{lastEdge, vertexBefore, IsTrail, home, over, trailIn, trailOf, CanGoBack}
+use Rattle.waiting.specs.Last.{lastEdge, vertexBefore}
+use Rattle.distance.specs.Trail.{IsTrail, home, over, trailIn, trailOf, CanGoBack}
 
 -- The trail is what the array says, where the bound is no less than its length.
 pub trail-in : {last : List ℕ} {root v : ℕ} {edges : List ℕ} (most : ℕ) → IsTrail last root edges v → length edges ≤ most → trailIn most last root v ≡ edges

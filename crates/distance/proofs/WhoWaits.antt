@@ -15,8 +15,8 @@ use Rattle.lists.specs.Count.{count}
 use Rattle.lists.proofs.AfterStore.{at-or-not, after-store}
 use Rattle.lists.proofs.Member.{either}
 use Rattle.lists.proofs.Pigeonhole.{but, but-other, but-at, count-same, count-but, count-all, count-into}
+use Rattle.waiting.specs.Waiting.{keyOf, vertexOf, nobody, LeastFrom, Blocks}
 use Rattle.distance.specs.Shortest.{unreached}
-use Rattle.distance.specs.Waiting.{keyOf, vertexOf, nobody, LeastFrom, Blocks}
 
 -- Each of n vertices has no key, or the key of its distance; nothing beyond them has one.
 pub record Keyed (n : ℕ) (dist wait : List ℕ) : Type 0 where

@@ -3,7 +3,7 @@
 pub mod Trail
 -- what the two arrays say of a graph
 pub mod Shortest
--- who waits, by keys in blocks, and the start of a search
-pub mod Waiting
+-- the start of a search
+pub mod Start
 -- relaxing the arcs of a vertex
 pub mod Relaxing

@@ -2,12 +2,11 @@
 -- Assumes nothing.
 use Prim.Native.Nat.{ℕ, _+_, _≤_, _<_}
 use mathlib.Core.Path.{_≡_}
-use mathlib.Core.Bool.{Bool, true, false}
 use mathlib.Core.List.{List}
-use lib.ListN.{length, getD, set}
+use lib.ListN.{length, getD}
 use Rattle.edges.specs.Around.{arcEdge, arcHead, arcWeight}
-use Rattle.distance.specs.Trail.{lastOf}
-use Rattle.distance.specs.Waiting.{keyOf, Blocks}
+use Rattle.waiting.specs.Last.{lastOf}
+use Rattle.waiting.specs.Waiting.{keyOf, Blocks}
 
 -- a is one of the arcs at the places from lo up to hi.
 pub record ArcIn (arcs : List ℕ) (lo hi a : ℕ) : Type 0 where
@@ -19,20 +18,6 @@ pub record ArcIn (arcs : List ℕ) (lo hi a : ℕ) : Type 0 where
 -- a is one of the arcs of u.
 abbrev pub ArcAt : List ℕ → List ℕ → ℕ → ℕ → Type 0
 ArcAt bounds arcs u a = ArcIn arcs (getD bounds u 0) (getD bounds (u + 1) 0) a
-
--- What relaxing one arc of u asks: its head has a place in both arrays, and the numbers fit.
-pub record ArcRelaxable (a u d : ℕ) (dist last : List ℕ) : Type 0 where
-  pub small : u < 65536
-  pub distance-fits : d < 4294967296
-  pub head-dist : arcHead a < length dist
-  pub head-last : arcHead a < length last
-
--- Relaxing one arc of u, which has distance d. Where its head is no nearer over the arc, all is as it was. Otherwise the head alone
--- changes, and the answer r says so.
-pub data ArcRelaxed (a u d : ℕ) (dist last dist-after last-after : List ℕ) (r : Bool) : Type 0 where
-  kept : getD dist (arcHead a) 0 ≤ d + arcWeight a → dist-after ≡ dist → last-after ≡ last → r ≡ false → ArcRelaxed a u d dist last dist-after last-after r
-  lowered : d + arcWeight a < getD dist (arcHead a) 0 → dist-after ≡ set dist (arcHead a) (d + arcWeight a)
-      → last-after ≡ set last (arcHead a) (lastOf (arcEdge a) u) → r ≡ true → ArcRelaxed a u d dist last dist-after last-after r
 
 -- What becomes of a vertex v when arcs of u are relaxed: it keeps its distance and its last edge, or is nearer than before over one of the arcs.
 pub data Becomes (arcs : List ℕ) (lo hi u v : ℕ) (dist last dist-after last-after : List ℕ) : Type 0 where

@@ -1,22 +1,13 @@
 -- The last edges of paths: for each vertex reached, the last edge of a path to it and the vertex before it.
 -- Followed back from a vertex, they are its trail, which ends at the root.
 -- Assumes nothing.
-use Prim.Native.Nat.{ℕ, zero, suc, _+_, _*_, _/_, _%_, _≤_, _<_}
+use Prim.Native.Nat.{ℕ, zero, suc, _≤_, _<_}
 use mathlib.Core.Path.{_≡_}
 use mathlib.Core.Bool.{cond}
 use mathlib.Core.List.{List, [], _∷_}
 use lib.ListN.{length, getD}
 use lib.Dec.{eqb}
-
--- The number of an edge and the vertex before it, in one number.
-unfoldable pub lastOf : ℕ → ℕ → ℕ
-lastOf edge vertex = edge + 65536 * vertex
-
-unfoldable pub lastEdge : ℕ → ℕ
-lastEdge x = x % 65536
-
-unfoldable pub vertexBefore : ℕ → ℕ
-vertexBefore x = x / 65536
+use Rattle.waiting.specs.Last.{lastEdge, vertexBefore}
 
 -- The edges are those of the trail from v, the last edge first: none at the root, and elsewhere the last edge and the trail from the
 -- vertex before it.

@@ -1,21 +1,19 @@
 // Distances from a root ("yard") over the edges around each vertex, and the shortest paths back to it (document 01, step 5).
 // The method is Dijkstra's: of the vertices that are reached and wait, the nearest is settled, and its arcs are relaxed. No bytes are read.
-// The words of the contracts stand in specs/.
-mod last;
+// Who waits, last edges and one arc relaxed stand in the crate `waiting`. The words of the contracts stand in specs/.
 mod relax;
 mod start;
-mod wait;
 
-use crate::last::last_edge;
-use crate::last::vertex_before;
 use crate::relax::relax_arcs;
 use crate::start::start;
-use crate::wait::NOBODY;
-use crate::wait::key_of;
-use crate::wait::least_from;
-use crate::wait::put_key;
-use crate::wait::take_key;
-use crate::wait::vertex_of;
+use waiting::last::last_edge;
+use waiting::last::vertex_before;
+use waiting::wait::NOBODY;
+use waiting::wait::key_of;
+use waiting::wait::least_from;
+use waiting::wait::put_key;
+use waiting::wait::take_key;
+use waiting::wait::vertex_of;
 ghost use lib.ListN.{length};
 ghost use Rattle.lists.specs.Put.{PutTo};
 ghost use Rattle.distance.specs.Trail.{trailOf, CanGoBack};

@@ -1,6 +1,6 @@
 // The start of a search.
 use crate::UNREACHED;
-ghost use Rattle.distance.specs.Waiting.{Startable, Started};
+ghost use Rattle.distance.specs.Start.{Startable, Started};
 
 // At the start the root alone is reached.
 pub(crate) fn start(n: usize, root: usize, dist: &mut [u32])

@@ -13,7 +13,7 @@ use gate_replies::full::room;
 use libc::STDIN_FILENO;
 use libc::STDOUT_FILENO;
 use pieces::reply::Reply;
-use planner::ask::Asked;
+use asking::ask::Asked;
 use planner::question::best;
 use planner::question::trial;
 use text::write_text;

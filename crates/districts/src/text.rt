@@ -42,7 +42,7 @@ pub(crate) fn write_verdict(verdict: Verdict, out: &mut [u8]) -> usize
             return put_line(b"yes", heaviest, out, 0);
         }
         Verdict::Sheet(fault) => {
-            return write_refused(graph::number(fault) as u64, out);
+            return write_refused(graph_check::number(fault) as u64, out);
         }
         Verdict::Crews => {
             return write_refused(21, out);

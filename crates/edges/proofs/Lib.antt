@@ -1,8 +1,6 @@
 -- Laws that belong to no one function, in reading order.
 -- the edges within a limit
 pub mod WithinLimit
--- passes by digit order the edges
-pub mod DigitPasses
 -- edges marked, and taken by rising number
 pub mod SweptEdges
 -- what an arc holds is read from it again

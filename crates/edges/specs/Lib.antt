@@ -1,8 +1,6 @@
 -- What the contracts of `edges` say, in reading order.
 -- edges within a limit
 pub mod Light
--- all edges by weight, then number
-pub mod Order
 -- edges by rising number
 pub mod Sweep
 -- the edges around each vertex

@@ -10,7 +10,7 @@ use lib.ListN.{length}
 use borrow.Author.Tests.{le-leb, lt-leb, eq-eqb, ne-eqb}
 use Rattle.graph.specs.Graph.{Graph, edgeCount}
 use Rattle.graph.specs.Bytes.{graphOf}
-use Rattle.graph.specs.Check as sheet
+use Rattle.graph_check.specs.Check as sheet
 use Rattle.graph.specs.Fault.{Fault, faultUnless, firstFault, refusedOr}
 use Rattle.rules.specs.Cover.{Crews, heaviest}
 use Rattle.rules.specs.CoverBytes.{coverLength, decode}

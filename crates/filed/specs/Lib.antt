@@ -3,7 +3,5 @@
 pub mod Parents
 -- one tree and its run of entries
 pub mod Trees
--- marked vertices
-pub mod Vertices
 -- what the check promises
 pub mod Promise

@@ -5,7 +5,7 @@ use mathlib.Core.Path.{_≡_}
 use mathlib.Core.Logic.{_↔_}
 use mathlib.Core.List.{List, [], _∷_}
 use Rattle.graph.specs.Graph.{Graph}
-use Rattle.graph.specs.Check.{numberOf}
+use Rattle.graph_check.specs.Check.{numberOf}
 use Rattle.graph.specs.Fault.{Fault, faultUnless, firstFault, refusedOr}
 use Rattle.rules.specs.Cover as cover
 use Rattle.rules.specs.CoverBytes.{decode}

@@ -1,15 +1,15 @@
 // The check of a filed cover: the graph's bytes (11 to 16), the crews (21), then the cover's bytes (31 to 35), in that order.
-use crate::entries::entries_right;
-use crate::starts::starts_at_most;
-use crate::starts::starts_at_roots;
-use crate::starts::starts_below;
 use crate::trees::trees_right;
-use crate::vertices::vertices_covered;
 use cover::crews::Kind;
 use cover::crews::crews_right;
 use cover::heaviest::heaviest_tree;
 use cover::read::cover_length;
-use graph::Checked;
+use filed_entries::entries::entries_right;
+use filed_entries::starts::starts_at_most;
+use filed_entries::starts::starts_at_roots;
+use filed_entries::starts::starts_below;
+use filed_entries::vertices::vertices_covered;
+use graph_check::Checked;
 ghost use mathlib.Core.Path.{_≡_};
 ghost use Rattle.graph.specs.Bytes.{graphOf};
 ghost use Rattle.graph.specs.Valid.{IsGraph};
@@ -23,7 +23,7 @@ pub enum Verdict {
     // The bytes are a cover's, whose heaviest tree weighs so much.
     Yes(u64),
     // The graph's bytes have a fault.
-    Sheet(graph::Fault),
+    Sheet(graph_check::Fault),
     // There are no crews, too many, or more roots than vertices.
     Crews,
     // The length is not that of so many trees and entries.
@@ -90,7 +90,7 @@ fn check_filed(kind: Kind, k: usize, b: &[u8], c: &[u8]) -> Verdict
 pub fn check_cover(kind: Kind, k: usize, b: &[u8], c: &[u8]) -> Verdict
     ensures { λ r. ⌜ CheckPromise kind k (now (b .entry)) (now (c .entry)) r ⌝ }
 {
-    match graph::check_graph(b) {
+    match graph_check::check_graph(b) {
         Checked::Refused(f) => Verdict::Sheet(f),
         Checked::Counts(n, _) => {
             if !crews_right(kind, k, n) {

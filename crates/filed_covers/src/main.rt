@@ -26,7 +26,7 @@ fn print_line(words: &[u8], number: u64) {
 fn print_verdict(verdict: Verdict) {
     match verdict {
         Verdict::Yes(heaviest) => print_line(b"yes ", heaviest),
-        Verdict::Sheet(fault) => print_line(b"", graph::number(fault) as u64),
+        Verdict::Sheet(fault) => print_line(b"", graph_check::number(fault) as u64),
         Verdict::Crews => print_line(b"", 21),
         Verdict::Length => print_line(b"", 31),
         Verdict::Starts => print_line(b"", 32),

@@ -45,7 +45,7 @@ fn put_said(reply: Reply, out: &mut [u8]) -> usize
 {
     match reply {
         Reply::Sheet(fault) => {
-            return put_head(graph::number(fault) as u64, &[], out);
+            return put_head(graph_check::number(fault) as u64, &[], out);
         }
         Reply::Crews => {
             return put_head(21, &[], out);

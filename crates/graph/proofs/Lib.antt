@@ -5,10 +5,6 @@ pub mod Fields
 pub mod Decoded
 -- numbers that are tried one after the other
 pub mod Faults
--- the check, test by test
-pub mod Steps
--- the check says yes exactly to graphs
-pub mod Exactly
 -- of a valid graph, the ranges that callers use
 pub mod Ranges
 -- a view shows its own bytes, and what the check counts are the counts

@@ -5,8 +5,6 @@ pub mod Graph
 pub mod Bytes
 -- numbers of refusal, tried one after the other
 pub mod Fault
--- the check of the bytes, with its numbers
-pub mod Check
 -- what a valid graph is, and when bytes are one
 pub mod Valid
 -- what a view of the bytes says

@@ -1,6 +1,7 @@
-// The graph's bytes (document 01: a "sheet"): readers of its fields, and the check with 11 to 16.
-// Everything is read from the caller's own bytes, and every public function of this file takes any bytes. Edges are read through a view.
-// The words of the contracts stand in specs/: `graphOf` is the graph that the bytes spell, `checkOf` the check.
+// The graph's bytes (document 01: a "sheet"): readers of its fields. The check of the bytes stands in the crate `graph_check`.
+// Everything is read from the caller's own bytes, and every public function of this file but `u16_within` takes any bytes. Edges are read through
+// a view.
+// The words of the contracts stand in specs/: `graphOf` is the graph that the bytes spell.
 pub mod view;
 
 ghost use mathlib.Core.Path.{_≡_};
@@ -8,43 +9,6 @@ ghost use Prim.Native.Nat.{_+_, _^_, _≤_};
 ghost use lib.ListN.{length};
 ghost use Rattle.graph.specs.Graph.{oneEnd, otherEnd, weightOf, edgeCount};
 ghost use Rattle.graph.specs.Bytes.{u16At, u32At, graphOf, Reads};
-ghost use Rattle.graph.specs.Check.{numberOf, says, checkAll, checkOf};
-
-// What can be wrong with a graph's bytes, by cause.
-pub enum Fault {
-    // The length is not that of so many edges.
-    Length,
-    // No vertex ("stop"), or too many.
-    Vertices,
-    // Too many edges ("lines").
-    Edges,
-    // An edge's end is no vertex.
-    End,
-    // An edge joins a vertex to itself.
-    Loop,
-    // An edge's weight is 0 or too large.
-    Weight,
-}
-
-// What the check answers: how many vertices and edges there are, or the first fault.
-pub enum Checked {
-    Counts(usize, usize),
-    Refused(Fault),
-}
-
-// Document 01's number of a fault.
-pub fn number(f: Fault) -> u16
-    ensures { λ r. ⌜ r ≡ numberOf f ⌝ }
-{
-    match f {
-        Fault::Length => 11,
-        Fault::Vertices => 12,
-        Fault::Edges => 13,
-        Fault::End => 14,
-        Fault::Loop => 15,
-        Fault::Weight => 16,
-    }
-}
 
 // The number that a byte is.
 fn wide(x: u8) -> usize
@@ -54,7 +18,7 @@ fn wide(x: u8) -> usize
 }
 
 // The field of two bytes at a place within the bytes. The readers of edges use this one: it makes no test.
-fn u16_within(b: &[u8], at: usize) -> usize
+pub fn u16_within(b: &[u8], at: usize) -> usize
     requires { ⌜ at + 2 ≤ length (now b) ⌝ }
     ensures { λ r. ⌜ Reads (u16At (now (b .entry)) at) (2 ^ 16) r ⌝ }
 {
@@ -163,59 +127,4 @@ pub fn weight(b: &[u8], e: usize) -> u64
     ensures { λ r. ⌜ Reads (weightOf (graphOf (now (b .entry))) e) (2 ^ 32) r ⌝ }
 {
     view::weight(b, vertex_count(b), edge_count(b), e)
-}
-
-// The check edge by edge.
-fn check_edges(b: &[u8]) -> Checked
-    ensures { λ r. ⌜ says r ≡ checkAll (graphOf (now (b .entry))) ⌝ }
-{
-    let n = vertex_count(b);
-    let m = edge_count(b);
-    let mut e = 0;
-    while e < m {
-        let one = view::one_end(b, n, m, e);
-        let other = view::other_end(b, n, m, e);
-        let w = view::weight(b, n, m, e);
-        if n <= one {
-            return Checked::Refused(Fault::End);
-        }
-        if n <= other {
-            return Checked::Refused(Fault::End);
-        }
-        if one == other {
-            return Checked::Refused(Fault::Loop);
-        }
-        if w == 0 {
-            return Checked::Refused(Fault::Weight);
-        }
-        if 1000000 < w {
-            return Checked::Refused(Fault::Weight);
-        }
-        e += 1;
-    }
-    Checked::Counts(n, m)
-}
-
-// The check of a graph's bytes: whether they are a graph's, and what is wrong with them otherwise.
-pub fn check_graph(b: &[u8]) -> Checked
-    ensures { λ r. ⌜ says r ≡ checkOf (now (b .entry)) ⌝ }
-{
-    if b.len() < 4 {
-        return Checked::Refused(Fault::Length);
-    }
-    let n = u16_within(b, 0);
-    let m = u16_within(b, 2);
-    if b.len() != 4 + 8 * m {
-        return Checked::Refused(Fault::Length);
-    }
-    if n == 0 {
-        return Checked::Refused(Fault::Vertices);
-    }
-    if 256 < n {
-        return Checked::Refused(Fault::Vertices);
-    }
-    if 2048 < m {
-        return Checked::Refused(Fault::Edges);
-    }
-    check_edges(b)
 }

@@ -6,7 +6,7 @@ mod numbers;
 mod pieces;
 mod text;
 
-use graph::Checked;
+use graph_check::Checked;
 use pieces::print_rooted;
 use pieces::print_unrooted;
 use text::print_kind;
@@ -41,9 +41,9 @@ fn print_graph(b: &[u8], rooted: bool, k: usize, limit: u64, n: usize)
 fn print_answer(b: &[u8], rooted: bool, k: usize, limit: u64)
     requires { ⌜ limit < 2 ^ 32 ⌝ }
 {
-    match graph::check_graph(b) {
+    match graph_check::check_graph(b) {
         Checked::Refused(fault) => {
-            print_line(b"refused ", graph::number(fault) as u64);
+            print_line(b"refused ", graph_check::number(fault) as u64);
         }
         Checked::Counts(n, _) => {
             print_graph(b, rooted, k, limit, n);

@@ -3,13 +3,7 @@
 pub mod Near
 -- the distances from all roots, in one table
 pub mod Tabled
--- the places of the parts among the pieces
-pub mod Places
 -- the table of distances, and the last edges
 pub mod Table
 -- the vertex of a part that is nearest to a root
 pub mod Nearest
--- the edges of a union that are kept
-pub mod Union
--- the parts of a deficient set
-pub mod Deficient

@@ -5,7 +5,7 @@ use mathlib.Core.Path.{_≡_}
 use mathlib.Core.List.{List, [], _∷_}
 use lib.ListN.{length}
 use Rattle.graph.specs.Graph.{Graph}
-use Rattle.graph.specs.Check.{numberOf}
+use Rattle.graph_check.specs.Check.{numberOf}
 use Rattle.rules.specs.Cover as cover
 use Rattle.rules.specs.Reply as rules
 use Rattle.rules.specs.RootedTrial.{Choices}

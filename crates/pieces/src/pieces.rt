@@ -1,7 +1,7 @@
 // Lists of edges held one after the other in one array, cut by bounds: reading the list of a number, putting a list from a place on, and
 // writing runs of numbers.
 use edges::index::wide;
-use edges::order::rise_edges;
+use order::order::rise_edges;
 ghost use mathlib.Core.Path.{_≡_};
 ghost use Prim.Native.Nat.{_+_, _-_, _≤_};
 ghost use lib.ListN.{length, getD};

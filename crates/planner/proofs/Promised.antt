@@ -11,10 +11,10 @@ use lib.Dec.{leb}
 use borrow.Author.Tests.{leb-true, leb-false, lt-ltb, le-ltb}
 use Rattle.graph.specs.Graph.{Graph}
 use Rattle.graph.specs.Bytes.{graphOf}
-use Rattle.graph.specs.Check as sheet
 use Rattle.graph.specs.Fault.{Fault, faultIf, firstFault, refusedOr}
 use Rattle.graph.specs.Valid.{Valid}
 use Rattle.graph.proofs.Faults.{refuses, quiet-each}
+use Rattle.graph_check.specs.Check as sheet
 use Rattle.rules.specs.Cover as cover
 use Rattle.rules.specs.Reply as rules
 use Rattle.rules.specs.Search.{trial, best}
@@ -29,9 +29,9 @@ use Rattle.cover.specs.declared.crews.Kind.the-variants.{Rooted, Unrooted}
 use Rattle.cover.specs.Crews.{crewsOf}
 use Rattle.pieces.specs.declared.reply.Reply.{Reply}
 use Rattle.pieces.specs.Replies.{said, says, Replied}
-use Rattle.planner.specs.declared.ask.Asked.{Asked}
-use Rattle.planner.specs.declared.ask.Asked.the-variants.{At, Best}
-use Rattle.planner.specs.Asking.{Answered}
+use Rattle.asking.specs.declared.ask.Asked.{Asked}
+use Rattle.asking.specs.declared.ask.Asked.the-variants.{At, Best}
+use Rattle.asking.specs.Asking.{Answered}
 use Rattle.planner.specs.Promise.{Refuses, TrialPromise, BestPromise, limitFaultOf, faultOf, LimitTested, QuestionPromise}
 
 -- THE TESTS

@@ -1,5 +1,3 @@
--- What the contracts of `planner` say, in reading order.
--- a question about a graph, and what its steps ask
-pub mod Asking
+-- What the contracts of `planner` say.
 -- the promises of the two questions
 pub mod Promise

@@ -19,9 +19,9 @@ use Rattle.cover.specs.declared.crews.Kind.{Kind}
 use Rattle.cover.specs.Crews.{crewsOf}
 use Rattle.pieces.specs.declared.reply.Reply.{Reply}
 use Rattle.pieces.specs.Replies.{said, says, Replied}
-use Rattle.planner.specs.declared.ask.Asked.{Asked}
-use Rattle.planner.specs.declared.ask.Asked.the-variants.{At, Best}
-use Rattle.planner.specs.Asking.{limitOf, replyTo, LimitFits}
+use Rattle.asking.specs.declared.ask.Asked.{Asked}
+use Rattle.asking.specs.declared.ask.Asked.the-variants.{At, Best}
+use Rattle.asking.specs.Asking.{limitOf, replyTo, LimitFits}
 
 -- "A refused question returns its number alone; no lent byte changes."
 pub record Refuses (fault : Fault) (before after : List ℕ) (r : Reply) : Type 0 where

@@ -1,9 +1,9 @@
 // The questions that a user asks, on any input: refused in document 01's order ("Who causes which number"), and otherwise answered.
-use crate::ask::Asked;
-use crate::ask::ask_crews;
+use asking::ask::Asked;
+use asking::ask::ask_crews;
 use cover::crews::Kind;
 use cover::crews::crews_right;
-use graph::Checked;
+use graph_check::Checked;
 use pieces::reply::Reply;
 ghost use Rattle.planner.specs.Promise.{LimitTested, QuestionPromise, TrialPromise, BestPromise};
 
@@ -21,7 +21,7 @@ fn limit_right(asked: Asked) -> bool
 fn question(kind: Kind, k: usize, asked: Asked, b: &[u8], buf: &mut [u8]) -> Reply
     ensures { λ r. ⌜ QuestionPromise asked kind k (now (b .entry)) (now (buf .entry)) (now (buf .exit)) r ⌝ }
 {
-    match graph::check_graph(b) {
+    match graph_check::check_graph(b) {
         Checked::Refused(f) => Reply::Sheet(f),
         Checked::Counts(n, _) => {
             if !crews_right(kind, k, n) {

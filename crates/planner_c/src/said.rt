@@ -22,7 +22,7 @@ pub(crate) fn number_of(reply: Reply) -> u32
     ensures { λ r. ⌜ r ≡ says reply .number ⌝ }
 {
     match reply {
-        Reply::Sheet(f) => graph::number(f) as u32,
+        Reply::Sheet(f) => graph_check::number(f) as u32,
         Reply::Crews => 21,
         Reply::Limit => 22,
         Reply::Room => 23,
@@ -65,7 +65,7 @@ pub(crate) fn verdict_number(verdict: Verdict) -> u32
 {
     match verdict {
         Verdict::Yes(_) => 0,
-        Verdict::Sheet(f) => graph::number(f) as u32,
+        Verdict::Sheet(f) => graph_check::number(f) as u32,
         Verdict::Crews => 21,
         Verdict::Length => 31,
         Verdict::Starts => 32,

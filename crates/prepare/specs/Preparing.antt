@@ -11,7 +11,7 @@ use Rattle.graph.specs.Valid.{IsGraph}
 use Rattle.rules.specs.Order.{ordered}
 use Rattle.rules.specs.Labels.{together}
 use Rattle.rules.specs.Forest.{keep}
-use Rattle.edges.specs.Order.{RoomForOrder}
+use Rattle.order.specs.Order.{RoomForOrder}
 use Rattle.rooted.specs.Prepared.{Prepared}
 use Rattle.unrooted.specs.Answer.{HistoryReady}
 use Rattle.prepare.specs.declared.Ready.{Ready}

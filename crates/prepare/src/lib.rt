@@ -2,9 +2,9 @@
 // vertex of it and the distances from all roots; without roots the history of its merges. Each kind prepares only what it reads.
 // The words of the contracts stand in specs/ and in the definitions of the crate `rules`.
 use edges::around::put_around;
-use edges::order::order_edges;
 use marks::table::fill_table;
 use needs::history::record_merges;
+use order::order::order_edges;
 use pieces::arcs::put_arcs;
 use pieces::pieces::number_up;
 use pieces::whole::keep_whole;

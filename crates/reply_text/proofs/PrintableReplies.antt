@@ -9,7 +9,7 @@ use native.Mathlib.Omega.{arith}
 use Rattle.graph.specs.Graph.{Edge}
 use Rattle.graph.specs.Bytes.{graphOf}
 use Rattle.graph.specs.Fault.{Fault, faultIf, firstFault, refusedOr}
-use Rattle.graph.specs.Check.{yes, number, edgeFault, edgesFault, headFault, checkOf}
+use Rattle.graph_check.specs.Check.{yes, number, edgeFault, edgesFault, headFault, checkOf}
 use Rattle.graph.specs.Valid.{IsGraph}
 use Rattle.graph.proofs.Faults.{refuses, quiet-each}
 use Rattle.rules.specs.Cover.{Crews}

@@ -10,9 +10,9 @@ use borrow.Author.Tests.{le-leb}
 use Rattle.lists.specs.Put.{PutTo}
 use Rattle.graph.specs.Graph.{Graph}
 use Rattle.graph.specs.Bytes.{graphOf}
-use Rattle.graph.specs.Check.{numberOf}
-use Rattle.graph.specs.declared.Fault.{Fault}
-use Rattle.graph.specs.declared.Fault.the-variants as fault
+use Rattle.graph_check.specs.Check.{numberOf}
+use Rattle.graph_check.specs.declared.Fault.{Fault}
+use Rattle.graph_check.specs.declared.Fault.the-variants as fault
 use Rattle.rules.specs.Cover.{Tree}
 use Rattle.rules.specs.Reply as rules
 use Rattle.pieces.specs.declared.reply.Reply.{Reply}

@@ -59,7 +59,7 @@ pub fn write_reply(b: &[u8], reply: Reply, buf: &[u8], out: &mut [u8]) -> usize
 {
     match reply {
         Reply::Sheet(fault) => {
-            return write_refused(graph::number(fault) as u64, out);
+            return write_refused(graph_check::number(fault) as u64, out);
         }
         Reply::Crews => {
             return write_refused(21, out);

@@ -15,8 +15,8 @@ use Rattle.graph.specs.Graph.{Graph, edgeCount}
 use Rattle.graph.specs.Valid.{Valid}
 use Rattle.marks.specs.Near.{Marked}
 use Rattle.rooted_cover.specs.Tree.{AssignedMarked, nobody, somebody, AssignedAre, none, part, TreeKept, RootWritten}
-use Rattle.marks.proofs.TreeMarks.{marked-both}
-use Rattle.marks.proofs.UnionEdges.{union-edges}
+use Rattle.unions.proofs.TreeMarks.{marked-both}
+use Rattle.unions.proofs.UnionEdges.{union-edges}
 
 or-swap : (p q : Bool) → p || q ≡ q || p
 or-swap true true = refl

@@ -30,7 +30,7 @@ use Rattle.rooted_parts.specs.Placed.{TrialArrays, PartsPlaced}
 use Rattle.rooted_cover.specs.Tree.{AssignedAre, none, part}
 use Rattle.rooted_cover.specs.CoverTrees.{RootTree}
 use Rattle.rooted_parts.proofs.NearMeansMayGo.{any-alike}
-use Rattle.marks.proofs.UnionEdges.{union-same}
+use Rattle.unions.proofs.UnionEdges.{union-same}
 use Rattle.rooted_cover.proofs.AssignedPart.{given, byte, byte-is-root, bytes-apart, places-many, placed-part, part-path}
 use Rattle.rooted_cover.proofs.PartPaths.{PathFor}
 

@@ -2,12 +2,12 @@
 // The union's edges are marked, kept in order, and put by rising number.
 use distance::path_back;
 use edges::index::wide;
-use edges::order::rise_edges;
 use marks::nearest::nearest_vertex;
-use marks::union::keep_union;
-use marks::union::mark_edges;
+use order::order::rise_edges;
 use pieces::pieces::element_at;
 use pieces::pieces::piece_edges;
+use unions::union::keep_union;
+use unions::union::mark_edges;
 ghost use Prim.Native.Nat.{_≤_};
 ghost use lib.ListN.{length};
 ghost use Rattle.lists.specs.Lists.{member};

@@ -21,7 +21,7 @@ use Rattle.rules.specs.Held.{treeAt, treesAt, risen}
 use Rattle.rules.specs.Cover.{Tree}
 use Rattle.rules.specs.RootedTrial.{partOf, bySmallest, chosenParts}
 use Rattle.cover.specs.Chosen.{AllHeld}
-use Rattle.marks.specs.Deficient.{placesMarked}
+use Rattle.unions.specs.Deficient.{placesMarked}
 use Rattle.rooted_parts.specs.TooLowParts.{edgesOf, ChosenGiven}
 
 module _ (starts cuts flat places marks : List ℕ) where

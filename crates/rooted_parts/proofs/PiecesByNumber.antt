@@ -34,9 +34,9 @@ use Rattle.cover.specs.Chosen.{IsHeld}
 use Rattle.planner_laws.proofs.RootedPrepared.{pieces-of-whole}
 use Rattle.planner_laws.proofs.RootedSize.{rooted-parts-few}
 use Rattle.marks.specs.Near.{TreeHeld}
-use Rattle.marks.specs.Places.{between}
+use Rattle.unions.specs.Places.{between}
 use Rattle.rooted_parts.specs.Parts.{arraysOf, PiecesAsked, PiecesPlaced}
-use Rattle.marks.proofs.PartsBetween.{between-lefts}
+use Rattle.unions.proofs.PartsBetween.{between-lefts}
 
 -- The number of a part is below that of all pieces,
 part-below : (ps : List Pieces) (first : ℕ) {c : ℕ} → c ∈ partPlaces first ps → c < first + (length (allParts ps) + length ps)

@@ -1,10 +1,10 @@
 // The parts of a rooted trial, placed (document 01, steps 4 and 5): the forest's trees are split with the limit as threshold, the roots near
 // each part are marked, and each part is given a root of its own; or else a set of parts is marked that has too few roots.
 use marks::near::mark_parts;
-use marks::places::part_places;
 use matching::Answer;
 use matching::assign;
 use split::split_forest;
+use unions::places::part_places;
 ghost use Rattle.graph.specs.Bytes.{graphOf};
 ghost use Rattle.rooted_parts.specs.Parts.{arraysOf, PiecesAsked, PiecesPlaced, AssignAsked, AssignDone, RowsAsked, RowsAssigned, PartsAsked};
 ghost use Rattle.rooted_parts.specs.Placed.{trialArrays, PartsPlaced};

@@ -2,13 +2,13 @@
 // line"). The pieces stand as the splitting left them; those chosen are laid out again with their edges rising.
 use cover::write::write_cover;
 use edges::index::wide;
-use marks::deficient::count_allowed;
-use marks::deficient::marked_places;
 use pieces::chosen::sort_chosen;
 use pieces::pieces::element_at;
 use pieces::pieces::number_up;
 use pieces::pieces::piece_edges;
 use pieces::pieces::put_risen;
+use unions::deficient::count_allowed;
+use unions::deficient::marked_places;
 ghost use mathlib.Core.Path.{_≡_};
 ghost use mathlib.Core.List.{map, headD};
 ghost use Prim.Native.Nat.{_≤_};

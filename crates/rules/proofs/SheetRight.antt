@@ -5,9 +5,9 @@ use mathlib.Core.Path.{_≡_, refl, ap}
 use mathlib.Core.List.{List}
 use mathlib.Core.Logic.{_↔_}
 use mathlib.Core.Option.{none}
-use Rattle.graph.specs.Check.{Answer, yes, number}
+use Rattle.graph_check.specs.Check.{Answer, yes, number}
 use Rattle.graph.specs.Valid.{IsGraph}
-use Rattle.graph.proofs.Exactly.{yes-graph, graph-yes}
+use Rattle.graph_check.proofs.Exactly.{yes-graph, graph-yes}
 use Rattle.rules.specs.Questions.{numberIn, sheetFault}
 use Rattle.graph.proofs.Faults.{refuses}
 

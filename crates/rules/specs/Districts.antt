@@ -11,7 +11,7 @@ use Rattle.lists.specs.Count as Count
 use Rattle.lists.specs.Lists as Lists
 use Rattle.lists.specs.Sort as Sort
 use Rattle.graph.specs.Bytes as Bytes
-use Rattle.graph.specs.Check as Check
+use Rattle.graph_check.specs.Check as Check
 use Rattle.matching.specs.Assignable as Assignable
 use Rattle.rules.specs.Walk as Walk
 use Rattle.rules.specs.Cover as Cover

@@ -8,8 +8,8 @@ use lib.ListN.{length, drop}
 use lib.Dec.{leb, ltb, eqb}
 use Rattle.lists.specs.Count.{below}
 use Rattle.graph.specs.Bytes.{u16At, u32At, graphOf}
-use Rattle.graph.specs.Check as sheet
 use Rattle.graph.specs.Fault.{Fault, faultIf, firstFault, refusedOr}
+use Rattle.graph_check.specs.Check as sheet
 use Rattle.rules.specs.Cover.{Crews, rooted, unrooted, heaviest}
 use Rattle.rules.specs.CoverBytes.{encode, decode}
 use Rattle.rules.specs.CheckCover.{coverFault}

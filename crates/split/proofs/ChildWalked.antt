@@ -11,13 +11,13 @@ use lib.ListN.{length, take, drop, getD, set, length-set}
 use lib.Seq.{slice, slice-empty, slice-cons, take-take, take-set-le, getD-take, getD-set-same}
 use Rattle.lists.specs.Segments.{segment}
 use Rattle.edges.specs.Around.{arcEdge, arcHead, arcWeight, Arcs}
-use Rattle.split.specs.Store.{Store, Added}
-use Rattle.split.specs.Settles.{Load, load, Settles, stacked, Settleable, ChildSettled}
+use Rattle.bunches.specs.Store.{Store, Added}
+use Rattle.bunches.specs.Settles.{Load, load, Settles, stacked, Settleable, ChildSettled}
+use Rattle.bunches.specs.declared.Progress.{Progress}
+use Rattle.bunches.specs.declared.bunch.Bunch.{Bunch}
+use Rattle.bunches.proofs.PiecesAdded.{added-none, added-on}
 use Rattle.split.specs.SplitBelow.{unmarked, unvisited, pieceOf, SplitBelow, done, past, child}
 use Rattle.split.specs.ChildrenWalked.{State, passing, HasRoom, Walkable, Bunched, ChildrenWalked, NodeWalked}
-use Rattle.split.specs.declared.Progress.{Progress}
-use Rattle.split.specs.declared.bunch.Bunch.{Bunch}
-use Rattle.split.proofs.PiecesAdded.{added-none, added-on}
 use Rattle.split.proofs.Unvisited.{unvisited-less}
 
 -- The bunch of v on the stack.

@@ -22,12 +22,12 @@ use Rattle.rules.specs.Cover.{Tree}
 use Rattle.rules.specs.Held.{treeAt, treesAt, risen}
 use Rattle.rules.specs.Grow.{Rooted, growFrom, grow}
 use Rattle.rules.specs.Split.{split}
+use Rattle.bunches.specs.Store.{Store, heldIn, Sound}
+use Rattle.bunches.proofs.PiecesAdded.{added-none}
 use Rattle.split.specs.Pieces.{piecesOf, leftPlaces}
-use Rattle.split.specs.Store.{Store, heldIn, Sound}
 use Rattle.split.specs.SplitBelow.{unmarked}
 use Rattle.split.specs.ChildrenWalked.{State}
 use Rattle.split.specs.ForestSplit.{Lent, lent, Splittable, Unwalked, ForestSplit}
-use Rattle.split.proofs.PiecesAdded.{added-none}
 use Rattle.split.proofs.Unvisited.{unvisited-most}
 use Rattle.split.proofs.PiecesOf.{piecesFor, piece-edge-known}
 use Rattle.split.proofs.RootsSplit.{ByRules, emptied, RootsSplit}

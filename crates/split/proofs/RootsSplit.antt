@@ -16,15 +16,15 @@ use Rattle.rules.specs.Cover.{Tree}
 use Rattle.rules.specs.Grow.{Rooted, Grown, growNode, growFrom, grow}
 use Rattle.rules.specs.Split.{Pieces, partAt, split}
 use Rattle.edges.specs.Around.{Arcs, Around}
+use Rattle.bunches.specs.Store.{Store, Added}
+use Rattle.bunches.specs.PiecePut.{Puttable, PiecePut}
+use Rattle.bunches.specs.Settles.{load, stacked}
+use Rattle.bunches.specs.declared.Progress.{Progress}
+use Rattle.bunches.proofs.PiecesAdded.{added-on}
 use Rattle.split.specs.Pieces.{leftOf, withLeft, leftPlaces}
-use Rattle.split.specs.Store.{Store, Added}
-use Rattle.split.specs.PiecePut.{Puttable, PiecePut}
-use Rattle.split.specs.Settles.{load, stacked}
 use Rattle.split.specs.SplitBelow.{unvisited, SplitBelow}
 use Rattle.split.specs.ChildrenWalked.{State, passing, HasRoom, Walkable, NodeWalked}
 use Rattle.split.specs.ForestSplit.{Lent}
-use Rattle.split.specs.declared.Progress.{Progress}
-use Rattle.split.proofs.PiecesAdded.{added-on}
 use Rattle.split.proofs.Unvisited.{unvisited-below, unvisited-fewer}
 use Rattle.split.proofs.ChildWalked.{after}
 use Rattle.split.proofs.SplitAsRules.{MarksAre, Gives, node-as-rules}

@@ -27,7 +27,7 @@ use Rattle.split_laws.proofs.Grown.{kept, node-grows}
 use Rattle.split_laws.proofs.Deep.{unpassed, unpassed-more, unpassed-fewer, unpassed-below}
 use Rattle.edges.specs.Around.{arcOf, arcEdge, arcHead, arcWeight, touches, arcsAt, Around}
 use Rattle.edges.proofs.Arcs.{arc-edge, far-end-below, valid-arc-head, valid-arc-weight}
-use Rattle.split.specs.Settles.{Load, load, Settles, alone, full, joins}
+use Rattle.bunches.specs.Settles.{Load, load, Settles, alone, full, joins}
 use Rattle.split.specs.SplitBelow.{unmarked, pieceOf, SplitBelow, done, past, child}
 use Rattle.split.proofs.Unvisited.{marks-kept, marked-now}
 

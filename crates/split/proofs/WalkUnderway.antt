@@ -10,11 +10,11 @@ use lib.ListN.{length, getD}
 use lib.Seq.{slice, slice-cons, slice-empty}
 use Rattle.lists.specs.Segments.{segment}
 use Rattle.edges.specs.Around.{arcHead, arcWeight}
-use Rattle.split.specs.Store.{Store}
-use Rattle.split.specs.Settles.{ChildSettled}
+use Rattle.bunches.specs.Store.{Store}
+use Rattle.bunches.specs.Settles.{ChildSettled}
+use Rattle.bunches.specs.declared.Progress.{Progress}
 use Rattle.split.specs.SplitBelow.{unmarked, unvisited}
 use Rattle.split.specs.ChildrenWalked.{State, passing, HasRoom, Bunched, ChildrenWalked, NodeWalked}
-use Rattle.split.specs.declared.Progress.{Progress}
 use Rattle.split.proofs.ChildWalked.{IsChild, bunchAt, pushed, after, walk-done, walk-past, after-bunched, after-fewer, walk-child}
 
 -- The walk began at the state `first` with no bunch and has come to s, where the bunch weighs w: whatever the walk of the arcs from i

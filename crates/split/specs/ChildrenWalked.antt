@@ -7,10 +7,10 @@ use lib.ListN.{length, take, set}
 use Rattle.lists.specs.Segments.{segment}
 use Rattle.rules.specs.Cover.{Tree}
 use Rattle.edges.specs.Around.{Arcs}
-use Rattle.split.specs.Store.{Store, storeOf, Sound, Filled, Added}
-use Rattle.split.specs.Settles.{stacked, WithinEdges}
+use Rattle.bunches.specs.Store.{Store, storeOf, Sound, Filled, Added}
+use Rattle.bunches.specs.Settles.{stacked, WithinEdges}
+use Rattle.bunches.specs.declared.Progress.{Progress}
 use Rattle.split.specs.SplitBelow.{unvisited, SplitBelow}
-use Rattle.split.specs.declared.Progress.{Progress}
 
 -- What the walks alter: the marks, the stack and its top, and the pieces.
 pub record State : Type 0 where

@@ -1,12 +1,6 @@
 -- What the contracts of `split` say, in reading order.
 -- what the rules make of a forest's trees, as one list of pieces
 pub mod Pieces
--- the pieces that arrays hold
-pub mod Store
--- one piece more
-pub mod PiecePut
--- a child's piece meets the bunch
-pub mod Settles
 -- growing and splitting what hangs below a vertex, over arcs
 pub mod SplitBelow
 -- what the node walk and the child-list walk do

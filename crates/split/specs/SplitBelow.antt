@@ -12,7 +12,7 @@ use Rattle.lists.specs.Count.{count}
 use Rattle.lists.specs.Segments.{segment}
 use Rattle.rules.specs.Cover.{Tree}
 use Rattle.edges.specs.Around.{arcEdge, arcHead, arcWeight}
-use Rattle.split.specs.Settles.{Load, load, Settles}
+use Rattle.bunches.specs.Settles.{Load, load, Settles}
 
 -- The vertex has no mark.
 unfoldable pub unmarked : List ℕ → ℕ → Bool

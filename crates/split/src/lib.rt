@@ -1,24 +1,15 @@
 // Splitting the trees of a forest into parts and leftovers (document 01, steps 3 and 4).
 // The trees are walked over the edges around each vertex, so that no byte of the graph is read.
+// What is done at each node with its bunch stands in the crate `bunches`.
 // The words of the contracts stand in specs/: `ForestSplit` is what the public function promises.
 ghost use lib.ListN.{length};
 ghost use Rattle.split.specs.ForestSplit.{lent, Splittable, Unwalked, ForestSplit};
 
-mod bunch;
-mod piece;
 mod walk;
 
-use piece::put_piece;
+use bunches::Progress;
+use bunches::piece::put_piece;
 use walk::walk_node;
-
-// How far the splitting has come: the number of pieces and of edges in them, the height of the stack of edges,
-// and the weight of what lies on its top.
-pub struct Progress {
-    pub pieces: usize,
-    pub used: usize,
-    pub top: usize,
-    pub weight: u64,
-}
 
 // The trees of the roots, one after the other, each walked and split; no vertex has a mark yet.
 // The stack has a place for each vertex, and so have the marks.

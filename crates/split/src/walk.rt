@@ -1,9 +1,9 @@
 // The node walk and the child-list walk, which call each other: "at each child its own node comes first".
 // Each call of the node walk passes a vertex that no call below it passes again, so that the walks nest at most as deep
 // as the tree, two frames a level: the arcs of a vertex are gone through in a loop.
-use crate::Progress;
-use crate::bunch::Bunch;
-use crate::bunch::settle;
+use bunches::Progress;
+use bunches::bunch::Bunch;
+use bunches::bunch::settle;
 use edges::arc::arc_edge;
 use edges::arc::arc_head;
 use edges::arc::arc_weight;

@@ -14,7 +14,7 @@ use Rattle.graph.specs.Graph.{Graph}
 use Rattle.rules.specs.Cover.{Tree}
 use Rattle.rules.specs.Split.{reachesWeight, partAt}
 use Rattle.edges.specs.Around.{arcEdge, arcHead, arcWeight}
-use Rattle.split.specs.Settles.{Load, load, Settles, alone, full, joins}
+use Rattle.bunches.specs.Settles.{Load, load, Settles, alone, full, joins}
 use Rattle.split.specs.SplitBelow.{pieceOf}
 use Rattle.steps.specs.Steps.{stepOf}
 use Rattle.steps.specs.Touched.{Sweep, touchesPiece, sweepStep}

@@ -14,7 +14,7 @@ use Rattle.lists.specs.Segments.{segment}
 use Rattle.graph.specs.Graph.{Graph}
 use Rattle.rules.specs.Cover.{Tree}
 use Rattle.edges.specs.Around.{arcHead, arcWeight, Around}
-use Rattle.split.specs.Settles.{Load, load}
+use Rattle.bunches.specs.Settles.{Load, load}
 use Rattle.split.specs.SplitBelow.{unmarked, pieceOf, SplitBelow, done, past, child}
 use Rattle.steps.specs.Steps.{stepOf}
 use Rattle.steps.specs.Touched.{Sweep, sweepStep, sweep}

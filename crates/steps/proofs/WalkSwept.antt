@@ -17,7 +17,7 @@ use Rattle.rules.specs.Cover.{Tree}
 use Rattle.rules.specs.Grow.{Rooted, Grown, growNode, growFrom, grow}
 use Rattle.rules.specs.Split.{Pieces, split, allParts}
 use Rattle.edges.specs.Around.{arcHead, Around}
-use Rattle.split.specs.Settles.{load}
+use Rattle.bunches.specs.Settles.{load}
 use Rattle.split.specs.SplitBelow.{unmarked, done}
 use Rattle.steps.specs.Steps.{partsCounted}
 use Rattle.steps.specs.Touched.{Sweep, sweep, partsTouched}

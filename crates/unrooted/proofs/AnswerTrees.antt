@@ -36,12 +36,12 @@ use Rattle.cover.proofs.ChosenFit.{trees-writable}
 use Rattle.split.specs.Pieces.{withLeft, piecesOf, leftPlaces}
 use Rattle.split.proofs.PiecesOf.{piecesFor}
 use Rattle.pieces.specs.Chosen.{byKey}
-use Rattle.unrooted.specs.Components.{keyOf}
-use Rattle.unrooted.specs.TreePlaces.{treeEnd, treePlaces, treesOf, PlacesAsked}
+use Rattle.unrooted_pieces.specs.Components.{keyOf}
+use Rattle.unrooted_pieces.specs.TreePlaces.{treeEnd, treePlaces, treesOf, PlacesAsked}
 use Rattle.unrooted.specs.Unrooted.{ComponentsSplit, TreesOrdered}
 use Rattle.unrooted.specs.declared.unrooted.Split.{Split}
 use Rattle.pieces.proofs.SortedImages.{sort-same, sorted-by-keys}
-use Rattle.unrooted.proofs.TreesPlaced.{Sized, end-most, trees-placed, map-flat}
+use Rattle.unrooted_pieces.proofs.TreesPlaced.{Sized, end-most, trees-placed, map-flat}
 
 -- Keys compare as start, then smallest edge, where two bytes hold the edges.
 key-order : (s t x y : ℕ) → x < 65536 → y < 65536 → leb (s * 65536 + x) (t * 65536 + y) ≡ (ltb s t || (eqb s t && leb x y))

@@ -13,8 +13,8 @@ use Rattle.lists.proofs.Put.{put-count, put-taken}
 use Rattle.lists.proofs.Sorting.{sort-length}
 use Rattle.graph.specs.Graph.{Graph}
 use Rattle.pieces.specs.Chosen.{byKey}
-use Rattle.unrooted.specs.Components.{PiecesGiven, SegmentsRisen, LowestSet, KeysWritten}
-use Rattle.unrooted.specs.TreePlaces.{treePlaces}
+use Rattle.unrooted_pieces.specs.Components.{PiecesGiven, SegmentsRisen, LowestSet, KeysWritten}
+use Rattle.unrooted_pieces.specs.TreePlaces.{treePlaces}
 use Rattle.unrooted.specs.Unrooted.{TreesOrdered}
 
 -- The same pieces, in arrays that are as long.

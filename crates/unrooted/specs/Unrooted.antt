@@ -19,8 +19,8 @@ use Rattle.rules.specs.UnrootedTrial.{components, needed, unrootedTrees}
 use Rattle.split.specs.Pieces.{piecesOf, leftPlaces}
 use Rattle.needs.specs.Given.{ForestGiven}
 use Rattle.pieces.specs.Chosen.{byKey}
-use Rattle.unrooted.specs.Components.{PiecesGiven, SegmentsRisen, LowestSet, KeysWritten}
-use Rattle.unrooted.specs.TreePlaces.{treePlaces, PlacesAsked}
+use Rattle.unrooted_pieces.specs.Components.{PiecesGiven, SegmentsRisen, LowestSet, KeysWritten}
+use Rattle.unrooted_pieces.specs.TreePlaces.{treePlaces, PlacesAsked}
 use Rattle.unrooted.specs.declared.unrooted.Split.{Split}
 use Rattle.unrooted.specs.declared.unrooted.Written.{Written}
 

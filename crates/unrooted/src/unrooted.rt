@@ -1,15 +1,15 @@
 // The trial at a limit for crews without roots (document 01, a "roving" trial, steps 2 to 4 and 7), where the components need no more trees
 // than there may be: the components' trees are split, and the pieces are the trees of the answer.
-use crate::components::rise_segments;
-use crate::components::set_lowest;
-use crate::components::write_keys;
-use crate::tree_places::tree_places;
 use cover::heaviest::heaviest_chosen;
 use cover::write::write_cover;
 use needs::roots::component_roots;
 use pieces::arcs::put_arcs;
 use pieces::chosen::sort_chosen;
 use split::split_forest;
+use unrooted_pieces::components::rise_segments;
+use unrooted_pieces::components::set_lowest;
+use unrooted_pieces::components::write_keys;
+use unrooted_pieces::tree_places::tree_places;
 ghost use Rattle.graph.specs.Bytes.{graphOf};
 ghost use Rattle.unrooted.specs.Unrooted.{SplitAsked, ComponentsSplit, OrderAsked, TreesOrdered, TrialAsked, TreesWritten};
 

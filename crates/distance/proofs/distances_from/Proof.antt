@@ -4,8 +4,8 @@ use Prim.Native.Nat.{_-_}
 use native.Mathlib.Omega.{arith}
 use lib.ListN.{length-replicate, getD-replicate}
 use borrow.Author.Needs.{needs}
-use Rattle.distance.specs.Waiting.{nobody}
-use Rattle.distance.proofs.KeyBlocks.{blocks-none}
+use Rattle.waiting.specs.Waiting.{nobody}
+use Rattle.waiting.proofs.KeyBlocks.{blocks-none}
 use Rattle.distance.proofs.WhoWaits.{settledCount, key-low}
 use Rattle.distance.proofs.SearchTurns.{Searching, searching-start, searched-since, searched-all, searching-vertex, searching-relaxable, searching-fewer, searching-more}
 use Rattle.distance.proofs.distances_from.Statement.{statement}

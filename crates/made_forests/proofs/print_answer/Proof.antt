@@ -1,8 +1,8 @@
 -- `made_forests::print_answer` is safe: what the check says yes to is a graph's bytes. Assumes nothing.
 use mathlib.Core.Path.{sym, ap, _∙_}
 use borrow.Author.Needs.{needs}
-use Rattle.graph.specs.Check.{says}
-use Rattle.graph.proofs.Exactly.{yes-graph}
+use Rattle.graph_check.specs.Check.{says}
+use Rattle.graph_check.proofs.Exactly.{yes-graph}
 use Rattle.made_forests.proofs.print_answer.Statement.{statement}
 use Rattle.made_forests.proofs.print_answer.Tie as tie
 

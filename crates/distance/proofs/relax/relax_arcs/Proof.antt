@@ -8,7 +8,7 @@ use lib.ListN.{getD, length}
 use borrow.Author.Tests.{not-true, not-false}
 use borrow.Author.Needs.{needs}
 use Rattle.edges.specs.Around.{arcHead}
-use Rattle.distance.specs.Waiting.{Blocks}
+use Rattle.waiting.specs.Waiting.{Blocks}
 use Rattle.distance.specs.Relaxing.{ArcAt, Relaxed, key-kept}
 use Rattle.distance.proofs.ArcsRelaxed.{relaxed-none, relaxed-more}
 use Rattle.distance.proofs.ArcsRekeyed.{Rekeying, rekeyed-passed, rekeyed-given, rekeyed-more}

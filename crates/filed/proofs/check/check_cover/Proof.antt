@@ -2,8 +2,8 @@
 use mathlib.Core.Path.{_≡_, sym, ap, _∙_}
 use native.Mathlib.Omega.{arith}
 use borrow.Author.Tests.{not-true, not-false}
-use Rattle.graph.specs.Check as sheet
-use Rattle.graph.proofs.Exactly.{yes-graph}
+use Rattle.graph_check.specs.Check as sheet
+use Rattle.graph_check.proofs.Exactly.{yes-graph}
 use Rattle.rules.proofs.Fields.{Bytes}
 use Rattle.rules.specs.Questions.{crewFault}
 use Rattle.filed.specs.declared.check.Verdict.the-variants as verdict

@@ -13,7 +13,7 @@ use Rattle.rules.specs.Cover.{Tree}
 use Rattle.rules.specs.CoverBytes.{treeIn}
 use Rattle.rules.specs.CheckCover.{treeRight}
 use Rattle.cover.specs.Runs.{BeginsAt}
-use Rattle.filed.proofs.StartTests.{start-passed}
+use Rattle.filed_entries.proofs.StartTests.{start-passed}
 use Rattle.cover.proofs.TreeRuns.{begins-first, begins-next, tree-is-run}
 use Rattle.filed.proofs.TreeTests.{tree-wrong, all-trees}
 use Rattle.filed.proofs.trees.trees_right.Statement.{statement}

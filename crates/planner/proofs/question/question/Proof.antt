@@ -6,8 +6,8 @@ use mathlib.Core.Option.{none}
 use native.Mathlib.Omega.{arith}
 use borrow.Author.Tests.{not-true, not-false}
 use Rattle.graph.specs.Bytes.{graphOf}
-use Rattle.graph.specs.Check as sheet
-use Rattle.graph.proofs.Exactly.{yes-graph}
+use Rattle.graph_check.specs.Check as sheet
+use Rattle.graph_check.proofs.Exactly.{yes-graph}
 use Rattle.rules.specs.Questions.{crewFault}
 use Rattle.cover.specs.Crews.{crewsOf}
 use Rattle.planner.proofs.Promised.{sheet-refused, crews-refused, limit-refused, room-refused, answer-given}

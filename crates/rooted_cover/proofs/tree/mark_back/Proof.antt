@@ -3,7 +3,7 @@ use mathlib.Core.Path.{sym, ap, _∙_}
 use lib.ListN.{length}
 use borrow.Author.Needs.{needs}
 use Rattle.lists.proofs.Put.{put-taken, put-count}
-use Rattle.marks.proofs.TreeMarks.{each-below, marked-named}
+use Rattle.unions.proofs.TreeMarks.{each-below, marked-named}
 use Rattle.rooted_cover.proofs.tree.mark_back.Statement.{statement}
 use Rattle.rooted_cover.proofs.tree.mark_back.Tie as tie
 

@@ -1,6 +1,6 @@
 -- `rooted_cover::tree::mark_piece` meets its contract. Assumes nothing.
 use borrow.Author.Needs.{needs}
-use Rattle.marks.proofs.TreeMarks.{each-below, marked-named}
+use Rattle.unions.proofs.TreeMarks.{each-below, marked-named}
 use Rattle.rooted_cover.proofs.tree.mark_piece.Statement.{statement}
 use Rattle.rooted_cover.proofs.tree.mark_piece.Tie as tie
 

@@ -1,7 +1,7 @@
 -- `rooted_cover::tree::mark_reach` meets its contract. Assumes nothing.
 use mathlib.Core.Path.{refl}
 use borrow.Author.Needs.{needs}
-use Rattle.marks.proofs.TreeMarks.{each-below, marked-both}
+use Rattle.unions.proofs.TreeMarks.{each-below, marked-both}
 use Rattle.rooted_cover.proofs.tree.mark_reach.Statement.{statement}
 use Rattle.rooted_cover.proofs.tree.mark_reach.Tie as tie
 

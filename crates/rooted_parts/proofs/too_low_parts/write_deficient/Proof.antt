@@ -8,7 +8,7 @@ use lib.ListN.{length, take}
 use lib.Seq.{length-take-le}
 use borrow.Author.Needs.{needs}
 use Rattle.lists.proofs.Put.{put-taken, put-count}
-use Rattle.marks.specs.Deficient.{placesMarked}
+use Rattle.unions.specs.Deficient.{placesMarked}
 use Rattle.rooted_parts.specs.TooLowParts.{ChosenGiven}
 use Rattle.rooted_parts.proofs.MarkedPieces.{marked-given, marked-in-order}
 use Rattle.rooted_parts.proofs.too_low_parts.write_deficient.Statement.{statement}

@@ -24,7 +24,7 @@ use Rattle.split.proofs.walk.+walk_children+walk_node.Lts-walk_node as 
 use Rattle.edges.proofs.arc.arc_edge.Reads as arc-edge-reads
 use Rattle.edges.proofs.arc.arc_head.Reads as arc-head-reads
 use Rattle.edges.proofs.arc.arc_weight.Reads as arc-weight-reads
-use Rattle.split.proofs.bunch.settle.Reads as settle-reads
+use Rattle.bunches.proofs.bunch.settle.Reads as settle-reads
 use Rattle.split.proofs.walk.+walk_children+walk_node.{statement}
 use Rattle.split.proofs.walk.+walk_children+walk_node.Tie.{close}
 

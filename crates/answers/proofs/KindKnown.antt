@@ -1,0 +1,42 @@
+-- What is asked of crews of either kind, where the kind is known.
+-- Assumes nothing.
+use Prim.Native.Nat.{ℕ}
+use mathlib.Core.Path.{_≡_}
+use mathlib.Core.List.{List}
+use Rattle.cover.specs.declared.crews.Kind.{Kind}
+use Rattle.cover.specs.declared.crews.Kind.the-variants.{Rooted, Unrooted}
+use Rattle.rooted.specs.Answer as rooted-answer
+use Rattle.unrooted.specs.Answer as unrooted
+use Rattle.search.specs.Crews.{CrewsReady}
+use Rattle.answers.specs.Answers.{ForestReady, LimitAsked}
+
+-- Whether no cover exists.
+pub forest-ready : {kind : Kind} {b roots kept table total until : List ℕ} → CrewsReady kind b roots kept table total until
+    → ForestReady kind b roots kept
+forest-ready r =
+    record {
+      with-roots = λ q. let d = r .decidable q in record { graph = d .graph; roots-inside = d .roots-inside; roots-some = r .roots-some q; forest = d .forest };
+      without = λ q. r .history q .forest-kept;
+    }
+
+-- An answer at a limit.
+module _ {kind : Kind} {k limit room : ℕ} {b roots order kept bounds arcs table lasts total until : List ℕ}
+    (a : LimitAsked kind k b roots limit order kept bounds arcs table lasts total until room) where
+  pub rooted-answer-asked : kind ≡ Rooted → rooted-answer.AnswerAsked b roots limit order kept bounds arcs table lasts room
+  rooted-answer-asked q =
+      record {
+        prepared =
+            record {
+              decidable = a .answer .ready .decidable q;
+              around = a .answer .around q;
+              in-order = a .answer .in-order;
+              last-edges = a .answer .last-edges q;
+            };
+        roots-some = a .answer .ready .roots-some q;
+        limit-most = a .limit-most;
+        most = a .answer .room-most;
+      }
+
+  pub unrooted-answer-asked : kind ≡ Unrooted → unrooted.UnrootedAsked b k limit kept total until room
+  unrooted-answer-asked q =
+      record { ready = a .answer .ready .history q; crews-few = a .answer .crews-few; small = a .limit-most; enough = a .answer .room-most }

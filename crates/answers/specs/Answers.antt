@@ -1,0 +1,33 @@
+-- What the answer at a limit asks, by crews of either kind, over what is prepared once a question.
+-- Assumes nothing.
+use Prim.Native.Nat.{ℕ, _≤_}
+use mathlib.Core.Path.{_≡_}
+use mathlib.Core.List.{List}
+use Rattle.graph.specs.Bytes.{graphOf}
+use Rattle.rules.specs.Order.{ordered}
+use Rattle.cover.specs.declared.crews.Kind.{Kind}
+use Rattle.cover.specs.declared.crews.Kind.the-variants.{Rooted, Unrooted}
+use Rattle.marks.specs.Tabled.{LastsTabled}
+use Rattle.rooted.specs.Prepared.{WholeAround}
+use Rattle.rooted.specs.Decide.{NoCoverAsked}
+use Rattle.needs.specs.Given.{ForestKept}
+use Rattle.search.specs.Crews.{CrewsReady}
+
+-- The whole forest, for crews of each kind from where they begin.
+pub record ForestReady (kind : Kind) (b roots kept : List ℕ) : Type 0 where
+  pub with-roots : kind ≡ Rooted → NoCoverAsked b roots kept
+  pub without : kind ≡ Unrooted → ForestKept b kept
+
+-- Everything that the crews read, at most 32 of them, and a buffer that is large enough.
+pub record AnswerAsked (kind : Kind) (k : ℕ) (b roots order kept bounds arcs table lasts total until : List ℕ) (room : ℕ) : Type 0 where
+  pub ready : CrewsReady kind b roots kept table total until
+  pub around : kind ≡ Rooted → WholeAround b roots bounds arcs
+  pub in-order : order ≡ ordered (graphOf b)
+  pub last-edges : kind ≡ Rooted → LastsTabled (graphOf b) roots table lasts
+  pub crews-few : k ≤ 32
+  pub room-most : 32708 ≤ room
+
+-- The same at a limit.
+pub record LimitAsked (kind : Kind) (k : ℕ) (b roots : List ℕ) (limit : ℕ) (order kept bounds arcs table lasts total until : List ℕ) (room : ℕ) : Type 0 where
+  pub answer : AnswerAsked kind k b roots order kept bounds arcs table lasts total until room
+  pub limit-most : limit ≤ 2048000000

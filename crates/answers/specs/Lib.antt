@@ -1,0 +1,3 @@
+-- What the contracts of `answers` say.
+-- what is asked of crews of either kind
+pub mod Answers

@@ -1,0 +1,62 @@
+// Whether there is no cover at all, and the answer at a limit, by crews of either kind.
+use cover::crews::Kind;
+use pieces::reply::Reply;
+use rooted::answer::answer_rooted;
+use rooted::decide::no_cover_rooted;
+use unrooted::answer::answer_unrooted;
+use unrooted::answer::no_cover_unrooted;
+ghost use mathlib.Core.Path.{_≡_};
+ghost use lib.ListN.{length};
+ghost use Rattle.graph.specs.Bytes.{graphOf};
+ghost use Rattle.rules.specs.Search.{noCover};
+ghost use Rattle.pieces.specs.Replies.{Answers};
+ghost use Rattle.search.specs.Crews.{crewsWith};
+ghost use Rattle.answers.specs.Answers.{ForestReady, LimitAsked};
+
+// Whether no cover by the crews exists at all.
+pub fn no_cover(kind: Kind, k: usize, b: &[u8], roots: &[u16], kept: &[u16]) -> bool
+    requires { ⌜ ForestReady kind (now b) (now roots) (now kept) ⌝ }
+    ensures { λ r. ⌜ r ≡ noCover (graphOf (now (b .entry))) (crewsWith kind k (now (roots .entry))) ⌝ }
+{
+    match kind {
+        Kind::Rooted => no_cover_rooted(b, roots, kept),
+        Kind::Unrooted => no_cover_unrooted(b, k, kept),
+    }
+}
+
+// The answer of the crews' trial at the limit.
+pub fn answer_at(
+    kind: Kind,
+    k: usize,
+    b: &[u8],
+    roots: &[u16],
+    limit: u64,
+    order: &[u16],
+    kept: &[u16],
+    bounds: &[u16],
+    arcs: &[u64],
+    table: &[u32],
+    lasts: &[u32],
+    total: &[u64],
+    until: &[u16],
+    buf: &mut [u8],
+) -> Reply
+    requires { ⌜ LimitAsked kind k (now b) (now roots) limit (now order) (now kept) (now bounds) (now arcs) (now table) (now lasts) (now total) (now until) (length (now buf)) ⌝ }
+    ensures { λ r. ⌜ Answers (graphOf (now (b .entry))) (crewsWith kind k (now (roots .entry))) limit (now (buf .entry)) (now (buf .exit)) r ⌝ }
+{
+    match kind {
+        Kind::Rooted => answer_rooted(
+            b,
+            roots,
+            limit,
+            order,
+            kept,
+            bounds,
+            arcs,
+            table,
+            lasts,
+            buf,
+        ),
+        Kind::Unrooted => answer_unrooted(b, k, limit, kept, total, until, buf),
+    }
+}

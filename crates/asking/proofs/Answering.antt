@@ -1,0 +1,105 @@
+-- A question about a graph is answered: "no cover", or the trial at the best limit; and the crews of a question are those of the rules.
+-- Assumes nothing.
+use Prim.Native.Nat.{ℕ, _≤_, _<_}
+use mathlib.Core.Path.{_≡_, refl, sym}
+use mathlib.Core.Bool.{Bool, true, false, _||_}
+use mathlib.Core.List.{List, []}
+use mathlib.Core.Option.{none}
+use native.Mathlib.Omega.{arith}
+use lib.ListN.{length, getD}
+use lib.Dec.{ltb}
+use borrow.Author.Tests.{ltb-false}
+use Rattle.lists.specs.Count.{below}
+use Rattle.lists.proofs.Every.{first-false, second-false}
+use Rattle.lists.proofs.Places.{at-place, place-of}
+use Rattle.lists.proofs.Runs.{length-below}
+use Rattle.graph.specs.Graph.{Graph}
+use Rattle.graph.specs.Bytes.{graphOf}
+use Rattle.graph.specs.Valid.{Valid}
+use Rattle.graph.specs.Fault.{faultIf}
+use Rattle.graph.proofs.Faults.{quiet-if}
+use Rattle.rules.specs.Cover as cover
+use Rattle.rules.specs.RootedTrial.{Choices}
+use Rattle.rules.specs.Search.{noCover, bestLimit, best}
+use Rattle.rules.specs.Questions.{crewCount, tooManyRoots, crewFault, written, bufferAfter}
+use Rattle.rules.specs.Fit.{GoodFor}
+use Rattle.rules.proofs.CrewsRight.{rooted-fit}
+use Rattle.planner_laws.proofs.SomeChoices.{some-choices}
+use Rattle.cover.specs.declared.crews.Kind.{Kind}
+use Rattle.cover.specs.declared.crews.Kind.the-variants.{Rooted, Unrooted}
+use Rattle.cover.specs.Crews.{crewsOf}
+use Rattle.pieces.specs.declared.reply.Reply.{Reply}
+use Rattle.pieces.specs.declared.reply.Reply.the-variants.{NoCover}
+use Rattle.pieces.specs.Replies.{Answers}
+use Rattle.asking.specs.declared.ask.Asked.{Asked}
+use Rattle.asking.specs.declared.ask.Asked.the-variants.{At, Best}
+use Rattle.search.specs.Crews.{crewsWith}
+use Rattle.asking.specs.Asking.{Answered, RootedAsked, UnrootedAsked, CrewsAsked}
+
+-- Good choices exist for crews of either kind.
+pub choices-for : {g : Graph} → Valid g → (kind : Kind) (k : ℕ) (roots : List ℕ) → (kind ≡ Rooted → (j : ℕ) → j < length roots → getD roots j 0 < g .vertices)
+    → (limit : ℕ) → (c : Choices) × GoodFor g (crewsWith kind k roots) limit c
+choices-for {g} valid Rooted k roots inside limit =
+    some-choices valid roots (λ r m. let (j, h, q) = place-of 0 m in rw (sym q) (inside refl j h)) limit
+choices-for valid Unrooted k roots inside limit = (record { assignment = []; paths = []; marks = [] }, tt)
+
+-- A trial's answer is that of the question which asks for it.
+pub trial-answered : {g : Graph} {crews : cover.Crews} {limit : ℕ} {before after : List ℕ} {r : Reply} → Answers g crews limit before after r
+    → Answered (At limit) g crews before after r
+trial-answered a = record { choices = a .choices; good = a .good; replied = a .replied }
+
+module _ {g : Graph} {crews : cover.Crews} where
+  -- The best limit's answer where no cover exists,
+  pub none-answered : noCover g crews ≡ true → (before : List ℕ) → (c : Choices) × GoodFor g crews (bestLimit g crews) c → Answered Best g crews before before NoCover
+  unfolding best bufferAfter written
+  none-answered t before (c, good) = record { choices = c; good = good; replied = record { same = rw t refl; buffer = rw t refl } }
+
+  -- and otherwise: it is that of the trial at the best limit.
+  pub best-answered : {limit : ℕ} {before after : List ℕ} {r : Reply} → noCover g crews ≡ false → limit ≡ bestLimit g crews → Answers g crews limit before after r
+      → Answered Best g crews before after r
+  unfolding best
+  best-answered {limit} {before} {after} {r} t q a =
+      let b : Answers g crews (bestLimit g crews) before after r = rw q at a in
+      record { choices = b .choices; good = b .good; replied = rw t (b .replied) }
+
+-- The crews of a question that are not refused: at most 32,
+pub crews-few : (kind : Kind) (k n : ℕ) → crewFault (crewsOf kind k) n ≡ none → k ≤ 32
+unfolding crewFault crewCount tooManyRoots
+crews-few Rooted k n e = omega (arith, length-below k, few-of (length (below k)) _ e)
+  where
+    few-of : (c : ℕ) (t : Bool) → faultIf (ltb c 1 || (ltb 32 c || t)) 21 ≡ none → c ≤ 32
+    few-of c t e = ltb-false 32 c (first-false (ltb 32 c) t (second-false (ltb c 1) (ltb 32 c || t) (quiet-if (ltb c 1 || (ltb 32 c || t)) 21 e)))
+crews-few Unrooted k n e = ltb-false 32 k (first-false (ltb 32 k) false (second-false (ltb k 1) (ltb 32 k || false) (quiet-if (ltb k 1 || (ltb 32 k || false)) 21 e)))
+
+-- with the roots 0 to k - 1, all of them vertices,
+module _ {kind : Kind} {k room : ℕ} {b : List ℕ} {asked : Asked} (a : CrewsAsked kind k b asked room) where
+  pub rooted-asked : {roots : List ℕ} → kind ≡ Rooted → roots ≡ below k → RootedAsked b roots asked room
+  rooted-asked {roots} q r =
+      let (same, are) : (kind ≡ Rooted) × (roots ≡ below k) = (q, r) in
+      let right : crewFault (crewsOf Rooted k) (graphOf b .vertices) ≡ none = rw same at (a .crews-right) in
+      let (some, inside) = rooted-fit (graphOf b) k right in
+      record {
+        given =
+            record {
+              graph = a .graph;
+              inside = rw are (λ j h. inside (getD (below k) j 0) (at-place 0 (below k) j h));
+              some = rw are some;
+              few = rw are (omega (arith, length-below k, crews-few Rooted k (graphOf b .vertices) right));
+            };
+        limit-fits = a .limit-fits;
+        room-most = a .room-most;
+      }
+
+  -- or without.
+  pub unrooted-asked : UnrootedAsked k b asked room
+  unrooted-asked =
+      record { graph = a .graph; crews-few = crews-few kind k (graphOf b .vertices) (a .crews-right); limit-fits = a .limit-fits; room-most = a .room-most }
+
+-- The crews of the question are those of the rules.
+module _ {kind : Kind} (k : ℕ) {asked : Asked} {g : Graph} {before after : List ℕ} {r : Reply} where
+  pub rooted-answered : {roots : List ℕ} → kind ≡ Rooted → roots ≡ below k → Answered asked g (cover.rooted roots) before after r
+      → Answered asked g (crewsOf kind k) before after r
+  rooted-answered {roots} q are a = let (same, is) : (kind ≡ Rooted) × (roots ≡ below k) = (q, are) in rw same (rw is at a)
+
+  pub unrooted-answered : kind ≡ Unrooted → Answered asked g (cover.unrooted k) before after r → Answered asked g (crewsOf kind k) before after r
+  unrooted-answered q a = let same : kind ≡ Unrooted = q in rw same a

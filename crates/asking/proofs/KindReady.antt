@@ -1,0 +1,45 @@
+-- What crews of each kind read is ready once it is prepared.
+-- Assumes nothing.
+use Prim.Native.Nat.{ℕ, _≤_}
+use mathlib.Core.Path.{_≡_, refl}
+use mathlib.Core.List.{List, []}
+use Rattle.graph.specs.Bytes.{graphOf}
+use Rattle.rules.specs.Order.{ordered}
+use Rattle.cover.specs.declared.crews.Kind.the-variants.{Rooted, Unrooted}
+use Rattle.rooted.specs.Prepared.{Prepared}
+use Rattle.unrooted.specs.Answer as unrooted
+use Rattle.search.proofs.KindDecides.{one-kind}
+use Rattle.prepare.specs.Preparing.{RootsGiven}
+use Rattle.answers.specs.Answers.{AnswerAsked}
+
+-- Everything is ready, for crews with roots,
+pub rooted-ready : {k room : ℕ} {b roots order kept bounds arcs table lasts : List ℕ} → RootsGiven b roots → Prepared b roots order kept bounds arcs table lasts
+    → k ≤ 32 → 32708 ≤ room → AnswerAsked Rooted k b roots order kept bounds arcs table lasts [] [] room
+rooted-ready given p few most =
+    record {
+      ready = record { graph = given .graph; roots-some = λ _. given .some; decidable = λ _. p .decidable; history = λ q. absurd (one-kind refl q) };
+      around = λ _. p .around;
+      in-order = p .in-order;
+      last-edges = λ _. p .last-edges;
+      crews-few = few;
+      room-most = most;
+    }
+
+-- and for crews without.
+pub unrooted-ready : {k room : ℕ} {b order kept total until : List ℕ} → order ≡ ordered (graphOf b) → unrooted.HistoryReady b kept total until → k ≤ 32 → 32708 ≤ room
+    → AnswerAsked Unrooted k b [] order kept [] [] [] [] total until room
+unrooted-ready in-order h few most =
+    record {
+      ready =
+          record {
+            graph = h .forest-kept .graph;
+            roots-some = λ q. absurd (one-kind q refl);
+            decidable = λ q. absurd (one-kind q refl);
+            history = λ _. h;
+          };
+      around = λ q. absurd (one-kind q refl);
+      in-order = in-order;
+      last-edges = λ q. absurd (one-kind q refl);
+      crews-few = few;
+      room-most = most;
+    }

@@ -1,0 +1,92 @@
+-- A question about a graph that passed its check: a trial at a limit, or the best limit; and what is asked of each step that answers it.
+-- Assumes nothing.
+use Prim.Native.Nat.{ℕ, _≤_}
+use mathlib.Core.Path.{_≡_}
+use mathlib.Core.List.{List}
+use mathlib.Core.Option.{none}
+use lib.ListN.{length}
+use Rattle.graph.specs.Graph.{Graph, edgeCount}
+use Rattle.graph.specs.Bytes.{graphOf}
+use Rattle.graph.specs.Valid.{IsGraph}
+use Rattle.rules.specs.Cover as cover
+use Rattle.rules.specs.Reply as rules
+use Rattle.rules.specs.RootedTrial.{Choices}
+use Rattle.rules.specs.Search.{trial, bestLimit, best}
+use Rattle.rules.specs.Fit.{GoodFor}
+use Rattle.rules.specs.Questions.{crewFault}
+use Rattle.cover.specs.Crews.{crewsOf}
+use Rattle.cover.specs.declared.crews.Kind.{Kind}
+use Rattle.pieces.specs.declared.reply.Reply.{Reply}
+use Rattle.pieces.specs.Replies.{Replied}
+use Rattle.order.specs.Order.{RoomForOrder}
+use Rattle.asking.specs.declared.ask.Asked.{Asked}
+use Rattle.asking.specs.declared.ask.Asked.the-variants.{At, Best}
+use Rattle.answers.specs.Answers.{AnswerAsked}
+use Rattle.prepare.specs.Preparing.{RootsGiven, Small, RootedRoom}
+
+-- The limit at which the answer is written.
+abbrev pub limitOf : Asked → Graph → cover.Crews → ℕ
+limitOf (At limit) g crews = limit
+limitOf Best g crews = bestLimit g crews
+
+-- What the rules reply.
+abbrev pub replyTo : Asked → Graph → cover.Crews → Choices → rules.Reply
+replyTo (At limit) g crews c = trial g crews limit c
+replyTo Best g crews c = best g crews c
+
+-- A limit that is given is within document 01's range.
+abbrev pub LimitFits : Asked → Type 0
+LimitFits (At limit) = limit ≤ 2048000000
+LimitFits Best = Unit {0}
+
+-- The question is answered as the rules have it, by good choices.
+pub record Answered (asked : Asked) (g : Graph) (crews : cover.Crews) (before after : List ℕ) (r : Reply) : Type 0 where
+  pub choices : Choices
+  pub good : GoodFor g crews (limitOf asked g crews) choices
+  pub replied : Replied (replyTo asked g crews choices) before after r
+
+-- Everything that the crews read, for what is asked: a limit that is given is within document 01's range.
+pub record AskedReady (kind : Kind) (k : ℕ) (b roots : List ℕ) (asked : Asked) (order kept bounds arcs table lasts total until : List ℕ) (room : ℕ) : Type 0 where
+  pub answer : AnswerAsked kind k b roots order kept bounds arcs table lasts total until room
+  pub limit-fits : LimitFits asked
+
+-- A question by crews with roots of which nothing is prepared yet.
+pub record RootedAsked (b roots : List ℕ) (asked : Asked) (room : ℕ) : Type 0 where
+  pub given : RootsGiven b roots
+  pub limit-fits : LimitFits asked
+  pub room-most : 32708 ≤ room
+
+-- The same, with the arrays that it is answered in.
+pub record RootedLent (b roots : List ℕ) (asked : Asked) (order kept bounds all arcs table lasts : List ℕ) (room : ℕ) : Type 0 where
+  pub question : RootedAsked b roots asked room
+  pub arrays : RootedRoom (graphOf b .vertices) (edgeCount (graphOf b)) (length roots) (length order) (length kept) (length bounds) (length all) (length arcs)
+      (length table) (length lasts)
+
+-- A question by crews with roots of which nothing is prepared yet, about a small graph.
+pub record RootedSmall (b roots : List ℕ) (asked : Asked) (room : ℕ) : Type 0 where
+  pub question : RootedAsked b roots asked room
+  pub small : Small (graphOf b) (length roots)
+
+-- A question by crews without roots of which nothing is prepared yet.
+pub record UnrootedAsked (k : ℕ) (b : List ℕ) (asked : Asked) (room : ℕ) : Type 0 where
+  pub graph : IsGraph b
+  pub crews-few : k ≤ 32
+  pub limit-fits : LimitFits asked
+  pub room-most : 32708 ≤ room
+
+-- The same, with the arrays that its edges are put in order in.
+pub record UnrootedLent (k : ℕ) (b : List ℕ) (asked : Asked) (keys spare order room : ℕ) : Type 0 where
+  pub question : UnrootedAsked k b asked room
+  pub for-order : RoomForOrder b keys spare order
+
+-- A question by crews without roots of which nothing is prepared yet, about at most 512 edges.
+pub record UnrootedSmall (k : ℕ) (b : List ℕ) (asked : Asked) (room : ℕ) : Type 0 where
+  pub question : UnrootedAsked k b asked room
+  pub edges-few : edgeCount (graphOf b) ≤ 512
+
+-- The crews of a question, which are not refused: nothing else is known.
+pub record CrewsAsked (kind : Kind) (k : ℕ) (b : List ℕ) (asked : Asked) (room : ℕ) : Type 0 where
+  pub graph : IsGraph b
+  pub crews-right : crewFault (crewsOf kind k) (graphOf b .vertices) ≡ none
+  pub limit-fits : LimitFits asked
+  pub room-most : 32708 ≤ room

@@ -1,0 +1,147 @@
+// A question about a graph, prepared once and answered: a trial at a limit, or the best limit.
+use answers::answer_at;
+use answers::no_cover;
+use crate::ask_rooted::ask_rooted;
+use crate::ask_unrooted::ask_unrooted;
+use cover::crews::Kind;
+use pieces::pieces::number_up;
+use pieces::reply::Reply;
+use search::limit::best_limit;
+ghost use lib.ListN.{length};
+ghost use Rattle.graph.specs.Bytes.{graphOf};
+ghost use Rattle.cover.specs.Crews.{crewsOf};
+ghost use Rattle.asking.specs.declared.ask.Asked.the-variants.{Best};
+ghost use Rattle.search.specs.Crews.{crewsWith};
+ghost use Rattle.answers.specs.Answers.{AnswerAsked};
+ghost use Rattle.asking.specs.Asking.{Answered, AskedReady, CrewsAsked};
+
+// What is asked.
+pub enum Asked {
+    // A trial at a limit.
+    At(u64),
+    // The best limit.
+    Best,
+}
+
+// The answer at the best limit, or that no cover exists.
+fn answer_best(
+    kind: Kind,
+    k: usize,
+    b: &[u8],
+    roots: &[u16],
+    order: &[u16],
+    kept: &[u16],
+    bounds: &[u16],
+    arcs: &[u64],
+    table: &[u32],
+    lasts: &[u32],
+    total: &[u64],
+    until: &[u16],
+    buf: &mut [u8],
+) -> Reply
+    requires { ⌜ AnswerAsked kind k (now b) (now roots) (now order) (now kept) (now bounds) (now arcs) (now table) (now lasts) (now total) (now until) (length (now buf)) ⌝ }
+    ensures { λ r. ⌜ Answered Best (graphOf (now (b .entry))) (crewsWith kind k (now (roots .entry))) (now (buf .entry)) (now (buf .exit)) r ⌝ }
+{
+    if no_cover(kind, k, b, roots, kept) {
+        return Reply::NoCover;
+    }
+    let limit = best_limit(
+        kind,
+        k,
+        b,
+        roots,
+        order,
+        kept,
+        bounds,
+        arcs,
+        table,
+        total,
+        until,
+    );
+    answer_at(
+        kind,
+        k,
+        b,
+        roots,
+        limit,
+        order,
+        kept,
+        bounds,
+        arcs,
+        table,
+        lasts,
+        total,
+        until,
+        buf,
+    )
+}
+
+// The answer, over everything that was prepared. What crews of the other kind read is empty.
+pub(crate) fn answer_asked(
+    kind: Kind,
+    k: usize,
+    b: &[u8],
+    roots: &[u16],
+    asked: Asked,
+    order: &[u16],
+    kept: &[u16],
+    bounds: &[u16],
+    arcs: &[u64],
+    table: &[u32],
+    lasts: &[u32],
+    total: &[u64],
+    until: &[u16],
+    buf: &mut [u8],
+) -> Reply
+    requires { ⌜ AskedReady kind k (now b) (now roots) asked (now order) (now kept) (now bounds) (now arcs) (now table) (now lasts) (now total) (now until) (length (now buf)) ⌝ }
+    ensures { λ r. ⌜ Answered asked (graphOf (now (b .entry))) (crewsWith kind k (now (roots .entry))) (now (buf .entry)) (now (buf .exit)) r ⌝ }
+{
+    match asked {
+        Asked::At(limit) => answer_at(
+            kind,
+            k,
+            b,
+            roots,
+            limit,
+            order,
+            kept,
+            bounds,
+            arcs,
+            table,
+            lasts,
+            total,
+            until,
+            buf,
+        ),
+        Asked::Best => answer_best(
+            kind,
+            k,
+            b,
+            roots,
+            order,
+            kept,
+            bounds,
+            arcs,
+            table,
+            lasts,
+            total,
+            until,
+            buf,
+        ),
+    }
+}
+
+// The answer to a question by crews: "the yards are stops 0 to k - 1". Nothing below knows that.
+pub fn ask_crews(kind: Kind, k: usize, b: &[u8], asked: Asked, buf: &mut [u8]) -> Reply
+    requires { ⌜ CrewsAsked kind k (now b) asked (length (now buf)) ⌝ }
+    ensures { λ r. ⌜ Answered asked (graphOf (now (b .entry))) (crewsOf kind k) (now (buf .entry)) (now (buf .exit)) r ⌝ }
+{
+    match kind {
+        Kind::Rooted => {
+            let mut roots = [0u16; 32];
+            number_up(k, &mut roots);
+            ask_rooted(b, &roots[..k], asked, buf)
+        }
+        Kind::Unrooted => ask_unrooted(k, b, asked, buf),
+    }
+}

@@ -1,0 +1,78 @@
+// A question by crews without roots: prepared in arrays, and answered. The arrays for the order are small where that is enough.
+use crate::ask::Asked;
+use crate::ask::answer_asked;
+use cover::crews::Kind;
+use pieces::reply::Reply;
+use prepare::prepare_unrooted;
+ghost use lib.ListN.{length};
+ghost use Rattle.graph.specs.Bytes.{graphOf};
+ghost use Rattle.rules.specs.Cover.{unrooted};
+ghost use Rattle.asking.specs.Asking.{Answered, UnrootedAsked, UnrootedLent, UnrootedSmall};
+
+// Prepares the question, with the edges put in order in the arrays that are lent, and answers it.
+fn ask_unrooted_in(
+    k: usize,
+    b: &[u8],
+    asked: Asked,
+    keys: &mut [u64],
+    spare: &mut [u64],
+    order: &mut [u16],
+    buf: &mut [u8],
+) -> Reply
+    requires { ⌜ UnrootedLent k (now b) asked (length (now keys)) (length (now spare)) (length (now order)) (length (now buf)) ⌝ }
+    ensures { λ r. ⌜ Answered asked (graphOf (now (b .entry))) (unrooted k) (now (buf .entry)) (now (buf .exit)) r ⌝ }
+{
+    let mut kept = [0u16; 256];
+    let mut total = [0u64; 256];
+    let mut until = [0u16; 256];
+    let ready = prepare_unrooted(b, keys, spare, order, &mut kept, &mut total, &mut until);
+    answer_asked(
+        Kind::Unrooted,
+        k,
+        b,
+        &[],
+        asked,
+        &order[..ready.edges],
+        &kept[..ready.forest],
+        &[],
+        &[],
+        &[],
+        &[],
+        &total,
+        &until,
+        buf,
+    )
+}
+
+// Lends arrays that 512 edges fit in.
+fn ask_unrooted_small(k: usize, b: &[u8], asked: Asked, buf: &mut [u8]) -> Reply
+    requires { ⌜ UnrootedSmall k (now b) asked (length (now buf)) ⌝ }
+    ensures { λ r. ⌜ Answered asked (graphOf (now (b .entry))) (unrooted k) (now (buf .entry)) (now (buf .exit)) r ⌝ }
+{
+    let mut keys = [0u64; 512];
+    let mut spare = [0u64; 512];
+    let mut order = [0u16; 512];
+    ask_unrooted_in(k, b, asked, &mut keys, &mut spare, &mut order, buf)
+}
+
+// Lends arrays that the edges of every graph fit in.
+fn ask_unrooted_full(k: usize, b: &[u8], asked: Asked, buf: &mut [u8]) -> Reply
+    requires { ⌜ UnrootedAsked k (now b) asked (length (now buf)) ⌝ }
+    ensures { λ r. ⌜ Answered asked (graphOf (now (b .entry))) (unrooted k) (now (buf .entry)) (now (buf .exit)) r ⌝ }
+{
+    let mut keys = [0u64; 2048];
+    let mut spare = [0u64; 2048];
+    let mut order = [0u16; 2048];
+    ask_unrooted_in(k, b, asked, &mut keys, &mut spare, &mut order, buf)
+}
+
+// The answer to a question by k crews without roots.
+pub(crate) fn ask_unrooted(k: usize, b: &[u8], asked: Asked, buf: &mut [u8]) -> Reply
+    requires { ⌜ UnrootedAsked k (now b) asked (length (now buf)) ⌝ }
+    ensures { λ r. ⌜ Answered asked (graphOf (now (b .entry))) (unrooted k) (now (buf .entry)) (now (buf .exit)) r ⌝ }
+{
+    if graph::edge_count(b) <= 512 {
+        return ask_unrooted_small(k, b, asked, buf);
+    }
+    ask_unrooted_full(k, b, asked, buf)
+}

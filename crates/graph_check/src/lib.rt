@@ -1,0 +1,97 @@
+// The check of a graph's bytes (document 01: a "sheet") with 11 to 16: whether they are a graph's, and what is wrong with them otherwise.
+// It takes any bytes. The words of the contracts stand in specs/: `checkOf` is the check.
+use graph::view;
+ghost use mathlib.Core.Path.{_≡_};
+ghost use Rattle.graph.specs.Bytes.{graphOf};
+ghost use Rattle.graph_check.specs.Check.{numberOf, says, checkAll, checkOf};
+
+// What can be wrong with a graph's bytes, by cause.
+pub enum Fault {
+    // The length is not that of so many edges.
+    Length,
+    // No vertex ("stop"), or too many.
+    Vertices,
+    // Too many edges ("lines").
+    Edges,
+    // An edge's end is no vertex.
+    End,
+    // An edge joins a vertex to itself.
+    Loop,
+    // An edge's weight is 0 or too large.
+    Weight,
+}
+
+// What the check answers: how many vertices and edges there are, or the first fault.
+pub enum Checked {
+    Counts(usize, usize),
+    Refused(Fault),
+}
+
+// Document 01's number of a fault.
+pub fn number(f: Fault) -> u16
+    ensures { λ r. ⌜ r ≡ numberOf f ⌝ }
+{
+    match f {
+        Fault::Length => 11,
+        Fault::Vertices => 12,
+        Fault::Edges => 13,
+        Fault::End => 14,
+        Fault::Loop => 15,
+        Fault::Weight => 16,
+    }
+}
+
+// The check edge by edge.
+fn check_edges(b: &[u8]) -> Checked
+    ensures { λ r. ⌜ says r ≡ checkAll (graphOf (now (b .entry))) ⌝ }
+{
+    let n = graph::vertex_count(b);
+    let m = graph::edge_count(b);
+    let mut e = 0;
+    while e < m {
+        let one = view::one_end(b, n, m, e);
+        let other = view::other_end(b, n, m, e);
+        let w = view::weight(b, n, m, e);
+        if n <= one {
+            return Checked::Refused(Fault::End);
+        }
+        if n <= other {
+            return Checked::Refused(Fault::End);
+        }
+        if one == other {
+            return Checked::Refused(Fault::Loop);
+        }
+        if w == 0 {
+            return Checked::Refused(Fault::Weight);
+        }
+        if 1000000 < w {
+            return Checked::Refused(Fault::Weight);
+        }
+        e += 1;
+    }
+    Checked::Counts(n, m)
+}
+
+// The check of a graph's bytes: whether they are a graph's, and what is wrong with them otherwise.
+pub fn check_graph(b: &[u8]) -> Checked
+    ensures { λ r. ⌜ says r ≡ checkOf (now (b .entry)) ⌝ }
+{
+    if b.len() < 4 {
+        return Checked::Refused(Fault::Length);
+    }
+    let n = graph::u16_within(b, 0);
+    let m = graph::u16_within(b, 2);
+    if b.len() != 4 + 8 * m {
+        return Checked::Refused(Fault::Length);
+    }
+    if n == 0 {
+        return Checked::Refused(Fault::Vertices);
+    }
+    if 256 < n {
+        return Checked::Refused(Fault::Vertices);
+    }
+    if 2048 < m {
+        return Checked::Refused(Fault::Edges);
+    }
+    check_edges(b)
+}

@@ -1,0 +1,3 @@
+-- What the contracts of `order` say, in reading order.
+-- all edges by weight, then number
+pub mod Order

@@ -1,0 +1,105 @@
+// The pieces of the components as trees (document 01, step 7: "start is the lowest stop of the tree, and order is by start, then by smallest
+// line"). Piece i has the start starts[i] and the edges flat[cuts[i] .. cuts[i + 1]].
+use edges::index::wide;
+use order::order::rise_edges;
+ghost use mathlib.Core.Path.{_≡_};
+ghost use Prim.Native.Nat.{min};
+ghost use Rattle.graph.specs.Bytes.{graphOf};
+ghost use Rattle.lists.specs.Segments.{segment};
+ghost use Rattle.pieces.specs.Pieces.{treeOf};
+ghost use Rattle.unrooted_pieces.specs.Components.{keyOf, LowestFound, PieceHeld, PiecesHeld, PiecesGiven, KeysAsked, SegmentRisen, SegmentsRisen, LowestSet, KeysWritten};
+
+// The lower of two vertices.
+fn lower(u: usize, v: usize) -> usize
+    ensures { λ r. ⌜ r ≡ min u v ⌝ }
+{
+    if v < u {
+        return v;
+    }
+    u
+}
+
+// The lowest vertex of the tree with this start and these edges.
+fn lowest_vertex(b: &[u8], start: usize, edges: &[u16]) -> usize
+    ensures { λ r. ⌜ LowestFound (graphOf (now (b .entry))) start (now (edges .entry)) r ⌝ }
+{
+    let mut v = start;
+    let mut i = 0;
+    while i < edges.len() {
+        let e = wide(edges[i]);
+        v = lower(v, graph::one_end(b, e));
+        v = lower(v, graph::other_end(b, e));
+        i += 1;
+    }
+    v
+}
+
+// The edges of a piece, rising.
+fn rise_segment(cuts: &[u16], i: usize, flat: &mut [u16])
+    requires { ⌜ PieceHeld (now cuts) (now flat) i ⌝ }
+    ensures { λ _. ⌜ SegmentRisen (now (cuts .entry)) i (now (flat .entry)) (now (flat .exit)) ⌝ }
+{
+    let from = wide(cuts[i]);
+    let to = wide(cuts[i + 1]);
+    rise_edges(&mut flat[from..to]);
+}
+
+// The edges of each of the first k pieces, rising.
+pub fn rise_segments(cuts: &[u16], k: usize, flat: &mut [u16])
+    requires { ⌜ PiecesHeld (now cuts) (now flat) k ⌝ }
+    ensures { λ _. ⌜ SegmentsRisen (now (cuts .entry)) k (now (flat .entry)) (now (flat .exit)) ⌝ }
+{
+    let mut i = 0;
+    while i < k {
+        rise_segment(cuts, i, flat);
+        i += 1;
+    }
+}
+
+// The lowest vertex of a piece that has the given start.
+fn piece_lowest(b: &[u8], start: u16, cuts: &[u16], flat: &[u16], i: usize) -> u16
+    requires { ⌜ PieceHeld (now cuts) (now flat) i ⌝ }
+    ensures { λ r. ⌜ LowestFound (graphOf (now (b .entry))) start (segment (now (cuts .entry)) (now (flat .entry)) i) r ⌝ }
+{
+    let from = wide(cuts[i]);
+    let to = wide(cuts[i + 1]);
+    lowest_vertex(b, wide(start), &flat[from..to]) as u16
+}
+
+// Each of the first k pieces starts at its lowest vertex now.
+pub fn set_lowest(b: &[u8], starts: &mut [u16], cuts: &[u16], flat: &[u16], k: usize)
+    requires { ⌜ PiecesGiven (now starts) (now cuts) (now flat) k ⌝ }
+    ensures { λ _. ⌜ LowestSet (graphOf (now (b .entry))) (now (cuts .entry)) (now (flat .entry)) k (now (starts .entry)) (now (starts .exit)) ⌝ }
+{
+    let mut i = 0;
+    while i < k {
+        starts[i] = piece_lowest(b, starts[i], cuts, flat, i);
+        i += 1;
+    }
+}
+
+// A piece's key: its start, then its smallest edge, which is its first.
+fn piece_key(start: u16, cuts: &[u16], flat: &[u16], i: usize) -> u32
+    requires { ⌜ PieceHeld (now cuts) (now flat) i ⌝ }
+    ensures { λ r. ⌜ r ≡ keyOf (treeOf start (segment (now (cuts .entry)) (now (flat .entry)) i)) ⌝ }
+{
+    let from = wide(cuts[i]);
+    let to = wide(cuts[i + 1]);
+    let by_start = wide(start) * 65536;
+    if from < to {
+        return (by_start + wide(flat[from])) as u32;
+    }
+    by_start as u32
+}
+
+// The keys of the first k pieces.
+pub fn write_keys(starts: &[u16], cuts: &[u16], flat: &[u16], k: usize, keys: &mut [u32])
+    requires { ⌜ KeysAsked (now starts) (now cuts) (now flat) k (now keys) ⌝ }
+    ensures { λ _. ⌜ KeysWritten (now (starts .entry)) (now (cuts .entry)) (now (flat .entry)) k (now (keys .exit)) ⌝ }
+{
+    let mut i = 0;
+    while i < k {
+        keys[i] = piece_key(starts[i], cuts, flat, i);
+        i += 1;
+    }
+}
