@@ -20,7 +20,7 @@ room-for-fewer v e c r =
       all-room = omega (arith, r .all-room);
       arcs-room = omega (arith, r .arcs-room);
       spare-room = omega (arith, r .spare-room);
-      table-room = omega (arith, r .table-room, mul-le-mul v c);
+      table-room = omega (arith, r .table-room, mul-le-mul c v);
       lasts-room = omega (arith, r .lasts-room, mul-le-mul c v);
     }
 

@@ -7,7 +7,7 @@ pub mod RowMarks
 pub mod RowsMarked
 -- the nearest of vertices looked at one after the other
 pub mod NearestSoFar
--- the table of distances, column by column, and the rows of last edges
-pub mod ColumnsWritten
+-- the rows of distances and of last edges, root by root
+pub mod RowsFilled
 -- the path marked for a part is a shortest one
 pub mod RootPath

@@ -18,7 +18,6 @@ use Rattle.graph.specs.Valid.{Valid}
 use Rattle.graph.proofs.Ranges.{one-end-below, other-end-below}
 use Rattle.rules.specs.Distance.{treeVertices}
 use Rattle.pieces.specs.Pieces.{treeOf, endsOf}
-use Rattle.marks.specs.Near.{distanceIn}
 use Rattle.marks.specs.Nearest.{Nearest}
 
 -- The nearer of two.
@@ -47,19 +46,19 @@ module _ (far : ℕ → ℕ) (u v : ℕ) where
       go true = pv
       go false = pu
 
--- r is a vertex of the part, and neither the start nor an end of an edge before i is nearer to root j.
-pub record Nearing (g : Graph) (table : List ℕ) (k j start : ℕ) (edges : List ℕ) (i r : ℕ) : Type 0 where
+-- r is a vertex of the part, and neither the start nor an end of an edge before i is nearer to the root.
+pub record Nearing (g : Graph) (dist : List ℕ) (start : ℕ) (edges : List ℕ) (i r : ℕ) : Type 0 where
   pub covered : r ∈ treeVertices g (treeOf start edges)
   pub inside : r < g .vertices
-  pub start-no-nearer : distanceIn table k r j ≤ distanceIn table k start j
-  pub one-no-nearer : (h : ℕ) → h < i → distanceIn table k r j ≤ distanceIn table k (oneEnd g (getD edges h 0)) j
-  pub other-no-nearer : (h : ℕ) → h < i → distanceIn table k r j ≤ distanceIn table k (otherEnd g (getD edges h 0)) j
+  pub start-no-nearer : getD dist r 0 ≤ getD dist start 0
+  pub one-no-nearer : (h : ℕ) → h < i → getD dist r 0 ≤ getD dist (oneEnd g (getD edges h 0)) 0
+  pub other-no-nearer : (h : ℕ) → h < i → getD dist r 0 ≤ getD dist (otherEnd g (getD edges h 0)) 0
 
-module _ (g : Graph) (table : List ℕ) (k j start : ℕ) (edges : List ℕ) where
+module _ (g : Graph) (dist : List ℕ) (start : ℕ) (edges : List ℕ) where
   abbrev far : ℕ → ℕ
-  far v = distanceIn table k v j
+  far v = getD dist v 0
 
-  pub nearing-start : start < g .vertices → Nearing g table k j start edges 0 start
+  pub nearing-start : start < g .vertices → Nearing g dist start edges 0 start
   unfolding treeVertices
   nearing-start h =
       record {
@@ -70,7 +69,7 @@ module _ (g : Graph) (table : List ℕ) (k j start : ℕ) (edges : List ℕ) whe
         other-no-nearer = λ i l. absurd (omega arith);
       }
 
-  module _ {i r : ℕ} (w : Nearing g table k j start edges i r) where
+  module _ {i r : ℕ} (w : Nearing g dist start edges i r) where
     -- One edge more.
     module _ (v : Valid g) (h : i < length edges) where
       abbrev e : ℕ
@@ -85,7 +84,7 @@ module _ (g : Graph) (table : List ℕ) (k j start : ℕ) (edges : List ℕ) whe
       pub mid-inside : mid < g .vertices
       mid-inside = nearer-either far r (oneEnd g e) (λ x. x < g .vertices) (w .inside) (one-end-below v e)
 
-      pub nearing-more : Nearing g table k j start edges (i + 1) last
+      pub nearing-more : Nearing g dist start edges (i + 1) last
       unfolding treeVertices
       nearing-more =
           let one : oneEnd g e ∈ treeVertices g (treeOf start edges) =
@@ -118,6 +117,6 @@ module _ (g : Graph) (table : List ℕ) (k j start : ℕ) (edges : List ℕ) whe
         let (x, l, is) = place-of 0 e-in in
         at-end x v (omega arith) (rw is v-in)
 
-    pub nearing-all : length edges ≤ i → Nearest g table k j (treeOf start edges) r
+    pub nearing-all : length edges ≤ i → Nearest g dist (treeOf start edges) r
     unfolding treeVertices
     nearing-all h = record { covered = w .covered; nearest = none-nearer h; inside = w .inside }

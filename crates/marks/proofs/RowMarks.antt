@@ -66,26 +66,26 @@ marked-same {a = a} q m = record { size = m .size; each = λ j l. m .each j l �
 pub part-at : (from size : ℕ) (l : List ℕ) (j : ℕ) → j < size → getD (take size (drop from l)) j 0 ≡ getD l (from + j) 0
 part-at from size l j h = getD-take size (drop from l) j 0 h ∙ getD-drop from l j 0
 
--- The table has room for the distances of each of n vertices.
+-- An array with room for n rows of k has each of them.
 pub row-room : (v n k size : ℕ) → v < n → n * k ≤ size → v * k + k ≤ size
 row-room v n k size h room = omega (arith, suc-mul v k, mul-le-mul-right k h)
 
-module _ (table : List ℕ) (k limit : ℕ) where
+module _ (table : List ℕ) (n limit : ℕ) where
   -- One of two lists of vertices has one within the limit, or the other has.
-  pub near-on : (us vs : List ℕ) (j : ℕ) → nearOne table k limit (us ++ vs) j ≡ nearOne table k limit us j || nearOne table k limit vs j
+  pub near-on : (us vs : List ℕ) (j : ℕ) → nearOne table n limit (us ++ vs) j ≡ nearOne table n limit us j || nearOne table n limit vs j
   unfolding nearOne
-  near-on us vs j = any-on (λ v. leb (distanceIn table k v j) limit) us vs
+  near-on us vs j = any-on (λ v. leb (distanceIn table n v j) limit) us vs
 
   -- Marked for some vertices, and then for others.
-  pub marked-on : (us vs : List ℕ) {a b c : List ℕ} → Marked (nearOne table k limit us) a b → Marked (nearOne table k limit vs) b c → Marked (nearOne table k limit (us ++ vs)) a c
-  marked-on us vs m n = marked-same (λ j h. sym (near-on us vs j)) (marked-or m n)
+  pub marked-on : (us vs : List ℕ) {a b c : List ℕ} → Marked (nearOne table n limit us) a b → Marked (nearOne table n limit vs) b c → Marked (nearOne table n limit (us ++ vs)) a c
+  marked-on us vs m w = marked-same (λ j h. sym (near-on us vs j)) (marked-or m w)
 
   -- Marked for one vertex.
-  pub marked-vertex : (v : ℕ) {a b : List ℕ} → Marked (λ j. leb (distanceIn table k v j) limit) a b → Marked (nearOne table k limit (v ∷ [])) a b
+  pub marked-vertex : (v : ℕ) {a b : List ℕ} → Marked (λ j. leb (distanceIn table n v j) limit) a b → Marked (nearOne table n limit (v ∷ [])) a b
   unfolding nearOne any
-  marked-vertex v m = marked-same (λ j h. or-false (leb (distanceIn table k v j) limit)) m
+  marked-vertex v m = marked-same (λ j h. or-false (leb (distanceIn table n v j) limit)) m
 
   -- Marked for no vertex.
-  pub marked-nobody : (a : List ℕ) → Marked (nearOne table k limit []) a a
+  pub marked-nobody : (a : List ℕ) → Marked (nearOne table n limit []) a a
   unfolding nearOne any
   marked-nobody a = record { size = refl; each = λ j h. refl }

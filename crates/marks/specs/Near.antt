@@ -15,25 +15,25 @@ use Rattle.rules.specs.Distance.{treeVertices}
 use Rattle.rules.specs.Held.{treeAt}
 use Rattle.cover.specs.Chosen.{IsHeld}
 
--- The distance of vertex v from root j, of k roots.
+-- The distance of vertex v, of n vertices, from root j. Distances stand root by root, n for each.
 abbrev pub distanceIn : List ℕ → ℕ → ℕ → ℕ → ℕ
-distanceIn table k v j = getD table (v * k + j) 0
+distanceIn table n v j = getD table (j * n + v) 0
 
 -- One of the vertices is within the limit of root j.
 unfoldable pub nearOne : List ℕ → ℕ → ℕ → List ℕ → ℕ → Bool
-nearOne table k limit vertices j = any (λ v. leb (distanceIn table k v j) limit) vertices
+nearOne table n limit vertices j = any (λ v. leb (distanceIn table n v j) limit) vertices
 
 -- A row of marks, one for each root: 1 where the test holds, and otherwise as it was.
 pub record Marked (test : ℕ → Bool) (before after : List ℕ) : Type 0 where
   pub size : length after ≡ length before
   pub each : (j : ℕ) → j < length before → getD after j 0 ≡ cond (test j) 1 (getD before j 0)
 
--- What is asked of a table of the distances from k roots: the bytes are a graph's, and it has a row for each vertex.
+-- What is asked of a table of the distances from k roots: the bytes are a graph's, and it has a row of its vertices for each root.
 pub record TableGiven (b table : List ℕ) (k : ℕ) : Type 0 where
   pub graph : IsGraph b
-  pub room : graphOf b .vertices * k ≤ length table
+  pub room : k * graphOf b .vertices ≤ length table
 
--- What looking at one part asks besides: a start among the vertices.
+-- What looking at one vertex, or at a part from its start on, asks besides: it is one of the graph's.
 pub record PartGiven (b table : List ℕ) (start k : ℕ) : Type 0 where
   pub given : TableGiven b table k
   pub start-inside : start < graphOf b .vertices
@@ -57,8 +57,8 @@ pub record TreesGiven (b table : List ℕ) (k : ℕ) (starts cuts flat places ro
   pub rows-room : length places * k ≤ length rows
 
 -- Root j is near the tree at place c.
-abbrev pub nearTree : Graph → List ℕ → ℕ → ℕ → List ℕ → List ℕ → List ℕ → ℕ → ℕ → Bool
-nearTree g table k limit starts cuts flat c j = nearOne table k limit (treeVertices g (treeAt starts cuts flat c)) j
+abbrev pub nearTree : Graph → List ℕ → ℕ → List ℕ → List ℕ → List ℕ → ℕ → ℕ → Bool
+nearTree g table limit starts cuts flat c j = nearOne table (g .vertices) limit (treeVertices g (treeAt starts cuts flat c)) j
 
 -- Each row is marked where a root is near its tree; what stands behind the rows is as it came.
 pub record RowsMarked (test : ℕ → ℕ → Bool) (k : ℕ) (places before after : List ℕ) : Type 0 where

@@ -1,26 +1,28 @@
--- The vertex of a part that is nearest to a root, by a table of distances (document 01, step 5: "the part's nearest stop").
+-- The vertex of a part that is nearest to a root, by the row of the distances from it (document 01, step 5: "the part's nearest stop").
 -- Assumes nothing.
-use Prim.Native.Nat.{ℕ, _+_, _*_, _≤_, _<_}
+use Prim.Native.Nat.{ℕ, _≤_, _<_}
 use mathlib.Core.List.{List}
-use lib.ListN.{length}
+use lib.ListN.{length, getD}
 use Rattle.lists.specs.Member.{_∈_}
 use Rattle.graph.specs.Graph.{Graph}
+use Rattle.graph.specs.Bytes.{graphOf}
+use Rattle.graph.specs.Valid.{IsGraph}
 use Rattle.rules.specs.Cover.{Tree}
 use Rattle.rules.specs.Distance.{treeVertices}
-use Rattle.marks.specs.Near.{distanceIn, PartGiven}
 
--- The table has the distances of two vertices from root j.
-pub record LookGiven (table : List ℕ) (k j u v : ℕ) : Type 0 where
-  pub one : u * k + j < length table
-  pub other : v * k + j < length table
+-- The row has the distances of two vertices.
+pub record LookGiven (dist : List ℕ) (u v : ℕ) : Type 0 where
+  pub one : u < length dist
+  pub other : v < length dist
 
--- What is asked besides a part: a root among the k.
-pub record NearestGiven (b table : List ℕ) (k j start : ℕ) : Type 0 where
-  pub part : PartGiven b table start k
-  pub root : j < k
+-- What is asked: a graph's bytes, a distance for each of its vertices, and a start among them.
+pub record NearestGiven (b dist : List ℕ) (start : ℕ) : Type 0 where
+  pub graph : IsGraph b
+  pub room : graphOf b .vertices ≤ length dist
+  pub start-inside : start < graphOf b .vertices
 
--- r is a vertex that the tree covers, and none of those is nearer to root j.
-pub record Nearest (g : Graph) (table : List ℕ) (k j : ℕ) (t : Tree) (r : ℕ) : Type 0 where
+-- r is a vertex that the tree covers, and none of those is nearer to the root.
+pub record Nearest (g : Graph) (dist : List ℕ) (t : Tree) (r : ℕ) : Type 0 where
   pub covered : r ∈ treeVertices g t
-  pub nearest : (v : ℕ) → v ∈ treeVertices g t → distanceIn table k r j ≤ distanceIn table k v j
+  pub nearest : (v : ℕ) → v ∈ treeVertices g t → getD dist r 0 ≤ getD dist v 0
   pub inside : r < g .vertices

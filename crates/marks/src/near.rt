@@ -1,11 +1,9 @@
 // Which roots are near a part (document 01, step 5: "a yard whose distance to the part's nearest stop is at most B").
-// Distances stand in one table, vertex by vertex: that of vertex v from root j at v * k + j, so that all roots' distances to one vertex
-// are looked at side by side.
+// Distances stand in one table, root by root: that of vertex v from root j of n vertices at j * n + v.
 use edges::index::wide;
 ghost use mathlib.Core.Path.{_≡_};
 ghost use mathlib.Core.Bool.{cond};
-ghost use Prim.Native.Nat.{_+_, _*_, _≤_};
-ghost use lib.ListN.{length, getD};
+ghost use lib.ListN.{length};
 ghost use lib.Dec.{leb};
 ghost use Rattle.graph.specs.Bytes.{graphOf};
 ghost use Rattle.rules.specs.Distance.{treeVertices};
@@ -19,36 +17,27 @@ fn marked_near(mark: u8, distance: u32, limit: u32) -> u8
     if distance <= limit { 1 } else { mark }
 }
 
-// Marks each root whose distance to a vertex is at most the limit, by all roots' distances to that vertex.
-fn mark_near(distances: &[u32], limit: u32, row: &mut [u8])
-    requires { ⌜ length (now row) ≤ length (now distances) ⌝ }
-    ensures { λ _. ⌜ Marked (λ j. leb (getD (now (distances .entry)) j 0) limit) (now (row .entry)) (now (row .exit)) ⌝ }
+// Marks each root whose distance to vertex v is at most the limit.
+fn mark_vertex(b: &[u8], table: &[u32], v: usize, limit: u32, row: &mut [u8])
+    requires { ⌜ PartGiven (now b) (now table) v (length (now row)) ⌝ }
+    ensures { λ _. ⌜ Marked (λ j. leb (distanceIn (now (table .entry)) (graphOf (now (b .entry)) .vertices) v j) limit) (now (row .entry)) (now (row .exit)) ⌝ }
 {
+    let n = graph::vertex_count(b);
     let mut j = 0;
     while j < row.len() {
-        row[j] = marked_near(row[j], distances[j], limit);
+        row[j] = marked_near(row[j], table[j * n + v], limit);
         j += 1;
     }
-}
-
-// The same, by the table.
-fn mark_vertex(table: &[u32], v: usize, limit: u32, row: &mut [u8])
-    requires { ⌜ v * length (now row) + length (now row) ≤ length (now table) ⌝ }
-    ensures { λ _. ⌜ Marked (λ j. leb (distanceIn (now (table .entry)) (length (now (row .entry))) v j) limit) (now (row .entry)) (now (row .exit)) ⌝ }
-{
-    let from = v * row.len();
-    let to = from + row.len();
-    mark_near(&table[from..to], limit, row);
 }
 
 // Marks each root that is near an end of edge e.
 fn mark_ends(b: &[u8], table: &[u32], e: usize, limit: u32, row: &mut [u8])
     requires { ⌜ TableGiven (now b) (now table) (length (now row)) ⌝ }
-    ensures { λ _. ⌜ Marked (nearOne (now (table .entry)) (length (now (row .entry))) limit (endsOf (graphOf (now (b .entry))) e))
+    ensures { λ _. ⌜ Marked (nearOne (now (table .entry)) (graphOf (now (b .entry)) .vertices) limit (endsOf (graphOf (now (b .entry))) e))
         (now (row .entry)) (now (row .exit)) ⌝ }
 {
-    mark_vertex(table, graph::one_end(b, e), limit, row);
-    mark_vertex(table, graph::other_end(b, e), limit, row);
+    mark_vertex(b, table, graph::one_end(b, e), limit, row);
+    mark_vertex(b, table, graph::other_end(b, e), limit, row);
 }
 
 // Marks each root that is near the part with this start and these edges.
@@ -61,10 +50,10 @@ pub(crate) fn mark_part(
     row: &mut [u8],
 )
     requires { ⌜ PartGiven (now b) (now table) start (length (now row)) ⌝ }
-    ensures { λ _. ⌜ Marked (nearOne (now (table .entry)) (length (now (row .entry))) limit (treeVertices (graphOf (now (b .entry))) (treeOf start (now (edges .entry)))))
+    ensures { λ _. ⌜ Marked (nearOne (now (table .entry)) (graphOf (now (b .entry)) .vertices) limit (treeVertices (graphOf (now (b .entry))) (treeOf start (now (edges .entry)))))
         (now (row .entry)) (now (row .exit)) ⌝ }
 {
-    mark_vertex(table, start, limit, row);
+    mark_vertex(b, table, start, limit, row);
     let mut i = 0;
     while i < edges.len() {
         mark_ends(b, table, wide(edges[i]), limit, row);
@@ -84,7 +73,7 @@ fn mark_tree(
     row: &mut [u8],
 )
     requires { ⌜ TreeGiven (now b) (now table) (length (now row)) (now starts) (now cuts) (now flat) c ⌝ }
-    ensures { λ _. ⌜ Marked (nearTree (graphOf (now (b .entry))) (now (table .entry)) (length (now (row .entry))) limit
+    ensures { λ _. ⌜ Marked (nearTree (graphOf (now (b .entry))) (now (table .entry)) limit
         (now (starts .entry)) (now (cuts .entry)) (now (flat .entry)) c) (now (row .entry)) (now (row .exit)) ⌝ }
 {
     let start = wide(starts[c]);
@@ -106,7 +95,7 @@ pub fn mark_parts(
     rows: &mut [u8],
 )
     requires { ⌜ TreesGiven (now b) (now table) k (now starts) (now cuts) (now flat) (now places) (now rows) ⌝ }
-    ensures { λ _. ⌜ RowsMarked (nearTree (graphOf (now (b .entry))) (now (table .entry)) k limit
+    ensures { λ _. ⌜ RowsMarked (nearTree (graphOf (now (b .entry))) (now (table .entry)) limit
         (now (starts .entry)) (now (cuts .entry)) (now (flat .entry))) k (now (places .entry)) (now (rows .entry)) (now (rows .exit)) ⌝ }
 {
     let mut i = 0;

@@ -7,7 +7,7 @@ use native.Mathlib.Nat.{div-one, pow-succ', pow-le-pow-right, div-div-eq-div-mul
 use native.Mathlib.Omega.{arith}
 use lib.Dec.{eqb}
 use lib.Pow.{pow-pos}
-use Rattle.near.specs.Bits.{bitAt, Bits}
+use Rattle.near.specs.Bits.{bitAt}
 
 bit-first : (b : ℕ) → bitAt 0 b ≡ eqb (b % 2) 1
 unfolding bitAt
@@ -40,22 +40,22 @@ module _ (b : ℕ) (t : Bool) where
   doubled-fits : (m : ℕ) → b < 2 ^ m → 2 * b + cond t 1 0 < 2 ^ suc m
   doubled-fits m h = omega (arith, bit-small t, pow-succ' 2 m)
 
--- The tests from j on are made into bits, of as many as `size` says.
+-- The tests from j on are made into bits, of as many as `size` says, and the word has no other.
 pub record Gathering (size : ℕ) (test : ℕ → Bool) (j bits : ℕ) : Type 0 where
   pub within : j ≤ size
-  pub so-far : Bits (size - j) (λ i. test (j + i)) bits
+  pub each : (i : ℕ) → i < size - j → bitAt i bits ≡ test (j + i)
+  pub fits : bits < 2 ^ (size - j)
 
 module _ {size : ℕ} {test : ℕ → Bool} where
   pub gather-none : Gathering size test size 0
-  gather-none =
-      record { within = omega arith; so-far = record { each = λ j h. absurd (omega arith); fits = pow-pos (size - size) } }
+  gather-none = record { within = omega arith; each = λ i h. absurd (omega arith); fits = pow-pos (size - size) }
 
   module _ {j bits : ℕ} (g : Gathering size test j bits) where
     pub gather-fits : 0 < j → size ≤ 32 → bits < 2147483648
     gather-fits h few =
         let fewer : size - j ≤ 31 = omega arith in
         let most : 2 ^ (size - j) ≤ 2 ^ 31 = pow-le-pow-right (omega arith) fewer in
-        omega (arith, g .so-far .fits)
+        omega (arith, g .fits)
 
     -- The next bit, one place before.
     pub gather-more : 0 < j → Gathering size test (j - 1) (2 * bits + cond (test (j - 1)) 1 0)
@@ -63,22 +63,13 @@ module _ {size : ℕ} {test : ℕ → Bool} where
         let one-more : suc (size - j) ≡ size - (j - 1) = omega (arith, g .within) in
         record {
           within = omega (arith, g .within);
-          so-far =
-              record {
-                each = λ i l. each i (omega (arith, g .within));
-                fits = rw one-more at (doubled-fits bits (test (j - 1)) (size - j) (g .so-far .fits));
-              };
+          each = λ i l. each i (omega (arith, g .within));
+          fits = rw one-more at (doubled-fits bits (test (j - 1)) (size - j) (g .fits));
         }
       where
         each : (i : ℕ) → i < suc (size - j) → bitAt i (2 * bits + cond (test (j - 1)) 1 0) ≡ test (j - 1 + i)
         each zero l = doubled-first bits (test (j - 1)) ∙ ap test (omega arith)
-        each (suc i) l =
-            doubled-later bits (test (j - 1)) i ∙ g .so-far .each i (omega arith) ∙ ap test (omega arith)
+        each (suc i) l = doubled-later bits (test (j - 1)) i ∙ g .each i (omega arith) ∙ ap test (omega arith)
 
-    pub gather-all : j ≡ 0 → Bits size test bits
-    gather-all q =
-        let count : size - j ≡ size = omega arith in
-        record {
-          each = λ i l. g .so-far .each i (omega arith) ∙ ap test (omega arith);
-          fits = rw count at (g .so-far .fits);
-        }
+    pub gather-all : j ≡ 0 → (i : ℕ) → i < size → bitAt i bits ≡ test i
+    gather-all q i l = g .each i (omega arith) ∙ ap test (omega arith)

@@ -1,7 +1,7 @@
 -- Laws that belong to no one function, in reading order.
 -- a word of bits, made bit by bit
 pub mod BitsMade
--- the words of the vertices, one after the other
+-- the words of the vertices, root by root
 pub mod NearWords
 -- the bits of a word that joins two
 pub mod BitsLaws

@@ -1,47 +1,78 @@
--- The words of the vertices, written one after the other.
+-- The words of the vertices: one root's bit added to all of them, and one root after the other.
 -- Assumes nothing.
-use Prim.Native.Nat.{ℕ, _+_, _*_, _≤_, _<_}
+use Prim.Native.Nat.{ℕ, _+_, _*_, _-_, _≤_, _<_}
 use mathlib.Core.Path.{_≡_, refl, ap, _∙_}
+use mathlib.Core.Bool.{cond}
 use mathlib.Core.List.{List}
 use native.Mathlib.Omega.{arith}
 use lib.Dec.{leb}
-use lib.ListN.{length, getD, take, drop, set, length-set, length-drop}
-use lib.Seq.{getD-set-same, getD-set-other, length-take-le}
+use lib.ListN.{length, getD, take, drop, set, length-set}
+use lib.Seq.{getD-set-same, getD-set-other}
 use Rattle.lists.proofs.AfterStore.{at-or-not}
 use Rattle.marks.specs.Near.{distanceIn}
 use Rattle.marks.proofs.RowMarks.{part-at}
-use Rattle.near.specs.Bits.{bitAt, Bits}
-use Rattle.near.specs.Vertices.{NearVertices}
+use Rattle.near.specs.Vertices.{RootAsked, RootAdded, NearAsked, NearVertices}
+use Rattle.near.proofs.BitsMade.{Gathering, gather-none, gather-fits, gather-more, gather-all}
 
--- The words of the first v vertices are written.
-pub record NearWriting (k limit : ℕ) (table : List ℕ) (v : ℕ) (before after : List ℕ) : Type 0 where
+-- The word of vertex v with one root more.
+abbrev pub wordWith : ℕ → List ℕ → List ℕ → ℕ → ℕ
+wordWith limit row near v = 2 * getD near v 0 + cond (leb (getD row v 0) limit) 1 0
+
+-- The root is added to the words of the first v vertices, the others are as they came.
+pub record RootAdding (limit : ℕ) (row : List ℕ) (v : ℕ) (before after : List ℕ) : Type 0 where
   pub size : length after ≡ length before
-  pub done : (u j : ℕ) → u < v → j < k → bitAt j (getD after u 0) ≡ leb (distanceIn table k u j) limit
+  pub done : (u : ℕ) → u < v → getD after u 0 ≡ wordWith limit row before u
+  pub rest : (u : ℕ) → v ≤ u → getD after u 0 ≡ getD before u 0
 
-module _ {k limit : ℕ} {table : List ℕ} where
-  pub near-none : (before : List ℕ) → NearWriting k limit table 0 before before
-  near-none before = record { size = refl; done = λ u j h. absurd (omega arith) }
+module _ {limit : ℕ} {row : List ℕ} where
+  pub root-none : (before : List ℕ) → RootAdding limit row 0 before before
+  root-none before = record { size = refl; done = λ u h. absurd (omega arith); rest = λ u h. refl }
 
-  module _ {v : ℕ} {before after : List ℕ} (m : NearWriting k limit table v before after) where
-    -- The word of a row of the table, where the row's size is said in another way.
-    pub near-more : {s x : ℕ} → s ≡ k → v < length after → v * k + k ≤ length table
-        → Bits (length (take s (drop (v * k) table))) (λ j. leb (getD (take s (drop (v * k) table)) j 0) limit) x
-        → NearWriting k limit table (v + 1) before (set after v x)
-    near-more {s} {x} same h fits bits =
+  module _ {v : ℕ} {before after : List ℕ} (m : RootAdding limit row v before after) where
+    pub root-more : {x : ℕ} → v < length after → x ≡ wordWith limit row after v → RootAdding limit row (v + 1) before (set after v x)
+    root-more {x} h q =
         record {
           size = length-set after v x ∙ m .size;
           done =
-              λ u j l n.
-              at-or-not (λ u. u < v + 1 → bitAt j (getD (set after v x) u 0) ≡ leb (distanceIn table k u j) limit) v u
-              (λ _. ap (bitAt j) (getD-set-same after v x 0 h) ∙ this j n)
-              (λ away l. ap (bitAt j) (getD-set-other after v u x 0 away) ∙ m .done u j (omega arith) n) l;
+              λ u l.
+              at-or-not (λ u. u < v + 1 → getD (set after v x) u 0 ≡ wordWith limit row before u) v u
+              (λ _. getD-set-same after v x 0 h ∙ q ∙ ap (λ w. 2 * w + cond (leb (getD row v 0) limit) 1 0) (m .rest v (omega arith)))
+              (λ away l. getD-set-other after v u x 0 away ∙ m .done u (omega arith)) l;
+          rest = λ u l. getD-set-other after v u x 0 (omega arith) ∙ m .rest u (omega arith);
         }
-      where
-        row-size : length (take s (drop (v * k) table)) ≡ s
-        row-size = length-take-le s (drop (v * k) table) (simp length-drop (omega arith))
 
-        this : (j : ℕ) → j < k → bitAt j x ≡ leb (distanceIn table k v j) limit
-        this j n = bits .each j (omega (arith, row-size)) ∙ ap (λ d. leb d limit) (part-at (v * k) s table j (omega arith))
+    pub root-all : length after ≤ v → RootAdded limit row before after
+    root-all h = record { size = m .size; each = λ u l. m .done u (omega (arith, m .size)) }
 
-    pub near-all : length after ≤ v → NearVertices k limit table before after
-    near-all h = record { size = m .size; each = λ u j l n. m .done u j (omega (arith, m .size)) n }
+-- The roots from j on are added to the word of each vertex.
+pub record RootsAdding (k limit : ℕ) (table : List ℕ) (j : ℕ) (before after : List ℕ) : Type 0 where
+  pub within : j ≤ k
+  pub size : length after ≡ length before
+  pub each : (v : ℕ) → v < length before → Gathering k (λ i. leb (distanceIn table (length before) v i) limit) j (getD after v 0)
+
+module _ {k limit : ℕ} {table : List ℕ} where
+  pub roots-none : {before : List ℕ} → NearAsked k table before → RootsAdding k limit table k before before
+  roots-none asked = record { within = omega arith; size = refl; each = λ v h. rw (asked .zeros v h) gather-none }
+
+  module _ {j : ℕ} {before after : List ℕ} (m : RootsAdding k limit table j before after) (some : 0 < j) where
+    pub root-asked : {row : List ℕ} → k ≤ 32 → length after ≤ length row → RootAsked row after
+    root-asked few room = record { room = room; low = λ v h. gather-fits (m .each v (omega (arith, m .size))) some few }
+
+    -- One root more, the one before: its row is lent, whose size is said in another way.
+    pub roots-more : {n size : ℕ} {next : List ℕ} → n ≡ length before → size ≡ n
+        → RootAdded limit (take size (drop ((j - 1) * n) table)) after next → RootsAdding k limit table (j - 1) before next
+    roots-more {n} {size} {next} n-is same added =
+        record {
+          within = omega (arith, m .within);
+          size = added .size ∙ m .size;
+          each =
+              λ v h.
+              let here : getD (take size (drop ((j - 1) * n) table)) v 0 ≡ distanceIn table (length before) v (j - 1) =
+              part-at ((j - 1) * n) size table v (omega arith) ∙ ap (λ x. distanceIn table x v (j - 1)) n-is in
+              let word : getD next v 0 ≡ 2 * getD after v 0 + cond (leb (distanceIn table (length before) v (j - 1)) limit) 1 0 =
+              added .each v (omega (arith, m .size)) ∙ ap (λ d. 2 * getD after v 0 + cond (leb d limit) 1 0) here in
+              rw word (gather-more (m .each v h) some);
+        }
+
+  pub roots-all : {j : ℕ} {before after : List ℕ} → RootsAdding k limit table j before after → j ≡ 0 → NearVertices k limit table before after
+  roots-all m q = record { size = m .size; each = λ v i h l. gather-all (m .each v h) q i l }

@@ -1,19 +1,31 @@
 -- The roots near each vertex, by a table of distances.
 -- Assumes nothing.
-use Prim.Native.Nat.{ℕ, _*_, _≤_, _<_}
+use Prim.Native.Nat.{ℕ, _+_, _*_, _≤_, _<_}
 use mathlib.Core.Path.{_≡_}
+use mathlib.Core.Bool.{cond}
 use mathlib.Core.List.{List}
 use lib.Dec.{leb}
 use lib.ListN.{length, getD}
 use Rattle.marks.specs.Near.{distanceIn}
 use Rattle.near.specs.Bits.{bitAt}
 
--- What is asked: at most 32 roots, and a row of the table for each word.
+-- What adding a root asks: a distance for each word, and room for one bit more in each.
+pub record RootAsked (row near : List ℕ) : Type 0 where
+  pub room : length near ≤ length row
+  pub low : (v : ℕ) → v < length near → getD near v 0 < 2147483648
+
+-- Each word is doubled, with one more where the root's distance is within the limit: its bits went up by one, and the first is the root's.
+pub record RootAdded (limit : ℕ) (row before after : List ℕ) : Type 0 where
+  pub size : length after ≡ length before
+  pub each : (v : ℕ) → v < length before → getD after v 0 ≡ 2 * getD before v 0 + cond (leb (getD row v 0) limit) 1 0
+
+-- What is asked: at most 32 roots, a row of the table for each, and words of zero.
 pub record NearAsked (k : ℕ) (table near : List ℕ) : Type 0 where
   pub roots-few : k ≤ 32
-  pub room : length near * k ≤ length table
+  pub room : k * length near ≤ length table
+  pub zeros : (v : ℕ) → v < length near → getD near v 0 ≡ 0
 
 -- Each word says which of k roots are within the limit of its vertex.
 pub record NearVertices (k limit : ℕ) (table before after : List ℕ) : Type 0 where
   pub size : length after ≡ length before
-  pub each : (v j : ℕ) → v < length before → j < k → bitAt j (getD after v 0) ≡ leb (distanceIn table k v j) limit
+  pub each : (v j : ℕ) → v < length before → j < k → bitAt j (getD after v 0) ≡ leb (distanceIn table (length before) v j) limit

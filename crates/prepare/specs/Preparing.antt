@@ -58,7 +58,7 @@ pub record RootedRoom (n m k : ℕ) (order kept bounds all arcs table lasts : �
   pub all-room : 2 * m ≤ all
   pub arcs-room : 2 * n ≤ arcs
   pub spare-room : m ≤ arcs
-  pub table-room : n * k ≤ table
+  pub table-room : k * n ≤ table
   pub lasts-room : k * n ≤ lasts
 
 -- A graph's bytes, roots among its vertices, and room for its edges by number, their arcs, and the distances from all roots.
@@ -68,7 +68,7 @@ pub record DistancesAsked (b roots : List ℕ) (numbers bounds all table lasts :
   pub numbers-room : edgeCount (graphOf b) ≤ numbers
   pub bounds-room : graphOf b .vertices < bounds
   pub all-room : 2 * edgeCount (graphOf b) ≤ all
-  pub table-room : graphOf b .vertices * length roots ≤ table
+  pub table-room : length roots * graphOf b .vertices ≤ table
   pub lasts-room : length roots * graphOf b .vertices ≤ lasts
 
 -- What preparing asks where the crews have roots.

@@ -7,6 +7,7 @@ use mathlib.Core.Bool.{Bool, false}
 use mathlib.Core.List.{List, [], _++_, map}
 use mathlib.Core.Option.{none}
 use native.Mathlib.Omega.{arith}
+use lib.Dec.{leb}
 use lib.ListN.{length, getD, take, length-map, List·getD-append}
 use lib.Seq.{getD-take, length-take-le}
 use Rattle.lists.specs.Lists.{any}
@@ -25,6 +26,7 @@ use Rattle.rules.specs.RootedTrial.{rootedParts, partOf, mayGo}
 use Rattle.planner_laws.proofs.RootedPrepared.{pieces-of-whole}
 use Rattle.planner_laws.proofs.RootedPieces.{part-at}
 use Rattle.steps.specs.Touched.{partsTouched}
+use Rattle.marks.specs.Near.{distanceIn}
 use Rattle.near.specs.Bits.{bitAt}
 use Rattle.near.specs.Vertices.{NearAsked, NearVertices}
 use Rattle.near.specs.Parts.{PartsAsked, NearParts}
@@ -88,10 +90,10 @@ module _ {b roots : List ℕ} {limit : ℕ} {table walk : List ℕ} (f : FewRead
       let t = partOf parts i in
       around-inside g (t .start) valid (walk-inside valid (p .joined e n .leads) (one-end-below valid e)) (t .edges) v m
 
-  pub words-asked : {words : List ℕ} → length words ≡ g .vertices → NearAsked k table words
-  words-asked size =
+  pub words-asked : {words : List ℕ} → length words ≡ g .vertices → ((v : ℕ) → v < length words → getD words v 0 ≡ 0) → NearAsked k table words
+  words-asked size zeros =
       let d = f .counted .ready .asked .decidable in
-      record { roots-few = d .roots-few; room = rw size (d .distances .room) }
+      record { roots-few = d .roots-few; room = rw size (d .distances .room); zeros = zeros }
 
   -- The word of each vertex says which roots are within the limit of it. What stands behind the words is not looked at.
   module _ (front rest : List ℕ) {before : List ℕ} (words : NearVertices k limit table before front) (size : length before ≡ g .vertices) where
@@ -103,6 +105,7 @@ module _ {b roots : List ℕ} {limit : ℕ} {table walk : List ℕ} (f : FewRead
         let d = f .counted .ready .asked in
         ap (bitAt j) (List·getD-append front rest 0 v (omega (arith, words .size)))
         ∙ words .each v j (omega arith) l
+        ∙ ap (λ n. leb (distanceIn table n v j) limit) size
         ∙ says-within limit _ _ (omega (arith, d .limit-most)) (d .decidable .distances .each v j h l)
 
     -- Some vertex's word has root j exactly where the part may go to it.

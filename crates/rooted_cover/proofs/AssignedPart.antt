@@ -1,7 +1,7 @@
 -- The part that a root is assigned: its piece is among those placed, a path leads back from its nearest vertex, and that path, turned round,
 -- is a shortest one (document 01, steps 5 and 6).
 -- Assumes nothing.
-use Prim.Native.Nat.{ℕ, _≤_, _<_}
+use Prim.Native.Nat.{ℕ, _*_, _≤_, _<_}
 use mathlib.Core.Path.{_≡_, refl, sym, ap, _∙_}
 use mathlib.Core.Bool.{true}
 use mathlib.Core.List.{List, [], map-map}
@@ -28,7 +28,7 @@ use Rattle.rules.proofs.Linked.{turned}
 use Rattle.forest_laws.proofs.Forest.{forest-light}
 use Rattle.planner_laws.proofs.RootedPieces.{part-at, rooted-left}
 use Rattle.distance.specs.Trail.{trailOf}
-use Rattle.distance.specs.Shortest.{unreached}
+use Rattle.distance.specs.Shortest.{unreached, Shortest}
 use Rattle.pieces.specs.Pieces.{treeOf}
 use Rattle.marks.specs.Near.{distanceIn, nearOne}
 use Rattle.marks.specs.Nearest.{Nearest}
@@ -37,7 +37,11 @@ use Rattle.rooted_parts.specs.Placed.{TrialArrays, PartsPlaced}
 use Rattle.rooted_cover.specs.Tree.{BackGiven}
 use Rattle.rooted_parts.proofs.NearMeansMayGo.{near-reaches, more-edges, around-inside}
 use Rattle.marks.proofs.RootPath.{nearest-back, nearest-shortest-path}
-use Rattle.marks.proofs.RowMarks.{row-room}
+use Rattle.marks.proofs.RowMarks as rows
+
+-- An array with room for k rows of n has the whole of each.
+pub row-whole : (n : ℕ) (array : List ℕ) (j k : ℕ) → j < k → k * n ≤ length array → n ≤ length (rowOf n array j)
+row-whole n array j k h room = simp (length-take, length-drop) (omega (arith, rows.row-room j k n (length array) h room))
 
 -- The piece at place i.
 abbrev pub pieceAt : TrialArrays → ℕ → Tree
@@ -123,39 +127,43 @@ module _ {g : Graph} {roots : List ℕ} {limit : ℕ} {a : TrialArrays} {parts :
     abbrev root : ℕ
     root = getD roots (getD (a .out) i 0) 0
 
-    near-one : nearOne table (length roots) limit (treeVertices g (pieceAt a i)) (getD (a .out) i 0) ≡ true
+    near-one : nearOne table (g .vertices) limit (treeVertices g (pieceAt a i)) (getD (a .out) i 0) ≡ true
     unfolding mayGo
     near-one =
         near-reaches valid tabled limit small (pieceAt a i) (start-in i h) (getD (a .out) i 0) (byte-is-root i h)
         ∙ ap (λ t. reachesPart g limit root t) (sym (placed-part i h))
         ∙ may-go i h
 
+    abbrev dist : List ℕ
+    dist = rowOf (g .vertices) table (getD (a .out) i 0)
+
     -- So the nearest vertex of the part has a distance from its root.
-    nearest-reached : {v : ℕ} → Nearest g table (length roots) (getD (a .out) i 0) (pieceAt a i) v → distanceIn table (length roots) v (getD (a .out) i 0) < unreached
+    nearest-reached : {v : ℕ} → Nearest g dist (pieceAt a i) v → getD dist v 0 < unreached
     unfolding nearOne
     nearest-reached n =
-        let (u, m, t) = any-found (λ v. leb (distanceIn table (length roots) v (getD (a .out) i 0)) limit) (treeVertices g (pieceAt a i)) near-one in
-        omega (arith, n .nearest u m, leb-true (distanceIn table (length roots) u (getD (a .out) i 0)) limit t)
+        let j : ℕ = getD (a .out) i 0 in
+        let (u, m, t) = any-found (λ v. leb (distanceIn table (g .vertices) v j) limit) (treeVertices g (pieceAt a i)) near-one in
+        let there = rows.part-at (j * g .vertices) (g .vertices) table u (vertices-inside valid (pieceAt a i) (start-in i h) u m) in
+        omega (arith, n .nearest u m, there, leb-true (distanceIn table (g .vertices) u j) limit t)
 
-    module _ {lasts : List ℕ} (last : LastsTabled g roots table lasts) {v : ℕ} (n : Nearest g table (length roots) (getD (a .out) i 0) (pieceAt a i) v) where
+    module _ {lasts : List ℕ} (last : LastsTabled g roots table lasts) {v : ℕ} (n : Nearest g dist (pieceAt a i) v) where
       abbrev row : List ℕ
       row = rowOf (g .vertices) lasts (getD (a .out) i 0)
+
+      abbrev shortest : Shortest g root dist row
+      shortest = last .each (getD (a .out) i 0) (byte-is-root i h)
 
       -- A path leads back from it,
       pub part-back : BackGiven row root v 2048
       part-back =
-          let (dist, same, s) = last .each (getD (a .out) i 0) (byte-is-root i h) in
-          let fits = row-room (getD (a .out) i 0) (length roots) (g .vertices) (length lasts) (byte-is-root i h) (last .room) in
           let low = nearest-reached n in
-          let size : g .vertices ≤ length row = simp (length-take, length-drop) (omega (arith, fits)) in
           record {
-            trail = nearest-back s same n low size (omega (arith, valid .vertices-most));
-            marks = λ e m. omega (arith, s .path v (n .inside) (rw (same v (n .inside)) low) .inside e m, valid .edges-most);
+            trail = nearest-back shortest n low (row-whole (g .vertices) lasts _ _ (byte-is-root i h) (last .room)) (omega (arith, valid .vertices-most));
+            marks = λ e m. omega (arith, shortest .path v (n .inside) low .inside e m, valid .edges-most);
           }
 
       -- and it is a shortest path to the part.
       pub part-path : root < g .vertices → IsShortestPath g root (partOf (rootedParts g roots limit) i) (turned (trailOf row root v))
       part-path inside =
-          let (dist, same, s) = last .each (getD (a .out) i 0) (byte-is-root i h) in
           rw (placed-part i h)
-          (path-risen (nearest-shortest-path s same n (nearest-reached n) valid inside (vertices-inside valid (pieceAt a i) (start-in i h))))
+          (path-risen (nearest-shortest-path shortest n (nearest-reached n) valid inside (vertices-inside valid (pieceAt a i) (start-in i h))))

@@ -23,7 +23,7 @@ use Rattle.rooted_cover.proofs.AssignedPart.{pieceAt, byte-is-root, byt
 -- The path of part i, and the tree of its root: the path leads back from a nearest vertex of the part, and the tree is made with it.
 pub record PathFor (g : Graph) (table lasts roots : List ℕ) (a : TrialArrays) (tree : ℕ → List ℕ) (i : ℕ) (path : List ℕ) : Type 0 where
   pub vertex : ℕ
-  pub nearest : Nearest g table (length roots) (getD (a .out) i 0) (pieceAt a i) vertex
+  pub nearest : Nearest g (rowOf (g .vertices) table (getD (a .out) i 0)) (pieceAt a i) vertex
   pub path-is : path ≡ turned (trailOf (rowOf (g .vertices) lasts (getD (a .out) i 0)) (getD roots (getD (a .out) i 0) 0) vertex)
   pub tree-is : tree (getD (a .out) i 0)
       ≡ unionTree g (getD roots (getD (a .out) i 0) 0)
@@ -39,7 +39,7 @@ module _ {g : Graph} {roots : List ℕ} {limit : ℕ} {a : TrialArrays} {parts :
       j : ℕ
       j = getD (a .out) i 0
 
-      go : AssignedAre g table (rowOf (g .vertices) lasts j) (getD roots j 0) (a .starts) (a .cuts) (a .flat) (take parts (a .places)) (a .out) (length roots) j (trees j (byte-is-root p i h) .edges)
+      go : AssignedAre g (rowOf (g .vertices) table j) (rowOf (g .vertices) lasts j) (getD roots j 0) (a .starts) (a .cuts) (a .flat) (take parts (a .places)) (a .out) j (trees j (byte-is-root p i h) .edges)
           → (path : List ℕ) × PathFor g table lasts roots a tree i path
       go (none nobody q) = absurd (nobody i (omega (arith, places-many p)) refl)
       go (part k v l f n q) =

@@ -33,16 +33,16 @@ marked-none : {a b : List ℕ} → b ≡ a → Marked (λ e. member e []) a b
 unfolding member any
 marked-none q = record { size = ap length q; each = λ j h. ap (λ l. getD l j 0) q }
 
-module _ {g : Graph} {table last : List ℕ} {root : ℕ} {starts cuts flat places out : List ℕ} {k j : ℕ} where
+module _ {g : Graph} {dist last : List ℕ} {root : ℕ} {starts cuts flat places out : List ℕ} {j : ℕ} where
   -- The edges that were marked.
-  assigned-edges : {a b : List ℕ} → AssignedMarked g table last root starts cuts flat places out k j a b
-      → (edges : List ℕ) × (AssignedAre g table last root starts cuts flat places out k j edges) × Marked (λ e. member e edges) a b
+  assigned-edges : {a b : List ℕ} → AssignedMarked g dist last root starts cuts flat places out j a b
+      → (edges : List ℕ) × (AssignedAre g dist last root starts cuts flat places out j edges) × Marked (λ e. member e edges) a b
   assigned-edges (nobody h q) = ([], none h refl, marked-none q)
   assigned-edges (somebody i h f m) = (_, part i (m .vertex) h f (m .nearest) refl, m .marks)
 
   pub root-written : Valid g → (left : ℕ) {a b before after : List ℕ} {r : ℕ} → Marked (λ e. member e (segment cuts flat left)) (replicate 2048 0) a
-      → AssignedMarked g table last root starts cuts flat places out k j a b → TreeKept g b before after r
-      → RootWritten g table last root starts cuts flat left places out k j before after r
+      → AssignedMarked g dist last root starts cuts flat places out j a b → TreeKept g b before after r
+      → RootWritten g dist last root starts cuts flat left places out j before after r
   root-written valid left {b = b} m n t =
       let (edges, are, marks) = assigned-edges n in
       let all = marked-both (segment cuts flat left) edges m marks in

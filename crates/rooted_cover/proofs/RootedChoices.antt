@@ -146,7 +146,7 @@ module _ {g : Graph} {roots : List ℕ} {limit : ℕ} {a : TrialArrays} {parts :
         → tree j ≡ unionTree g (getD roots j 0) (own ++ leftAt (rootedPieces g roots limit) j) .edges
     tree-of-cover r = go (r .assigned)
       where
-        go : AssignedAre g table (rowOf (g .vertices) lasts j) (getD roots j 0) (a .starts) (a .cuts) (a .flat) (take parts (a .places)) (a .out) (length roots) j (r .edges)
+        go : AssignedAre g (rowOf (g .vertices) table j) (rowOf (g .vertices) lasts j) (getD roots j 0) (a .starts) (a .cuts) (a .flat) (take parts (a .places)) (a .out) j (r .edges)
             → tree j ≡ unionTree g (getD roots j 0) (own ++ leftAt (rootedPieces g roots limit) j) .edges
         go (none nobody q) = without-part (λ i l. nobody i (omega (arith, places-many p))) (r .is ∙ ap (λ x. unionTree g (getD roots j 0) (x ++ left) .edges) q)
         go (part i v l f n q) = with-part i (omega (arith, places-many p)) (f .here l)

@@ -12,7 +12,7 @@ use Rattle.graph.specs.Bytes.{graphOf}
 use Rattle.marks.specs.Tabled.{rowOf}
 use Rattle.rooted_cover.specs.Tree.{ReachGiven}
 use Rattle.rooted_cover.specs.CoverTrees.{RootsGiven, CoverAsked}
-use Rattle.rooted_cover.proofs.AssignedPart.{bytes-room, places-many, start-in, part-edge, left-edge, part-back}
+use Rattle.rooted_cover.proofs.AssignedPart.{bytes-room, byte-is-root, row-whole, places-many, start-in, part-edge, left-edge, part-back}
 
 module _ {b order table lasts roots starts cuts flat lefts places : List ℕ} {parts : ℕ} {out : List ℕ} {room : ℕ}
     (asked : CoverAsked b order table lasts roots starts cuts flat lefts places parts out room) where
@@ -21,12 +21,12 @@ module _ {b order table lasts roots starts cuts flat lefts places : List ℕ} {p
 
   -- The part of a root may be marked, with the path to it.
   reach : (j : ℕ) → j < length roots → (i : ℕ) → i < parts → getD out i 0 ≡ j
-      → ReachGiven b table (rowOf (g .vertices) lasts j) (length roots) j (getD roots j 0) (getD starts (getD places i 0) 0) (segment cuts flat (getD places i 0)) 2048
+      → ReachGiven b (rowOf (g .vertices) table j) (rowOf (g .vertices) lasts j) (getD roots j 0) (getD starts (getD places i 0) 0) (segment cuts flat (getD places i 0)) 2048
   reach j h i l q =
       let p = asked .placed in
       let valid = asked .graph .valid in
       rw (← q) (record {
-        part = record { part = record { given = record { graph = asked .graph; room = asked .distances .room }; start-inside = start-in p i l }; root = omega arith };
+        part = record { graph = asked .graph; room = row-whole (g .vertices) table _ _ (byte-is-root p i l) (asked .distances .room); start-inside = start-in p i l };
         marks = λ e m. omega (arith, part-edge p i l e m, valid .edges-most);
         back = λ v n. part-back p valid (asked .distances) (omega (arith, asked .limit-small)) i l (asked .last-edges) n;
       })
@@ -38,6 +38,7 @@ module _ {b order table lasts roots starts cuts flat lefts places : List ℕ} {p
       let many = places-many p in
       record {
         graph = asked .graph;
+        table-room = asked .distances .room;
         last-room = asked .last-edges .room;
         each =
             λ j h room l.

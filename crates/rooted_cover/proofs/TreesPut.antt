@@ -1,4 +1,4 @@
--- A root's tree, made with its row of the last edges and put behind the trees before it.
+-- A root's tree, made with its rows of the distances and the last edges, and put behind the trees before it.
 -- Assumes nothing.
 use Prim.Native.Nat.{ℕ, _+_, _*_, _-_, _≤_, _<_}
 use mathlib.Core.Path.{_≡_, refl, sym, ap, _∙_}
@@ -35,13 +35,13 @@ put-in-rest {at} {size} {r} {xs} {a} {rest} q h p =
       behind = place;
     }
 
-module _ (lasts : List ℕ) (j n : ℕ) where
+module _ (rows : List ℕ) (j n : ℕ) where
   -- The row of root j, by the places where it begins and ends.
   abbrev pub rowThere : List ℕ
-  rowThere = take (j * n + n - j * n) (drop (j * n) lasts)
+  rowThere = take (j * n + n - j * n) (drop (j * n) rows)
 
-  row-is : {m : ℕ} → n ≡ m → rowThere ≡ rowOf m lasts j
-  row-is q = let count : j * n + n - j * n ≡ n = omega arith in ap (λ x. take x (drop (j * n) lasts)) count ∙ ap (λ x. rowOf x lasts j) q
+  row-is : {m : ℕ} → n ≡ m → rowThere ≡ rowOf m rows j
+  row-is q = let count : j * n + n - j * n ≡ n = omega arith in ap (λ x. take x (drop (j * n) rows)) count ∙ ap (λ x. rowOf x rows j) q
 
 -- The row of root j, of k roots, lies in the array.
 pub row-fits : (j k n m size : ℕ) → n ≡ m → j < k → k * m ≤ size → j * n + n ≤ size
@@ -51,15 +51,15 @@ module _ {table lasts roots starts cuts flat lefts places out : List ℕ} {j n r
   -- What the tree asks, by the values read.
   pub tree-asked : {b order : List ℕ} → RootsGiven b order table lasts roots starts cuts flat lefts places out → j < length roots → n ≡ graphOf b .vertices → root ≡ getD roots j 0
       → left ≡ getD lefts j 0 → (room : List ℕ) → graphOf b .vertices ≤ length room
-      → RootGiven b order table (rowThere lasts j n) root starts cuts flat left places out (length roots) j room
-  tree-asked given h count is-root is-left room l = rw (row-is lasts j n count, is-root, is-left) (given .each j h room l)
+      → RootGiven b order (rowThere table j n) (rowThere lasts j n) root starts cuts flat left places out j room
+  tree-asked given h count is-root is-left room l = rw (row-is table j n count, row-is lasts j n count, is-root, is-left) (given .each j h room l)
 
   -- What it is, and where it stands.
   pub tree-put : {g : Graph} → n ≡ g .vertices → root ≡ getD roots j 0 → left ≡ getD lefts j 0 → {at size r : ℕ} {edges rest : List ℕ} → size ≡ length edges - at → at ≤ length edges
-      → RootWritten g table (rowThere lasts j n) root starts cuts flat left places out (length roots) j (take size (drop at edges)) rest r
+      → RootWritten g (rowThere table j n) (rowThere lasts j n) root starts cuts flat left places out j (take size (drop at edges)) rest r
       → TreePut g table lasts roots starts cuts flat lefts places out j at edges (take at edges ++ (rest ++ drop size (drop at edges))) (at + r)
   tree-put count is-root is-left q h w =
-      let there = rw (row-is lasts j n count, is-root, is-left) at w in
+      let there = rw (row-is table j n count, row-is lasts j n count, is-root, is-left) at w in
       record {
         tree = _;
         is-tree = record { edges = there .edges; assigned = there .assigned; is = refl };

@@ -22,16 +22,17 @@ use Rattle.rooted_cover.specs.Tree.{AssignedAre, RootGiven}
 -- root; where it has no part, of what is left there.
 pub record RootTree (g : Graph) (table lasts roots starts cuts flat lefts places out : List ℕ) (j : ℕ) (tree : List ℕ) : Type 0 where
   pub edges : List ℕ
-  pub assigned : AssignedAre g table (rowOf (g .vertices) lasts j) (getD roots j 0) starts cuts flat places out (length roots) j edges
+  pub assigned : AssignedAre g (rowOf (g .vertices) table j) (rowOf (g .vertices) lasts j) (getD roots j 0) starts cuts flat places out j edges
   pub is : tree ≡ unionTree g (getD roots j 0) (edges ++ segment cuts flat (getD lefts j 0)) .edges
 
--- What the trees of all roots ask: the graph's bytes, a row of last edges for each root, and of each root what its tree asks, wherever there
+-- What the trees of all roots ask: the graph's bytes, a row of distances and of last edges for each root, and of each what its tree asks, wherever there
 -- is room for an edge of each vertex.
 pub record RootsGiven (b order table lasts roots starts cuts flat lefts places out : List ℕ) : Type 0 where
   pub graph : IsGraph b
+  pub table-room : length roots * graphOf b .vertices ≤ length table
   pub last-room : length roots * graphOf b .vertices ≤ length lasts
   pub each : (j : ℕ) → j < length roots → (room : List ℕ) → graphOf b .vertices ≤ length room
-      → RootGiven b order table (rowOf (graphOf b .vertices) lasts j) (getD roots j 0) starts cuts flat (getD lefts j 0) places out (length roots) j room
+      → RootGiven b order (rowOf (graphOf b .vertices) table j) (rowOf (graphOf b .vertices) lasts j) (getD roots j 0) starts cuts flat (getD lefts j 0) places out j room
 
 -- What putting root j's tree behind the others asks besides: one of the roots, and room behind them.
 pub record TreeGivenAt (b order table lasts roots starts cuts flat lefts places out : List ℕ) (j at room : ℕ) : Type 0 where

@@ -50,51 +50,51 @@ pub record TreeKept (g : Graph) (marks before after : List ℕ) (r : ℕ) : Type
   pub kept : PutTo 0 (rise (keep g apart (filter (marked marks) (ordered g)))) before after r
   pub fewer : r < g .vertices
 
--- What marking a part and the path to it asks: a part and a root, a mark for each of the part's edges, and a path back from whichever of the
--- part's vertices is nearest.
-pub record ReachGiven (b table last : List ℕ) (k j root start : ℕ) (edges : List ℕ) (room : ℕ) : Type 0 where
-  pub part : NearestGiven b table k j start
+-- What marking a part and the path to it asks: the distances from the root, a mark for each of the part's edges, and a path back from whichever
+-- of the part's vertices is nearest.
+pub record ReachGiven (b dist last : List ℕ) (root start : ℕ) (edges : List ℕ) (room : ℕ) : Type 0 where
+  pub part : NearestGiven b dist start
   pub marks : (e : ℕ) → e ∈ edges → e < room
-  pub back : (v : ℕ) → Nearest (graphOf b) table k j (treeOf start edges) v → BackGiven last root v room
+  pub back : (v : ℕ) → Nearest (graphOf b) dist (treeOf start edges) v → BackGiven last root v room
 
 -- The edges of the part were marked, and of the path back from one of its nearest vertices.
-pub record ReachMarked (g : Graph) (table last : List ℕ) (k j root start : ℕ) (edges before after : List ℕ) : Type 0 where
+pub record ReachMarked (g : Graph) (dist last : List ℕ) (root start : ℕ) (edges before after : List ℕ) : Type 0 where
   pub vertex : ℕ
-  pub nearest : Nearest g table k j (treeOf start edges) vertex
+  pub nearest : Nearest g dist (treeOf start edges) vertex
   pub marks : Marked (λ e. member e (edges ++ trailOf last root vertex)) before after
 
 -- What marking root j's part asks: a byte for each place, pieces that are held, and, at a place whose byte is j, a piece that may be marked
 -- with the path to it. Of other places nothing is asked: no path need lead to them.
-pub record AssignedGiven (b table last : List ℕ) (root : ℕ) (starts cuts flat places out : List ℕ) (k j room : ℕ) : Type 0 where
+pub record AssignedGiven (b dist last : List ℕ) (root : ℕ) (starts cuts flat places out : List ℕ) (j room : ℕ) : Type 0 where
   pub bytes : length places ≤ length out
   pub held : AllHeld cuts flat places
   pub reach : (i : ℕ) → i < length places → getD out i 0 ≡ j
-      → ReachGiven b table last k j root (getD starts (getD places i 0) 0) (segment cuts flat (getD places i 0)) room
+      → ReachGiven b dist last root (getD starts (getD places i 0) 0) (segment cuts flat (getD places i 0)) room
 
 -- Nothing was marked where j stands at no place; otherwise the piece at its first place and a path to it were marked.
-pub data AssignedMarked (g : Graph) (table last : List ℕ) (root : ℕ) (starts cuts flat places out : List ℕ) (k j : ℕ) (before after : List ℕ) : Type 0 where
-  nobody : ((i : ℕ) → i < length places → getD out i 0 ≡ j → ⊥) → after ≡ before → AssignedMarked g table last root starts cuts flat places out k j before after
+pub data AssignedMarked (g : Graph) (dist last : List ℕ) (root : ℕ) (starts cuts flat places out : List ℕ) (j : ℕ) (before after : List ℕ) : Type 0 where
+  nobody : ((i : ℕ) → i < length places → getD out i 0 ≡ j → ⊥) → after ≡ before → AssignedMarked g dist last root starts cuts flat places out j before after
   somebody : (i : ℕ) → i < length places → FirstWith out (length places) j i
-      → ReachMarked g table last k j root (getD starts (getD places i 0) 0) (segment cuts flat (getD places i 0)) before after
-      → AssignedMarked g table last root starts cuts flat places out k j before after
+      → ReachMarked g dist last root (getD starts (getD places i 0) 0) (segment cuts flat (getD places i 0)) before after
+      → AssignedMarked g dist last root starts cuts flat places out j before after
 
 -- What a root's tree asks: the graph and its order, a piece left at the root, and parts that may be marked.
-pub record RootGiven (b order table last : List ℕ) (root : ℕ) (starts cuts flat : List ℕ) (left : ℕ) (places out : List ℕ) (k j : ℕ) (tree : List ℕ) : Type 0 where
+pub record RootGiven (b order dist last : List ℕ) (root : ℕ) (starts cuts flat : List ℕ) (left : ℕ) (places out : List ℕ) (j : ℕ) (tree : List ℕ) : Type 0 where
   pub asked : TreeAsked b order tree
   pub piece : PieceGiven cuts flat left 2048
-  pub assigned : AssignedGiven b table last root starts cuts flat places out k j 2048
+  pub assigned : AssignedGiven b dist last root starts cuts flat places out j 2048
 
 -- The edges of root j's part and of a path back from one of its nearest vertices; none where j stands at no place.
-pub data AssignedAre (g : Graph) (table last : List ℕ) (root : ℕ) (starts cuts flat places out : List ℕ) (k j : ℕ) (edges : List ℕ) : Type 0 where
-  none : ((i : ℕ) → i < length places → getD out i 0 ≡ j → ⊥) → edges ≡ [] → AssignedAre g table last root starts cuts flat places out k j edges
+pub data AssignedAre (g : Graph) (dist last : List ℕ) (root : ℕ) (starts cuts flat places out : List ℕ) (j : ℕ) (edges : List ℕ) : Type 0 where
+  none : ((i : ℕ) → i < length places → getD out i 0 ≡ j → ⊥) → edges ≡ [] → AssignedAre g dist last root starts cuts flat places out j edges
   part : (i v : ℕ) → i < length places → FirstWith out (length places) j i
-      → Nearest g table k j (treeOf (getD starts (getD places i 0) 0) (segment cuts flat (getD places i 0))) v
-      → edges ≡ segment cuts flat (getD places i 0) ++ trailOf last root v → AssignedAre g table last root starts cuts flat places out k j edges
+      → Nearest g dist (treeOf (getD starts (getD places i 0) 0) (segment cuts flat (getD places i 0))) v
+      → edges ≡ segment cuts flat (getD places i 0) ++ trailOf last root v → AssignedAre g dist last root starts cuts flat places out j edges
 
 -- The tree of the union was written.
-pub record RootWritten (g : Graph) (table last : List ℕ) (root : ℕ) (starts cuts flat : List ℕ) (left : ℕ) (places out : List ℕ) (k j : ℕ)
+pub record RootWritten (g : Graph) (dist last : List ℕ) (root : ℕ) (starts cuts flat : List ℕ) (left : ℕ) (places out : List ℕ) (j : ℕ)
     (before after : List ℕ) (r : ℕ) : Type 0 where
   pub edges : List ℕ
-  pub assigned : AssignedAre g table last root starts cuts flat places out k j edges
+  pub assigned : AssignedAre g dist last root starts cuts flat places out j edges
   pub written : PutTo 0 (unionTree g root (edges ++ segment cuts flat left) .edges) before after r
   pub fewer : r < g .vertices

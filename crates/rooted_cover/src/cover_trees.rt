@@ -32,7 +32,6 @@ fn put_tree(
         (now (flat .entry)) (now (lefts .entry)) (now (places .entry)) (now (out .entry)) j at (now (edges .entry)) (now (edges .exit)) r ⌝ }
 {
     let n = graph::vertex_count(b);
-    let k = roots.len();
     let root = wide(roots[j]);
     let left = element_at(lefts, j);
     let from = j * n;
@@ -40,7 +39,7 @@ fn put_tree(
     let r = rooted_tree(
         b,
         order,
-        table,
+        &table[from..to],
         &lasts[from..to],
         root,
         starts,
@@ -49,7 +48,6 @@ fn put_tree(
         left,
         places,
         out,
-        k,
         j,
         &mut edges[at..],
     );

@@ -60,23 +60,21 @@ fn keep_risen(b: &[u8], order: &[u16], marks: &[u8], tree: &mut [u16]) -> usize
     r
 }
 
-// Marks the edges of a part, and of the path from its vertex nearest to root j back to the root.
+// Marks the edges of a part, and of the path from its vertex nearest to the root back to the root, by the distances from the root and the last edges.
 fn mark_reach(
     b: &[u8],
-    table: &[u32],
+    dist: &[u32],
     last: &[u32],
-    k: usize,
-    j: usize,
     root: usize,
     start: usize,
     edges: &[u16],
     marks: &mut [u8],
 )
-    requires { ⌜ ReachGiven (now b) (now table) (now last) k j root start (now edges) (length (now marks)) ⌝ }
-    ensures { λ _. ⌜ ReachMarked (graphOf (now (b .entry))) (now (table .entry)) (now (last .entry)) k j root start (now (edges .entry))
+    requires { ⌜ ReachGiven (now b) (now dist) (now last) root start (now edges) (length (now marks)) ⌝ }
+    ensures { λ _. ⌜ ReachMarked (graphOf (now (b .entry))) (now (dist .entry)) (now (last .entry)) root start (now (edges .entry))
         (now (marks .entry)) (now (marks .exit)) ⌝ }
 {
-    let v = nearest_vertex(b, table, k, j, start, edges);
+    let v = nearest_vertex(b, dist, start, edges);
     mark_edges(edges, marks);
     mark_back(last, root, v, marks);
 }
@@ -84,7 +82,7 @@ fn mark_reach(
 // Marks the edges of the part that root j has, if it has one, and of the path to it.
 fn mark_assigned(
     b: &[u8],
-    table: &[u32],
+    dist: &[u32],
     last: &[u32],
     root: usize,
     starts: &[u16],
@@ -92,13 +90,12 @@ fn mark_assigned(
     flat: &[u16],
     places: &[u16],
     out: &[u8],
-    k: usize,
     j: usize,
     marks: &mut [u8],
 )
-    requires { ⌜ AssignedGiven (now b) (now table) (now last) root (now starts) (now cuts) (now flat) (now places) (now out) k j (length (now marks)) ⌝ }
-    ensures { λ _. ⌜ AssignedMarked (graphOf (now (b .entry))) (now (table .entry)) (now (last .entry)) root (now (starts .entry)) (now (cuts .entry)) (now (flat .entry))
-        (now (places .entry)) (now (out .entry)) k j (now (marks .entry)) (now (marks .exit)) ⌝ }
+    requires { ⌜ AssignedGiven (now b) (now dist) (now last) root (now starts) (now cuts) (now flat) (now places) (now out) j (length (now marks)) ⌝ }
+    ensures { λ _. ⌜ AssignedMarked (graphOf (now (b .entry))) (now (dist .entry)) (now (last .entry)) root (now (starts .entry)) (now (cuts .entry)) (now (flat .entry))
+        (now (places .entry)) (now (out .entry)) j (now (marks .entry)) (now (marks .exit)) ⌝ }
 {
     let i = place_with(out, places.len(), j);
     if places.len() <= i {
@@ -108,10 +105,8 @@ fn mark_assigned(
     let start = wide(element_at(starts, wide(c)));
     mark_reach(
         b,
-        table,
+        dist,
         last,
-        k,
-        j,
         root,
         start,
         piece_edges(cuts, flat, c),
@@ -124,7 +119,7 @@ fn mark_assigned(
 pub fn rooted_tree(
     b: &[u8],
     order: &[u16],
-    table: &[u32],
+    dist: &[u32],
     last: &[u32],
     root: usize,
     starts: &[u16],
@@ -133,19 +128,18 @@ pub fn rooted_tree(
     left: u16,
     places: &[u16],
     out: &[u8],
-    k: usize,
     j: usize,
     tree: &mut [u16],
 ) -> usize
-    requires { ⌜ RootGiven (now b) (now order) (now table) (now last) root (now starts) (now cuts) (now flat) left (now places) (now out) k j (now tree) ⌝ }
-    ensures { λ r. ⌜ RootWritten (graphOf (now (b .entry))) (now (table .entry)) (now (last .entry)) root (now (starts .entry)) (now (cuts .entry)) (now (flat .entry)) left
-        (now (places .entry)) (now (out .entry)) k j (now (tree .entry)) (now (tree .exit)) r ⌝ }
+    requires { ⌜ RootGiven (now b) (now order) (now dist) (now last) root (now starts) (now cuts) (now flat) left (now places) (now out) j (now tree) ⌝ }
+    ensures { λ r. ⌜ RootWritten (graphOf (now (b .entry))) (now (dist .entry)) (now (last .entry)) root (now (starts .entry)) (now (cuts .entry)) (now (flat .entry)) left
+        (now (places .entry)) (now (out .entry)) j (now (tree .entry)) (now (tree .exit)) r ⌝ }
 {
     let mut marks = [0u8; 2048];
     mark_piece(cuts, flat, left, &mut marks);
     mark_assigned(
         b,
-        table,
+        dist,
         last,
         root,
         starts,
@@ -153,7 +147,6 @@ pub fn rooted_tree(
         flat,
         places,
         out,
-        k,
         j,
         &mut marks,
     );

@@ -74,10 +74,10 @@ module _ (g : Graph) (start : ℕ) where
 -- A root is near a tree by the table exactly where its distance to the tree's nearest vertex is at most the limit.
 pub near-reaches : {g : Graph} → Valid g → {roots table : List ℕ} → DistancesTabled g roots table → (limit : ℕ) → limit < unreached
     → (t : Tree) → t .start < g .vertices → (j : ℕ) → j < length roots
-    → nearOne table (length roots) limit (treeVertices g t) j ≡ reachesPart g limit (getD roots j 0) (risen t)
+    → nearOne table (g .vertices) limit (treeVertices g t) j ≡ reachesPart g limit (getD roots j 0) (risen t)
 unfolding nearOne reachesPart treeVertices risen
 near-reaches {g} valid {roots} {table} tabled limit h t inside j l =
-    any-alike (λ v. leb (distanceIn table (length roots) v j) limit) (λ v. isWithin limit (getD (distances g (getD roots j 0)) v none))
+    any-alike (λ v. leb (distanceIn table (g .vertices) v j) limit) (λ v. isWithin limit (getD (distances g (getD roots j 0)) v none))
     (around g (t .start) (t .edges)) (around g (t .start) (rise (t .edges)))
     (more-edges g (t .start) (t .edges) (rise (t .edges)) (λ e. in-rise))
     (more-edges g (t .start) (rise (t .edges)) (t .edges) (λ e. of-rise (t .edges)))
@@ -95,7 +95,7 @@ mark-small false x y q z = omega arith
 module _ {g : Graph} {roots : List ℕ} {limit : ℕ} {a : PieceArrays} {p : ℕ} (valid : Valid g) (placed : PiecesPlaced g roots limit a p)
     {table : List ℕ} (tabled : DistancesTabled g roots table) (small : limit < unreached) {rows rows′ : List ℕ}
     (zero-rows : (x : ℕ) → x < length rows → getD rows x 0 ≡ 0) (room : p * length roots ≤ length rows)
-    (marks : RowsMarked (nearTree g table (length roots) limit (a .starts) (a .cuts) (a .flat)) (length roots) (take p (a .places)) rows rows′) where
+    (marks : RowsMarked (nearTree g table limit (a .starts) (a .cuts) (a .flat)) (length roots) (take p (a .places)) rows rows′) where
   many : length (take p (a .places)) ≡ p
   many = length-take-le p (a .places) (placed .parts-room)
 
@@ -109,14 +109,14 @@ module _ {g : Graph} {roots : List ℕ} {limit : ℕ} {a : PieceArrays} {p : ℕ
     row-says =
         let c : ℕ = getD (a .places) i 0 in
         let same : getD (take p (a .places)) i 0 ≡ c = getD-take p (a .places) i 0 h in
-        mark-says (nearTree g table (length roots) limit (a .starts) (a .cuts) (a .flat) c j) _ _
+        mark-says (nearTree g table limit (a .starts) (a .cuts) (a .flat) c j) _ _
         (rw same at (marks .each i j (omega (arith, many)) l)) (zero-rows (i * length roots + j) within)
         ∙ near-reaches valid tabled limit small (treeAt (a .starts) (a .cuts) (a .flat) c) (placed .trees i h .start-inside) j l
         ∙ ap (reachesPart g limit (getD roots j 0)) (sym (placed .part-is i h))
 
     row-small : getD rows′ (i * length roots + j) 0 ≤ 1
     row-small =
-        mark-small (nearTree g table (length roots) limit (a .starts) (a .cuts) (a .flat) (getD (take p (a .places)) i 0) j) _ _
+        mark-small (nearTree g table limit (a .starts) (a .cuts) (a .flat) (getD (take p (a .places)) i 0) j) _ _
         (marks .each i j (omega (arith, many)) l) (zero-rows (i * length roots + j) within)
 
   -- Every mark is 0 or 1.

@@ -109,7 +109,7 @@ module _ {b roots : List ℕ} {limit : ℕ} {table starts cuts flat places : Lis
 
 module _ {b roots : List ℕ} {limit : ℕ} {table starts cuts flat places : List ℕ} {p : ℕ} {rows out : List ℕ}
     (asked : RowsAsked b roots limit table starts cuts flat places p rows out) {rows′ : List ℕ}
-    (marks : RowsMarked (nearTree (graphOf b) table (length roots) limit starts cuts flat) (length roots) (take p places) rows rows′) where
+    (marks : RowsMarked (nearTree (graphOf b) table limit starts cuts flat) (length roots) (take p places) rows rows′) where
   abbrev y : ℕ
   y = length roots
 

@@ -14,7 +14,7 @@ use Rattle.graph.specs.Bytes.{graphOf}
 use Rattle.rules.specs.Distance.{treeVertices}
 use Rattle.pieces.specs.Pieces.{endsOf}
 use Rattle.marks.specs.Near.{nearOne, Marked}
-use Rattle.marks.proofs.RowMarks.{row-room, marked-on, marked-vertex, marked-nobody}
+use Rattle.marks.proofs.RowMarks.{marked-on, marked-vertex, marked-nobody}
 use Rattle.marks.proofs.near.mark_part.Statement.{statement}
 use Rattle.marks.proofs.near.mark_part.Tie as tie
 
@@ -24,7 +24,7 @@ endsUpTo g edges i = flat (map (endsOf g) (take i edges))
 
 abbrev Inv-loop : tie.InvT-loop
 Inv-loop b table start edges limit row₀ i₀ row i =
-    (i ≤ length edges) × Marked (nearOne table (length row₀) limit (endsUpTo (graphOf b) edges i)) row₀ row
+    (i ≤ length edges) × Marked (nearOne table (graphOf b .vertices) limit (endsUpTo (graphOf b) edges i)) row₀ row
 
 abbrev μ-loop : tie.MeasureT-loop
 μ-loop b table start edges limit row₀ i₀ row i = length edges - i
@@ -38,24 +38,22 @@ module _ (t : tie.After-mark-vertex Inv-loop μ-loop) where
   abbrev s₀ : tie.Start Inv-loop μ-loop
   s₀ = begun (t .before .before)
 
-  abbrev k : ℕ
-  k = length (s₀ .args .row .now)
+  abbrev n : ℕ
+  n = graphOf (s₀ .args .b .now) .vertices
 
-  marked-start : Marked (nearOne (s₀ .args .table .now) k (s₀ .args .limit) (s₀ .args .start ∷ [])) (s₀ .args .row .now) (t .mark-vertex .last .1 .1 .1 .0)
-  marked-start = marked-vertex (s₀ .args .table .now) k (s₀ .args .limit) _ (t .mark-vertex .ensures)
+  marked-start : Marked (nearOne (s₀ .args .table .now) n (s₀ .args .limit) (s₀ .args .start ∷ [])) (s₀ .args .row .now) (t .mark-vertex .last .1 .1 .1 .1 .0)
+  marked-start = marked-vertex (s₀ .args .table .now) n (s₀ .args .limit) _ (t .mark-vertex .ensures)
 
 -- At the head of the loop.
 module _ (l : tie.At-loop Inv-loop μ-loop) where
   abbrev t₁ : tie.After-mark-vertex Inv-loop μ-loop
   t₁ = l .before .before .before
 
-  row-size : length (l .loop .row) ≡ k t₁
+  row-size : length (l .loop .row) ≡ length (s₀ t₁ .args .row .now)
   row-size = l .loop .inv .1 .size ∙ marked-start t₁ .size
 
 mark-vertex-requires : tie.Need-mark-vertex-requires Inv-loop μ-loop
-mark-vertex-requires c κs =
-    let s = begun (c .before) in
-    row-room (s .args .start) (graphOf (s .args .b .now) .vertices) (length (s .args .row .now)) _ (s .pre .start-inside) (s .pre .given .room)
+mark-vertex-requires c κs = search needs
 
 loop-holds : tie.Need-loop-holds Inv-loop μ-loop
 unfolding flat
@@ -88,14 +86,13 @@ loop-again c =
     let inside = w .before .before .before .before in
     let l = inside .before in
     let s = s₀ (t₁ l) in
-    let row₀ = t₁ l .mark-vertex .last .1 .1 .1 .0 in
     let g = graphOf (s .args .b .now) in
     let edges = s .args .edges .now in
     let i = l .loop .i in (
       omega arith,
       rw (flat-map-next (endsOf g) edges i 0 (omega arith))
-          (marked-on (s .args .table .now) (length row₀) (s .args .limit) (endsUpTo g edges i) (endsOf g (getD edges i 0)) (l .loop .inv .1)
-          (rw (w .before .before .wide .ensures .is, l .loop .inv .1 .size) at (w .mark-ends .ensures))),
+          (marked-on (s .args .table .now) (g .vertices) (s .args .limit) (endsUpTo g edges i) (endsOf g (getD edges i 0)) (l .loop .inv .1)
+          (rw (w .before .before .wide .ensures .is) at (w .mark-ends .ensures))),
     )
 
 same-length : tie.Need-same-length Inv-loop μ-loop
@@ -109,8 +106,8 @@ returns c =
     let g = graphOf (s .args .b .now) in
     let edges = s .args .edges .now in
     let all : take (l .loop .i) edges ≡ edges = take-all (l .loop .i) edges (omega arith) in
-    marked-on (s .args .table .now) (k (t₁ l)) (s .args .limit) (s .args .start ∷ []) (flat (map (endsOf g) edges)) (marked-start (t₁ l))
-    (rw (all, marked-start (t₁ l) .size) at (l .loop .inv .1))
+    marked-on (s .args .table .now) (g .vertices) (s .args .limit) (s .args .start ∷ []) (flat (map (endsOf g) edges)) (marked-start (t₁ l))
+    (rw all at (l .loop .inv .1))
 
 pub mark-part-spec : {M : Type 1} → statement M
 mark-part-spec =

@@ -17,18 +17,18 @@ use Rattle.marks.proofs.near.mark_parts.Tie as tie
 
 abbrev Inv-loop : tie.InvT-loop
 Inv-loop b table limit k starts cuts flat places rows₀ i₀ rows i =
-    (i ≤ length places) × RowsMarking (nearTree (graphOf b) table k limit starts cuts flat) k places i rows₀ rows
+    (i ≤ length places) × RowsMarking (nearTree (graphOf b) table limit starts cuts flat) k places i rows₀ rows
 
 abbrev μ-loop : tie.MeasureT-loop
 μ-loop b table limit k starts cuts flat places rows₀ i₀ rows i = length places - i
 
--- What is asked and promised of a row of `size` marks and tree c is asked and promised of k marks and tree d, where these are the same.
+-- What is asked of a row of `size` marks and tree c is asked of k marks and tree d, where these are the same; so with what is promised.
 module _ {size k c d : ℕ} (same-size : size ≡ k) (same-tree : c ≡ d) where
   given-for : {b table starts cuts flat : List ℕ} → TreeGiven b table k starts cuts flat d → TreeGiven b table size starts cuts flat c
   given-for x = let q : size ≡ k = same-size in let r : c ≡ d = same-tree in rw (q, r) x
 
-  marked-for : (test : ℕ → ℕ → ℕ → Bool) {before after : List ℕ} → Marked (test size c) before after → Marked (test k d) before after
-  marked-for test x = let q : size ≡ k = same-size in let r : c ≡ d = same-tree in rw (q, r) at x
+  marked-for : (test : ℕ → ℕ → Bool) {before after : List ℕ} → Marked (test c) before after → Marked (test d) before after
+  marked-for test x = let r : c ≡ d = same-tree in rw r at x
 
 -- At the head of the loop: what came, and the rows so far.
 module _ (l : tie.At-loop Inv-loop μ-loop) where
@@ -113,7 +113,7 @@ loop-again c =
     let w = r .before .before in
     let p = t w in
     let a = s₀ (l p) .args in
-    let test : ℕ → ℕ → ℕ → Bool = λ k c. nearTree (graphOf (a .b .now)) (a .table .now) k (a .limit) (a .starts .now) (a .cuts .now) (a .flat .now) c in (
+    let test : ℕ → ℕ → Bool = nearTree (graphOf (a .b .now)) (a .table .now) (a .limit) (a .starts .now) (a .cuts .now) (a .flat .now) in (
       omega arith,
       rows-put (l p .loop .inv .1) (size p) (fits p) (marked-for (row-length p) (number w) test (r .mark-tree .ensures)),
     )

@@ -1,7 +1,7 @@
 -- `marks::near::mark_tree` meets its contract: what stands between the two bounds is the tree's segment. Assumes nothing.
 use Prim.Native.Nat.{ℕ, _+_, _-_, _^_}
 use mathlib.Core.List.{List}
-use lib.ListN.{length, getD, take, drop}
+use lib.ListN.{getD, take, drop}
 use Rattle.lists.specs.Segments.{segment}
 use Rattle.lists.proofs.SegmentSizes.{slice-taken}
 use Rattle.graph.specs.Graph.{Graph}
@@ -17,11 +17,11 @@ use Rattle.marks.proofs.near.mark_tree.Tie as tie
 -- The start and the two bounds are read: the part looked at is the tree.
 module _ {n : ℕ} {starts cuts flat : List ℕ} {c start from to : ℕ} (h : TreeHeld n starts cuts flat c)
     (s : Reads (getD starts c 0) (2 ^ 16) start) (p : Reads (getD cuts c 0) (2 ^ 16) from) (q : Reads (getD cuts (c + 1) 0) (2 ^ 16) to) where
-  the-tree : (g : Graph) (table : List ℕ) (k limit : ℕ) {before after : List ℕ}
-      → Marked (nearOne table k limit (treeVertices g (treeOf start (take (to - from) (drop from flat))))) before after
-      → Marked (nearTree g table k limit starts cuts flat c) before after
+  the-tree : (g : Graph) (table : List ℕ) (limit : ℕ) {before after : List ℕ}
+      → Marked (nearOne table (g .vertices) limit (treeVertices g (treeOf start (take (to - from) (drop from flat))))) before after
+      → Marked (nearTree g table limit starts cuts flat c) before after
   unfolding treeAt segment
-  the-tree g table k limit m =
+  the-tree g table limit m =
       rw (s .is, p .is, q .is, ← slice-taken (getD cuts c 0) (getD cuts (c + 1) 0) flat (h .held .forward) (h .held .inside)) at m
 
 mul-wide : tie.Need-mul-wide
@@ -80,7 +80,7 @@ returns c =
     let u = v .before .before in
     let s = u .before .before .before .before .before .before .before .before in
     the-tree (s .pre .tree) (u .wide .ensures) (v .wide2 .ensures) (w .wide3 .ensures) (graphOf (s .args .b .now)) (s .args .table .now)
-    (length (s .args .row .now)) (s .args .limit) (p .mark-part .ensures)
+    (s .args .limit) (p .mark-part .ensures)
 
 pub mark-tree-spec : {M : Type 1} → statement M
 mark-tree-spec =

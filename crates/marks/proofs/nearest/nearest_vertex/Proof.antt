@@ -1,38 +1,37 @@
 -- `marks::nearest::nearest_vertex` meets its contract. The loop's invariant: v is a vertex of the part, and neither the start nor an end
 -- of an edge before i is nearer. The measure is how many edges are left. Assumes nothing.
-use Prim.Native.Nat.{ℕ, _+_, _*_, _-_, _<_}
+use Prim.Native.Nat.{ℕ, _-_, _<_}
 use mathlib.Core.Path.{_≡_, ap, _∙_}
+use native.Mathlib.Omega.{arith}
 use lib.ListN.{length, getD}
 use borrow.Author.Needs.{needs}
 use Rattle.graph.specs.Graph.{Graph, oneEnd, otherEnd}
 use Rattle.graph.specs.Bytes.{graphOf}
 use Rattle.graph.specs.Valid.{Valid}
 use Rattle.graph.proofs.Ranges.{one-end-below, other-end-below}
-use Rattle.marks.specs.Near.{distanceIn}
 use Rattle.marks.proofs.NearestSoFar.{Nearing, nearing-start, nearing-more, nearing-all, mid-inside, nearerOf}
-use Rattle.marks.proofs.RowPlaces.{place-within}
 use Rattle.marks.proofs.nearest.nearest_vertex.Statement.{statement}
 use Rattle.marks.proofs.nearest.nearest_vertex.Tie as tie
 
 abbrev Inv-loop : tie.InvT-loop
-Inv-loop b table k j start edges v₀ i₀ v i = Nearing (graphOf b) table k j start edges i v
+Inv-loop b dist start edges v₀ i₀ v i = Nearing (graphOf b) dist start edges i v
 
 abbrev μ-loop : tie.MeasureT-loop
-μ-loop b table k j start edges v₀ i₀ v i = length edges - i
+μ-loop b dist start edges v₀ i₀ v i = length edges - i
 
--- What came: the graph, the table and the part.
+-- What came: the graph, the distances and the part.
 module _ (s : tie.Start Inv-loop μ-loop) where
   abbrev g : Graph
   g = graphOf (s .args .b .now)
 
   valid : Valid g
-  valid = s .pre .part .given .graph .valid
+  valid = s .pre .graph .valid
 
   abbrev far : ℕ → ℕ
-  far v = distanceIn (s .args .table .now) (s .args .k) v (s .args .j)
+  far v = getD (s .args .dist .now) v 0
 
-  within : (v : ℕ) → v < g .vertices → v * s .args .k + s .args .j < length (s .args .table .now)
-  within v h = place-within v (g .vertices) (s .args .k) (s .args .j) _ h (s .pre .root) (s .pre .part .given .room)
+  within : (v : ℕ) → v < g .vertices → v < length (s .args .dist .now)
+  within v h = omega (arith, s .pre .room)
 
 -- Where the ends of an edge were read.
 module _ (o : tie.After-other-end Inv-loop μ-loop) where
@@ -77,7 +76,7 @@ module _ (c : tie.After-nearer2 Inv-loop μ-loop) where
       ∙ ap (nearerOf (far (s (o n))) (nearerOne n)) (other (o n))
 
 loop-holds : tie.Need-loop-holds Inv-loop μ-loop
-loop-holds c = nearing-start _ _ _ _ _ _ (c .before .before .before .pre .part .start-inside)
+loop-holds c = nearing-start _ _ _ _ (c .before .before .before .pre .start-inside)
 
 mul-wide : tie.Need-mul-wide Inv-loop μ-loop
 mul-wide c = search needs
@@ -105,7 +104,7 @@ nearer-requires-2 : tie.Need-nearer-requires-2 Inv-loop μ-loop
 nearer-requires-2 c κs =
     let o = c .before in
     record {
-      one = rw (mid c) (within (s o) _ (mid-inside _ _ _ _ _ _ (l o .loop .inv) (valid (s o)) (turn o .loop-test .taken)));
+      one = rw (mid c) (within (s o) _ (mid-inside _ _ _ _ (l o .loop .inv) (valid (s o)) (turn o .loop-test .taken)));
       other = rw (other o) (within (s o) _ (other-end-below (valid (s o)) (e o)));
     }
 
@@ -118,10 +117,10 @@ loop-less c = search needs
 loop-again : tie.Need-loop-again Inv-loop μ-loop
 loop-again c =
     let o = c .before .before in
-    rw (last c) (nearing-more _ _ _ _ _ _ (l o .loop .inv) (valid (s o)) (turn o .loop-test .taken))
+    rw (last c) (nearing-more _ _ _ _ (l o .loop .inv) (valid (s o)) (turn o .loop-test .taken))
 
 returns : tie.Need-returns Inv-loop μ-loop
-returns c = nearing-all _ _ _ _ _ _ (c .before .loop .inv) (c .loop-test .left)
+returns c = nearing-all _ _ _ _ (c .before .loop .inv) (c .loop-test .left)
 
 pub nearest-vertex-spec : {M : Type 1} → statement M
 nearest-vertex-spec =

@@ -1,23 +1,24 @@
--- `marks::table::fill_table` meets its contract. The loop's invariant: the distances and the last edges of the first j roots are written.
+-- `marks::table::fill_table` meets its contract. The loop's invariant: the rows of the first j roots are filled.
 -- The measure is how many roots are left. Assumes nothing.
 use Prim.Native.Nat.{ℕ, _+_, _*_, _-_, _≤_}
 use mathlib.Core.Path.{_≡_}
+use mathlib.Core.List.{List}
 use native.Mathlib.Omega.{arith}
 use borrow.Author.Needs.{needs}
 use lib.ListN.{length, getD, take, drop, length-drop}
 use lib.Seq.{length-take-le}
 use Rattle.marks.proofs.RowMarks.{row-room}
-use Rattle.marks.proofs.ColumnsWritten.{TableUnderway, table-none, table-put, table-all}
+use Rattle.marks.proofs.RowsFilled.{TableUnderway, table-none, table-put, table-all}
 use Rattle.marks.proofs.table.fill_table.Statement.{statement}
 use Rattle.marks.proofs.table.fill_table.Tie as tie
 
 abbrev Inv-loop : tie.InvT-loop
-Inv-loop n bounds arcs roots table₀ lasts₀ k j₀ table lasts j = TableUnderway n bounds arcs roots j table₀ table lasts₀ lasts
+Inv-loop n bounds arcs roots table₀ lasts₀ j₀ table lasts j = TableUnderway n bounds arcs roots j table₀ table lasts₀ lasts
 
 abbrev μ-loop : tie.MeasureT-loop
-μ-loop n bounds arcs roots table₀ lasts₀ k j₀ table lasts j = length roots - j
+μ-loop n bounds arcs roots table₀ lasts₀ j₀ table lasts j = length roots - j
 
--- In a turn: the room for root j's last edges.
+-- In a turn: the room for root j's row, in either array.
 module _ (t : tie.In-loop Inv-loop μ-loop) where
   abbrev l : tie.At-loop Inv-loop μ-loop
   l = t .before
@@ -31,15 +32,20 @@ module _ (t : tie.In-loop Inv-loop μ-loop) where
   abbrev j : ℕ
   j = l .loop .j
 
-  fits : j * n + n ≤ length (l .loop .lasts)
-  fits =
-      row-room j (length (s .args .roots .now)) n _ (t .loop-test .taken) (omega (arith, s .pre .lasts-room, l .loop .inv .lasts-size))
+  fits : {size : ℕ} → length (s .args .roots .now) * n ≤ size → j * n + n ≤ size
+  fits {size} room = row-room j (length (s .args .roots .now)) n size (t .loop-test .taken) room
+
+  in-table : j * n + n ≤ length (l .loop .table)
+  in-table = fits (omega (arith, s .pre .table-room, l .loop .inv .table-size))
+
+  in-lasts : j * n + n ≤ length (l .loop .lasts)
+  in-lasts = fits (omega (arith, s .pre .lasts-room, l .loop .inv .lasts-size))
 
   size : j * n + n - j * n ≡ n
   size = omega arith
 
-  part-length : length (take (j * n + n - j * n) (drop (j * n) (l .loop .lasts))) ≡ n
-  part-length = rw size (length-take-le n (drop (j * n) (l .loop .lasts)) (simp length-drop (omega (arith, fits))))
+  row-length : (rows : List ℕ) → j * n + n ≤ length rows → length (take (j * n + n - j * n) (drop (j * n) rows)) ≡ n
+  row-length rows h = rw size (length-take-le n (drop (j * n) rows) (simp length-drop (omega arith)))
 
 -- Where the root was read.
 module _ (w : tie.After-wide Inv-loop μ-loop) where
@@ -62,34 +68,45 @@ wide-requires : tie.Need-wide-requires Inv-loop μ-loop
 wide-requires c κs = search needs
 
 mul-from : tie.Need-mul-from Inv-loop μ-loop
-mul-from c = let h = fits (t c) in search needs
+mul-from c = let h = in-table (t c) in search needs
 
 add-to : tie.Need-add-to Inv-loop μ-loop
-add-to c = let h = fits (t c) in search needs
+add-to c = let h = in-table (t c) in search needs
 
-mul-fill-root : tie.Need-mul-fill-root Inv-loop μ-loop
-mul-fill-root c = let h = fits (t (c .before)) in search needs
+mul-distances-from : tie.Need-mul-distances-from Inv-loop μ-loop
+mul-distances-from c = let h = in-table (t c) in search needs
 
-sub-fill-root : tie.Need-sub-fill-root Inv-loop μ-loop
-sub-fill-root c = let h = fits (t (c .before)) in search needs
+sub-distances-from : tie.Need-sub-distances-from Inv-loop μ-loop
+sub-distances-from c = let h = in-table (t c) in search needs
 
-part-fill-root-start : tie.Need-part-fill-root-start Inv-loop μ-loop
-part-fill-root-start c = let h = fits (t (c .before)) in search needs
+part-distances-from-start : tie.Need-part-distances-from-start Inv-loop μ-loop
+part-distances-from-start c = let h = in-table (t c) in search needs
 
-part-fill-root-end : tie.Need-part-fill-root-end Inv-loop μ-loop
-part-fill-root-end c = let h = fits (t (c .before)) in search needs
+part-distances-from-end : tie.Need-part-distances-from-end Inv-loop μ-loop
+part-distances-from-end c = in-table (t c)
 
-fill-root-requires : tie.Need-fill-root-requires Inv-loop μ-loop
-fill-root-requires c κs =
+mul-distances-from-2 : tie.Need-mul-distances-from-2 Inv-loop μ-loop
+mul-distances-from-2 c = let h = in-lasts (t (c .before)) in search needs
+
+sub-distances-from-2 : tie.Need-sub-distances-from-2 Inv-loop μ-loop
+sub-distances-from-2 c = let h = in-lasts (t (c .before)) in search needs
+
+part-distances-from-start-2 : tie.Need-part-distances-from-start-2 Inv-loop μ-loop
+part-distances-from-start-2 c = let h = in-lasts (t (c .before)) in search needs
+
+part-distances-from-end-2 : tie.Need-part-distances-from-end-2 Inv-loop μ-loop
+part-distances-from-end-2 c = in-lasts (t (c .before))
+
+distances-from-requires : tie.Need-distances-from-requires Inv-loop μ-loop
+distances-from-requires c κs =
     let w = c .before .before in
-    let p = s (t w) .pre in
-    let h = t w .loop-test .taken in
+    let u = t w in
+    let p = s u .pre in
     record {
       sound = p .sound;
-      root-inside = omega (arith, root-is w, p .roots-inside (j (t w)) h);
-      number = h;
-      table-room = omega (arith, p .table-room, l (t w) .loop .inv .table-size);
-      last-room = omega (arith, part-length (t w));
+      root-inside = omega (arith, root-is w, p .roots-inside (j u) (u .loop-test .taken));
+      dist-room = omega (arith, row-length u (l u .loop .table) (in-table u));
+      last-room = omega (arith, row-length u (l u .loop .lasts) (in-lasts u));
     }
 
 add-j : tie.Need-add-j Inv-loop μ-loop
@@ -102,7 +119,8 @@ loop-again : tie.Need-loop-again Inv-loop μ-loop
 loop-again c =
     let f = c .before .before .before .before in
     let w = f .before .before .before in
-    table-put _ _ _ _ (l (t w) .loop .inv) (t w .loop-test .taken) (fits (t w)) (size (t w)) (root-is w) (f .fill-root .ensures)
+    let u = t w in
+    table-put _ _ _ _ (l u .loop .inv) (u .loop-test .taken) (in-table u) (in-lasts u) (size u) (root-is w) (f .distances-from .ensures)
 
 same-length : tie.Need-same-length Inv-loop μ-loop
 same-length c = search needs
@@ -129,11 +147,15 @@ fill-table-spec =
     wide-requires
     mul-from
     add-to
-    mul-fill-root
-    sub-fill-root
-    part-fill-root-start
-    part-fill-root-end
-    fill-root-requires
+    mul-distances-from
+    sub-distances-from
+    part-distances-from-start
+    part-distances-from-end
+    mul-distances-from-2
+    sub-distances-from-2
+    part-distances-from-start-2
+    part-distances-from-end-2
+    distances-from-requires
     add-j
     loop-less
     loop-again

@@ -1,22 +1,23 @@
--- `near::vertices::near_vertices` meets its contract. The loop's invariant: the words of the first v vertices are written. The measure is how
--- many are left. Assumes nothing.
+-- `near::vertices::near_vertices` meets its contract. The loop's invariant: the roots from j on are added to the word of each vertex. The measure
+-- is j. Assumes nothing.
 use Prim.Native.Nat.{ℕ, _+_, _*_, _-_, _≤_}
-use mathlib.Core.Path.{_≡_}
+use mathlib.Core.Path.{_≡_, refl}
 use native.Mathlib.Omega.{arith}
 use borrow.Author.Needs.{needs}
-use lib.ListN.{length}
+use lib.ListN.{length, take, drop, length-drop}
+use lib.Seq.{length-take-le}
 use Rattle.marks.proofs.RowMarks.{row-room}
-use Rattle.near.proofs.NearWords.{NearWriting, near-none, near-more, near-all}
+use Rattle.near.proofs.NearWords.{RootsAdding, roots-none, root-asked, roots-more, roots-all}
 use Rattle.near.proofs.vertices.near_vertices.Statement.{statement}
 use Rattle.near.proofs.vertices.near_vertices.Tie as tie
 
 abbrev Inv-loop : tie.InvT-loop
-Inv-loop table k limit near₀ v₀ near v = NearWriting k limit table v near₀ near
+Inv-loop table k limit near₀ n j₀ near j = RootsAdding k limit table j near₀ near
 
 abbrev μ-loop : tie.MeasureT-loop
-μ-loop table k limit near₀ v₀ near v = length near₀ - v
+μ-loop table k limit near₀ n j₀ near j = j
 
--- In a turn: the table has the row of vertex v.
+-- In a turn: the table has the row of the root before j.
 module _ (t : tie.In-loop Inv-loop μ-loop) where
   abbrev l : tie.At-loop Inv-loop μ-loop
   l = t .before
@@ -24,17 +25,26 @@ module _ (t : tie.In-loop Inv-loop μ-loop) where
   abbrev s : tie.Start Inv-loop μ-loop
   s = l .before .before .before
 
+  abbrev n : ℕ
+  n = length (s .args .near .now)
+
   abbrev from : ℕ
-  from = l .loop .v * s .args .k
+  from = (l .loop .j - 1) * n
 
-  fits : from + s .args .k ≤ length (s .args .table .now)
-  fits = row-room (l .loop .v) (length (s .args .near .now)) (s .args .k) _ (omega (arith, t .loop-test .taken, l .loop .inv .size)) (s .pre .room)
+  fits : from + n ≤ length (s .args .table .now)
+  fits = row-room (l .loop .j - 1) (s .args .k) n _ (omega (arith, t .loop-test .taken, l .loop .inv .within)) (s .pre .room)
 
-  size : from + s .args .k - from ≡ s .args .k
+  size : from + n - from ≡ n
   size = omega arith
 
+  row-length : length (take (from + n - from) (drop from (s .args .table .now))) ≡ n
+  row-length = rw size (length-take-le n (drop from (s .args .table .now)) (simp length-drop (omega (arith, fits))))
+
 loop-holds : tie.Need-loop-holds Inv-loop μ-loop
-loop-holds c = near-none _
+loop-holds c = roots-none (c .before .before .pre)
+
+sub-j : tie.Need-sub-j Inv-loop μ-loop
+sub-j c = search needs
 
 mul-from : tie.Need-mul-from Inv-loop μ-loop
 mul-from c = let h = fits c in search needs
@@ -42,41 +52,37 @@ mul-from c = let h = fits c in search needs
 add-to : tie.Need-add-to Inv-loop μ-loop
 add-to c = let h = fits c in search needs
 
-mul-near-vertex : tie.Need-mul-near-vertex Inv-loop μ-loop
-mul-near-vertex c = let h = fits c in search needs
+mul-add-root : tie.Need-mul-add-root Inv-loop μ-loop
+mul-add-root c = let h = fits c in search needs
 
-sub-near-vertex : tie.Need-sub-near-vertex Inv-loop μ-loop
-sub-near-vertex c = search needs
+sub-add-root : tie.Need-sub-add-root Inv-loop μ-loop
+sub-add-root c = search needs
 
-part-near-vertex-start : tie.Need-part-near-vertex-start Inv-loop μ-loop
-part-near-vertex-start c = search needs
+part-add-root-start : tie.Need-part-add-root-start Inv-loop μ-loop
+part-add-root-start c = search needs
 
-part-near-vertex-end : tie.Need-part-near-vertex-end Inv-loop μ-loop
-part-near-vertex-end c = let h = fits c in search needs
+part-add-root-end : tie.Need-part-add-root-end Inv-loop μ-loop
+part-add-root-end c = fits c
 
-near-vertex-requires : tie.Need-near-vertex-requires Inv-loop μ-loop
-near-vertex-requires c κs = search needs
-
-mul-near : tie.Need-mul-near Inv-loop μ-loop
-mul-near c = search needs
-
-slice-write-near : tie.Need-slice-write-near Inv-loop μ-loop
-slice-write-near c = search needs
-
-add-v : tie.Need-add-v Inv-loop μ-loop
-add-v c = search needs
+add-root-requires : tie.Need-add-root-requires Inv-loop μ-loop
+add-root-requires c κs =
+    let t = c .before .before in
+    root-asked (l t .loop .inv) (t .loop-test .taken) (s t .pre .roots-few) (omega (arith, row-length t, l t .loop .inv .size))
 
 loop-less : tie.Need-loop-less Inv-loop μ-loop
-loop-less c = omega (arith, c .before .before .before .loop .inv .size)
+loop-less c = search needs
 
 loop-again : tie.Need-loop-again Inv-loop μ-loop
-loop-again c = let t = c .before .before in near-more (t .before .loop .inv) (size t) (t .loop-test .taken) (fits t) (c .near-vertex .ensures)
+loop-again c =
+    let r = c .before .before in
+    let t = r .before .before .before in
+    roots-more (l t .loop .inv) (t .loop-test .taken) refl (size t) (r .add-root .ensures)
 
 same-length : tie.Need-same-length Inv-loop μ-loop
 same-length c = search needs
 
 returns : tie.Need-returns Inv-loop μ-loop
-returns c = near-all (c .before .loop .inv) (c .loop-test .left)
+returns c = roots-all (c .before .loop .inv) (omega arith)
 
 pub near-vertices-spec : {M : Type 1} → statement M
 near-vertices-spec =
@@ -85,16 +91,14 @@ near-vertices-spec =
     Inv-loop
     μ-loop
     loop-holds
+    sub-j
     mul-from
     add-to
-    mul-near-vertex
-    sub-near-vertex
-    part-near-vertex-start
-    part-near-vertex-end
-    near-vertex-requires
-    mul-near
-    slice-write-near
-    add-v
+    mul-add-root
+    sub-add-root
+    part-add-root-start
+    part-add-root-end
+    add-root-requires
     loop-less
     loop-again
     same-length

@@ -1,10 +1,11 @@
 -- `rooted::decide::parts_near` meets its contract: the vertices' words are made, and the parts' by one pass over the walk. Assumes nothing.
-use Prim.Native.Nat.{ℕ, _≤_}
+use Prim.Native.Nat.{ℕ, _≤_, _<_}
 use mathlib.Core.Path.{_≡_, sym, _∙_}
 use mathlib.Core.List.{List, _++_}
 use native.Mathlib.Omega.{arith}
-use lib.ListN.{length, take, drop, replicate, length-append, length-drop, length-replicate}
-use lib.Seq.{length-take-le}
+use lib.ListN.{length, getD, take, drop, replicate, length-append, length-drop, length-replicate}
+use lib.Seq.{getD-take, length-take-le}
+use Rattle.lists.proofs.Zeros.{zeros-at}
 use Rattle.graph.specs.Graph.{Graph}
 use Rattle.graph.specs.Bytes.{graphOf}
 use Rattle.rooted.proofs.PartsNear.{words-asked, near-parts-asked, parts-near}
@@ -31,6 +32,9 @@ module _ (v : tie.After-vertex-count) where
 
   lent : length (take (v .vertex-count .result) zeros) ≡ v .vertex-count .result
   lent = length-take-le (v .vertex-count .result) zeros (omega (arith, few, length-replicate {A = ℕ} 256 0))
+
+  lent-zero : (u : ℕ) → u < length (take (v .vertex-count .result) zeros) → getD (take (v .vertex-count .result) zeros) u 0 ≡ 0
+  lent-zero u h = getD-take (v .vertex-count .result) zeros u 0 (omega (arith, lent)) ∙ zeros-at 256 u
 
 -- Where they are made: the words, and the array with them.
 module _ (w : tie.After-near-vertices) where
@@ -60,7 +64,7 @@ slice-aggregate-near-vertices : tie.Need-slice-aggregate-near-vertices
 slice-aggregate-near-vertices c = sym (lent (c .before))
 
 near-vertices-requires : tie.Need-near-vertices-requires
-near-vertices-requires c κs = let v = c .before in words-asked (s v .pre .ready) (lent v ∙ n-is v)
+near-vertices-requires c κs = let v = c .before in words-asked (s v .pre .ready) (lent v ∙ n-is v) (lent-zero v)
 
 slice-aggregate-near-parts : tie.Need-slice-aggregate-near-parts
 slice-aggregate-near-parts c = sym (all-words (c .before .before))

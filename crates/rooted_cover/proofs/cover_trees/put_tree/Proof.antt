@@ -37,9 +37,12 @@ module _ (e : tie.After-element-at) where
   left-is : e .element-at .result ≡ getD (s .args .lefts .now) (s .args .j) 0
   left-is = e .element-at .ensures
 
-  -- The root's row of last edges lies in the array.
-  row-there : s .args .j * n + n ≤ length (s .args .lasts .now)
-  row-there = row-fits (s .args .j) (length (s .args .roots .now)) n _ (length (s .args .lasts .now)) count (s .pre .root) (s .pre .given .last-room)
+  -- The root's row lies in either array.
+  in-table : s .args .j * n + n ≤ length (s .args .table .now)
+  in-table = row-fits (s .args .j) (length (s .args .roots .now)) n _ (length (s .args .table .now)) count (s .pre .root) (s .pre .given .table-room)
+
+  in-lasts : s .args .j * n + n ≤ length (s .args .lasts .now)
+  in-lasts = row-fits (s .args .j) (length (s .args .roots .now)) n _ (length (s .args .lasts .now)) count (s .pre .root) (s .pre .given .last-room)
 
 vertex-count-requires : tie.Need-vertex-count-requires
 vertex-count-requires c κs = search needs
@@ -57,13 +60,13 @@ element-at-requires : tie.Need-element-at-requires
 element-at-requires c κs = search needs
 
 mul-from : tie.Need-mul-from
-mul-from c = let h = row-there c in search needs
+mul-from c = let h = in-table c in search needs
 
 add-to : tie.Need-add-to
-add-to c = let h = row-there c in search needs
+add-to c = let h = in-table c in search needs
 
 mul-rooted-tree : tie.Need-mul-rooted-tree
-mul-rooted-tree c = let h = row-there c in search needs
+mul-rooted-tree c = let h = in-table c in search needs
 
 sub-rooted-tree : tie.Need-sub-rooted-tree
 sub-rooted-tree c = search needs
@@ -72,10 +75,10 @@ part-rooted-tree-start : tie.Need-part-rooted-tree-start
 part-rooted-tree-start c = search needs
 
 part-rooted-tree-end : tie.Need-part-rooted-tree-end
-part-rooted-tree-end c = row-there c
+part-rooted-tree-end c = in-table c
 
 mul-rooted-tree-2 : tie.Need-mul-rooted-tree-2
-mul-rooted-tree-2 c = search needs
+mul-rooted-tree-2 c = let h = in-lasts (c .before) in search needs
 
 sub-rooted-tree-2 : tie.Need-sub-rooted-tree-2
 sub-rooted-tree-2 c = search needs
@@ -84,17 +87,29 @@ part-rooted-tree-start-2 : tie.Need-part-rooted-tree-start-2
 part-rooted-tree-start-2 c = search needs
 
 part-rooted-tree-end-2 : tie.Need-part-rooted-tree-end-2
-part-rooted-tree-end-2 c = search needs
+part-rooted-tree-end-2 c = in-lasts (c .before)
+
+mul-rooted-tree-3 : tie.Need-mul-rooted-tree-3
+mul-rooted-tree-3 c = search needs
+
+sub-rooted-tree-3 : tie.Need-sub-rooted-tree-3
+sub-rooted-tree-3 c = search needs
+
+part-rooted-tree-start-3 : tie.Need-part-rooted-tree-start-3
+part-rooted-tree-start-3 c = search needs
+
+part-rooted-tree-end-3 : tie.Need-part-rooted-tree-end-3
+part-rooted-tree-end-3 c = search needs
 
 rooted-tree-requires : tie.Need-rooted-tree-requires
 rooted-tree-requires c κs =
-    let e = c .before .before in
+    let e = c .before .before .before in
     tree-asked (s e .pre .given) (s e .pre .root) (count e) (root-is e) (left-is e) _ (simp (length-take, length-drop) (omega (arith, s e .pre .fits)))
 
 add-result : tie.Need-add-result
 add-result c =
     let t = c .before .before in
-    let e = t .before .before .before in
+    let e = t .before .before .before .before in
     omega (arith, t .rooted-tree .ensures .fewer, s e .pre .fits, edges-few (s e))
 
 same-length : tie.Need-same-length
@@ -103,7 +118,7 @@ same-length c = search needs
 returns : tie.Need-returns
 returns c =
     let t = c .before .before in
-    let e = t .before .before .before in
+    let e = t .before .before .before .before in
     tree-put (count e) (root-is e) (left-is e) refl (omega (arith, s e .pre .fits)) (t .rooted-tree .ensures)
 
 pub put-tree-spec : {M : Type 1} → statement M
@@ -125,6 +140,10 @@ put-tree-spec =
     sub-rooted-tree-2
     part-rooted-tree-start-2
     part-rooted-tree-end-2
+    mul-rooted-tree-3
+    sub-rooted-tree-3
+    part-rooted-tree-start-3
+    part-rooted-tree-end-3
     rooted-tree-requires
     add-result
     same-length

@@ -13,12 +13,12 @@ use Rattle.rooted_cover.proofs.tree.mark_assigned.Statement.{statement}
 use Rattle.rooted_cover.proofs.tree.mark_assigned.Tie as tie
 
 -- What is asked and promised of a part depends only on its start and its edges.
-module _ {b table last : List ℕ} {k j root s₁ s₂ : ℕ} {e₁ e₂ : List ℕ} (p : s₁ ≡ s₂) (q : e₁ ≡ e₂) where
-  given-named : {room : ℕ} → ReachGiven b table last k j root s₂ e₂ room → ReachGiven b table last k j root s₁ e₁ room
+module _ {b dist last : List ℕ} {root s₁ s₂ : ℕ} {e₁ e₂ : List ℕ} (p : s₁ ≡ s₂) (q : e₁ ≡ e₂) where
+  given-named : {room : ℕ} → ReachGiven b dist last root s₂ e₂ room → ReachGiven b dist last root s₁ e₁ room
   given-named r = rw (p, q) r
 
-marked-as : {g : Graph} {table last : List ℕ} {k j root s₁ s₂ : ℕ} {e₁ e₂ before after : List ℕ} → s₁ ≡ s₂ → e₁ ≡ e₂
-    → ReachMarked g table last k j root s₁ e₁ before after → ReachMarked g table last k j root s₂ e₂ before after
+marked-as : {g : Graph} {dist last : List ℕ} {root s₁ s₂ : ℕ} {e₁ e₂ before after : List ℕ} → s₁ ≡ s₂ → e₁ ≡ e₂
+    → ReachMarked g dist last root s₁ e₁ before after → ReachMarked g dist last root s₂ e₂ before after
 marked-as p q r = rw q at (rw p at r)
 
 -- Where a place was found.
