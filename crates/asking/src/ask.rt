@@ -1,8 +1,8 @@
 // A question about a graph, prepared once and answered: a trial at a limit, or the best limit.
-use answers::answer_at;
-use answers::no_cover;
 use crate::ask_rooted::ask_rooted;
 use crate::ask_unrooted::ask_unrooted;
+use answers::answer_at;
+use answers::no_cover;
 use cover::crews::Kind;
 use pieces::pieces::number_up;
 use pieces::reply::Reply;

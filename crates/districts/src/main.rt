@@ -5,6 +5,7 @@
 // implementation. The replies in full go to standard error, as bytes, for a judge that knows which choices are free.
 mod text;
 
+use asking::ask::Asked;
 use cover::crews::Kind;
 use filed::check::check_cover;
 use gate_replies::file::file_reply;
@@ -13,7 +14,6 @@ use gate_replies::full::room;
 use libc::STDIN_FILENO;
 use libc::STDOUT_FILENO;
 use pieces::reply::Reply;
-use asking::ask::Asked;
 use planner::question::best;
 use planner::question::trial;
 use text::write_text;
