@@ -4,13 +4,12 @@ use Prim.Native.Nat.{ℕ, _+_, _≤_, _<_}
 use mathlib.Core.Path.{_≡_, refl, sym, ap, _∙_}
 use mathlib.Core.Bool.{true, false}
 use mathlib.Core.List.{List, [], _∷_}
-use mathlib.Core.Logic.{dite}
-use native.Mathlib.Decide.{ℕ-discrete}
 use native.Mathlib.Numerals.{add-one}
 use native.Mathlib.Omega.{arith}
 use borrow.Author.Tests.{lt-ltb, le-leb, lt-leb}
 use lib.ListN.{length, drop, getD, set, replicate, length-set, length-replicate}
-use lib.Seq.{drop-cons, drop-length, getD-set-same, getD-set-other}
+use lib.Seq.{drop-cons, drop-length}
+use Rattle.lists.proofs.AfterStore.{after-store}
 use Rattle.lists.proofs.Zeros.{zeros-at}
 use Rattle.rules.specs.Split.{reachesWeight}
 use Rattle.edges.specs.Around.{arcEdge, arcHead, arcWeight}
@@ -88,10 +87,7 @@ module _ {steps : List ℕ} {H : ℕ} {left : List ℕ} {parts i : ℕ} (c : Cou
 
     module _ {above bunch : ℕ} (above-is : above ≡ arcHead step) (inside : above < 256) (bunch-is : bunch ≡ getD left above 0 + piece) (light : piece < H) where
       kept-light : {w : ℕ} → w < H → (u : ℕ) → getD (set left above w) u 0 < H
-      kept-light {w} h u =
-          dite (ℕ-discrete u above)
-          (λ e. rw (e, getD-set-same left above w 0 (omega (arith, c .size))) h)
-          (λ e. rw (getD-set-other left above u w 0 e) (c .light u))
+      kept-light {w} h u = after-store (λ _ x. x < H) left above w u (omega (arith, c .size)) h (λ _. c .light u)
 
       -- The bunch with it is one,
       pub counting-full : H ≤ bunch → Counting steps H (set left above 0) (parts + 1) (i + 1)
