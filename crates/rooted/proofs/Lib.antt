@@ -9,6 +9,8 @@ pub mod PartsNear
 pub mod RowsNear
 -- arrays of zeros have room for the parts of every trial
 pub mod PartsReady
+-- as those that are lent have
+pub mod ArraysLent
 -- the three answers of a rooted trial
 pub mod RootedAnswers
 -- placed parts may be answered, and what is written is the answer

@@ -1,13 +1,12 @@
--- Arrays of zeros have room for the parts of every trial: at most 256 vertices and 32 roots.
+-- Arrays of zeros have room for the parts of every trial: at most 256 vertices and 32 roots. The rows, which are lent, have it where they are large
+-- enough.
 -- Assumes nothing.
-use Prim.Native.Nat.{ℕ}
+use Prim.Native.Nat.{ℕ, _*_, _≤_, _<_}
 use mathlib.Core.Path.{_≡_}
 use mathlib.Core.List.{List}
 use mathlib.Core.Option.{none}
-use native.Mathlib.Nat.{mul-le-mul-right}
 use native.Mathlib.Omega.{arith}
-use lib.ListN.{length, replicate, length-replicate}
-use Rattle.lists.proofs.Zeros.{zeros-at}
+use lib.ListN.{length, getD, replicate, length-replicate}
 use Rattle.graph.specs.Bytes.{graphOf}
 use Rattle.rules.specs.RootedTrial.{unjoinedAt}
 use Rattle.rooted.specs.Prepared.{WholeAround}
@@ -44,15 +43,15 @@ pieces-asked r around =
     }
 
 pub parts-asked : {b roots : List ℕ} {limit : ℕ} {bounds arcs table : List ℕ} → PartsReady b roots limit table → WholeAround b roots bounds arcs
-    → PartsAsked (graphOf b) b roots limit bounds arcs table emptyArrays (replicate 8192 0) (replicate 256 0)
-parts-asked {roots = roots} r around =
+    → {rows : List ℕ} → graphOf b .vertices * length roots ≤ length rows → ((x : ℕ) → x < length rows → getD rows x 0 ≡ 0)
+    → PartsAsked (graphOf b) b roots limit bounds arcs table emptyArrays rows (replicate 256 0)
+parts-asked r around room zero =
     let d = r .asked .decidable in
-    let most = d .graph .valid .vertices-most in
     record {
       pieces = pieces-asked r around;
       tabled = d .distances;
       limit-most = r .asked .limit-most;
-      rows-room = omega (arith, mul-le-mul-right (length roots) most, d .roots-few, length-replicate {A = ℕ} 8192 0);
-      rows-zero = λ x _. zeros-at 8192 x;
-      out-room = omega (arith, most, length-replicate {A = ℕ} 256 0);
+      rows-room = room;
+      rows-zero = zero;
+      out-room = omega (arith, d .graph .valid .vertices-most, length-replicate {A = ℕ} 256 0);
     }

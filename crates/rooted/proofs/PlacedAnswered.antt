@@ -17,7 +17,7 @@ use Rattle.planner_laws.proofs.RootedSize.{rooted-parts-few}
 use Rattle.pieces.specs.Replies.{Answers}
 use Rattle.pieces.specs.declared.reply.Reply.{Reply}
 use Rattle.pieces.specs.declared.reply.Reply.the-variants.{Cover}
-use Rattle.rooted.specs.Answer.{AnswerAsked, JoinedAsked, PlacedGiven, SetReplied}
+use Rattle.rooted.specs.Answer.{AnswerAsked, JoinedAsked, JoinedLent, PlacedGiven, SetReplied}
 use Rattle.rooted_cover.specs.CoverTrees.{CoverAsked, CoverAtLimits}
 use Rattle.rooted.specs.Decide.{PartsReady}
 use Rattle.rooted_parts.specs.Placed.{TrialArrays, trialArrays, PartsPlaced}
@@ -31,39 +31,41 @@ pub joined-asked : {b roots : List ℕ} {limit : ℕ} {order kept bounds arcs ta
     → JoinedAsked b roots limit order bounds arcs table lasts room
 joined-asked a joined = record { asked = rw (a .prepared .decidable .forest) at a; joined = joined }
 
-module _ {b roots : List ℕ} {limit : ℕ} {order bounds arcs table lasts : List ℕ} {room : ℕ} (j : JoinedAsked b roots limit order bounds arcs table lasts room) where
+module _ {b roots : List ℕ} {limit : ℕ} {order bounds arcs table lasts rows : List ℕ} {edges-room room : ℕ}
+    (l : JoinedLent b roots limit order bounds arcs table lasts rows edges-room room) where
   -- The parts may be placed,
   pub joined-ready : PartsReady b roots limit table
   joined-ready =
-      let a = j .asked in
+      let a = l .asked .asked in
       record {
         asked = record { decidable = a .prepared .decidable; roots-some = a .roots-some; limit-most = a .limit-most };
-        joined = j .joined;
+        joined = l .asked .joined;
       }
 
-  -- and where they are, with 8,192 marks or more in the rows, they may be answered.
-  pub placed-given : {a : TrialArrays} {parts : ℕ} {assigned : Bool} → PartsPlaced (graphOf b) roots limit a parts assigned → 8192 ≤ length (a .rows)
-      → PlacedGiven b roots limit order table lasts a parts assigned room
+  -- and where they are, in rows no shorter than those lent, they may be answered.
+  pub placed-given : {a : TrialArrays} {parts : ℕ} {assigned : Bool} → PartsPlaced (graphOf b) roots limit a parts assigned → length rows ≤ length (a .rows)
+      → PlacedGiven b roots limit order table lasts a parts assigned edges-room room
   placed-given {parts = parts} placed large =
-      let d = j .asked .prepared .decidable in
-      let few : parts ≤ 256 =
-      omega (arith, placed .parts-count, rooted-parts-few (graphOf b) roots limit (d .graph .valid), d .graph .valid .vertices-most) in
+      let asked = l .asked .asked in
+      let d = asked .prepared .decidable in
+      let few : parts ≤ graphOf b .vertices = omega (arith, placed .parts-count, rooted-parts-few (graphOf b) roots limit (d .graph .valid)) in
       record {
         graph = d .graph;
-        in-order = j .asked .prepared .in-order;
+        in-order = asked .prepared .in-order;
         roots-inside = d .roots-inside;
         roots-few = d .roots-few;
         distances = d .distances;
-        last-edges = j .asked .prepared .last-edges;
-        limit-most = j .asked .limit-most;
-        joined = j .joined;
+        last-edges = asked .prepared .last-edges;
+        limit-most = asked .limit-most;
+        joined = l .asked .joined;
         placed = placed;
-        rows-room = omega (arith, mul-le-mul-right (length roots) few, d .roots-few, large);
-        most = j .asked .most;
+        rows-room = omega (arith, mul-le-mul-right (length roots) few, l .rows-room);
+        edges-fit = l .edges-fit;
+        most = asked .most;
       }
 
-module _ {b roots : List ℕ} {limit : ℕ} {order table lasts starts cuts flat lefts places rows out : List ℕ} {parts : ℕ} {assigned : Bool} {room : ℕ}
-    (p : PlacedGiven b roots limit order table lasts (trialArrays starts cuts flat lefts places rows out) parts assigned room) where
+module _ {b roots : List ℕ} {limit : ℕ} {order table lasts starts cuts flat lefts places rows out : List ℕ} {parts : ℕ} {assigned : Bool}
+    {edges-room room : ℕ} (p : PlacedGiven b roots limit order table lasts (trialArrays starts cuts flat lefts places rows out) parts assigned edges-room room) where
   abbrev g : Graph
   g = graphOf b
 
@@ -74,7 +76,7 @@ module _ {b roots : List ℕ} {limit : ℕ} {order table lasts starts cuts flat 
   decided t q = sym (placed-as t q .assigned-is)
 
   -- Where each part has a root of its own, the cover may be written,
-  pub cover-asked : assigned ≡ true → CoverAsked b order table lasts roots starts cuts flat lefts places parts out room
+  pub cover-asked : assigned ≡ true → CoverAsked b order table lasts roots starts cuts flat lefts places parts out edges-room room
   cover-asked q =
       record {
         graph = p .graph;
@@ -87,6 +89,7 @@ module _ {b roots : List ℕ} {limit : ℕ} {order table lasts starts cuts flat 
         limit-small = p .limit-most;
         rows = rows;
         placed = placed-as true q;
+        edges-fit = p .edges-fit;
         most = p .most;
       }
 

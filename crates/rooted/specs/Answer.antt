@@ -32,8 +32,21 @@ pub record JoinedAsked (b roots : List ℕ) (limit : ℕ) (order bounds arcs tab
   pub asked : AnswerAsked b roots limit order (keep (graphOf b) (together roots) (ordered (graphOf b))) bounds arcs table lasts room
   pub joined : unjoinedAt (graphOf b) roots limit ≡ none
 
--- What is asked where the parts are placed: the arrays of the trial, with a row for each part.
-pub record PlacedGiven (b roots : List ℕ) (limit : ℕ) (order table lasts : List ℕ) (a : TrialArrays) (parts : ℕ) (assigned : Bool) (room : ℕ) : Type 0 where
+-- The same, with the arrays that are lent for it: for each vertex and each root a zero in the rows, and room for an edge.
+pub record JoinedLent (b roots : List ℕ) (limit : ℕ) (order bounds arcs table lasts rows : List ℕ) (edges-room room : ℕ) : Type 0 where
+  pub asked : JoinedAsked b roots limit order bounds arcs table lasts room
+  pub rows-room : graphOf b .vertices * length roots ≤ length rows
+  pub rows-zero : (x : ℕ) → x < length rows → getD rows x 0 ≡ 0
+  pub edges-fit : length roots * graphOf b .vertices ≤ edges-room
+
+-- The same without them, where vertices and roots are so few that small arrays are enough.
+pub record JoinedSmall (b roots : List ℕ) (limit : ℕ) (order bounds arcs table lasts : List ℕ) (room : ℕ) : Type 0 where
+  pub asked : JoinedAsked b roots limit order bounds arcs table lasts room
+  pub small : graphOf b .vertices * length roots ≤ 512
+
+-- What is asked where the parts are placed: the arrays of the trial, with a row for each part, and for each root room for an edge of each vertex.
+pub record PlacedGiven (b roots : List ℕ) (limit : ℕ) (order table lasts : List ℕ) (a : TrialArrays) (parts : ℕ) (assigned : Bool)
+    (edges-room room : ℕ) : Type 0 where
   pub graph : IsGraph b
   pub in-order : order ≡ ordered (graphOf b)
   pub roots-inside : (j : ℕ) → j < length roots → getD roots j 0 < graphOf b .vertices
@@ -44,6 +57,7 @@ pub record PlacedGiven (b roots : List ℕ) (limit : ℕ) (order table lasts : L
   pub joined : unjoinedAt (graphOf b) roots limit ≡ none
   pub placed : PartsPlaced (graphOf b) roots limit a parts assigned
   pub rows-room : parts * length roots ≤ length (a .rows)
+  pub edges-fit : length roots * graphOf b .vertices ≤ edges-room
   pub most : 32708 ≤ room
 
 -- The parts of a deficient set were written, and the reply says their number ("T") and that of the roots allowed to them ("D").

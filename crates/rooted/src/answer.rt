@@ -4,13 +4,14 @@ use pieces::reply::Reply;
 use pieces::whole::light_forest;
 use pieces::whole::stop_at;
 use rooted_cover::cover_trees::write_rooted;
+use rooted_parts::parts::Placed;
 use rooted_parts::parts::place_parts;
 use rooted_parts::too_low_parts::write_deficient;
 ghost use lib.ListN.{length};
 ghost use Rattle.graph.specs.Bytes.{graphOf};
 ghost use Rattle.rules.specs.Cover.{rooted};
 ghost use Rattle.pieces.specs.Replies.{Answers};
-ghost use Rattle.rooted.specs.Answer.{AnswerAsked, JoinedAsked, PlacedGiven, SetReplied};
+ghost use Rattle.rooted.specs.Answer.{AnswerAsked, JoinedAsked, JoinedLent, JoinedSmall, PlacedGiven, SetReplied};
 ghost use Rattle.rooted_parts.specs.Placed.{trialArrays};
 ghost use Rattle.rooted_parts.specs.TooLowParts.{SetGiven};
 
@@ -49,16 +50,17 @@ fn answer_placed(
     places: &[u16],
     rows: &[u8],
     out: &[u8],
-    parts: usize,
-    assigned: bool,
+    placed: Placed,
+    edges: &mut [u16],
     buf: &mut [u8],
 ) -> Reply
     requires { ⌜ PlacedGiven (now b) (now roots) limit (now order) (now table) (now lasts)
-        (trialArrays (now starts) (now cuts) (now flat) (now lefts) (now places) (now rows) (now out)) parts assigned (length (now buf)) ⌝ }
+        (trialArrays (now starts) (now cuts) (now flat) (now lefts) (now places) (now rows) (now out)) (placed .parts) (placed .assigned)
+        (length (now edges)) (length (now buf)) ⌝ }
     ensures { λ r. ⌜ Answers (graphOf (now (b .entry))) (rooted (now (roots .entry))) limit (now (buf .entry)) (now (buf .exit)) r ⌝ }
 {
     let k = roots.len();
-    if assigned {
+    if placed.assigned {
         let heaviest = write_rooted(
             b,
             order,
@@ -70,16 +72,17 @@ fn answer_placed(
             flat,
             lefts,
             places,
-            parts,
+            placed.parts,
             out,
+            edges,
             buf,
         );
         return Reply::Cover(limit, heaviest, k);
     }
-    reply_deficient(starts, cuts, flat, places, parts, rows, out, k, buf)
+    reply_deficient(starts, cuts, flat, places, placed.parts, rows, out, k, buf)
 }
 
-// The answer where every vertex is joined to a root.
+// The answer where every vertex is joined to a root. The rows come as zeros.
 fn answer_parts(
     b: &[u8],
     roots: &[u16],
@@ -89,9 +92,12 @@ fn answer_parts(
     arcs: &[u64],
     table: &[u32],
     lasts: &[u32],
+    rows: &mut [u8],
+    edges: &mut [u16],
     buf: &mut [u8],
 ) -> Reply
-    requires { ⌜ JoinedAsked (now b) (now roots) limit (now order) (now bounds) (now arcs) (now table) (now lasts) (length (now buf)) ⌝ }
+    requires { ⌜ JoinedLent (now b) (now roots) limit (now order) (now bounds) (now arcs) (now table) (now lasts) (now rows) (length (now edges))
+        (length (now buf)) ⌝ }
     ensures { λ r. ⌜ Answers (graphOf (now (b .entry))) (rooted (now (roots .entry))) limit (now (buf .entry)) (now (buf .exit)) r ⌝ }
 {
     let mut starts = [0u16; 288];
@@ -99,7 +105,6 @@ fn answer_parts(
     let mut flat = [0u16; 256];
     let mut lefts = [0u16; 32];
     let mut places = [0u16; 256];
-    let mut rows = [0u8; 8192];
     let mut out = [0u8; 256];
     let placed = place_parts(
         b,
@@ -113,7 +118,7 @@ fn answer_parts(
         &mut flat,
         &mut lefts,
         &mut places,
-        &mut rows,
+        rows,
         &mut out,
     );
     answer_placed(
@@ -128,15 +133,79 @@ fn answer_parts(
         &flat,
         &lefts,
         &places,
-        &rows,
+        rows,
         &out,
-        placed.parts,
-        placed.assigned,
+        placed,
+        edges,
         buf,
     )
 }
 
-// The answer at a limit.
+// Lends arrays that few vertices and roots fit in.
+fn answer_small(
+    b: &[u8],
+    roots: &[u16],
+    limit: u64,
+    order: &[u16],
+    bounds: &[u16],
+    arcs: &[u64],
+    table: &[u32],
+    lasts: &[u32],
+    buf: &mut [u8],
+) -> Reply
+    requires { ⌜ JoinedSmall (now b) (now roots) limit (now order) (now bounds) (now arcs) (now table) (now lasts) (length (now buf)) ⌝ }
+    ensures { λ r. ⌜ Answers (graphOf (now (b .entry))) (rooted (now (roots .entry))) limit (now (buf .entry)) (now (buf .exit)) r ⌝ }
+{
+    let mut rows = [0u8; 512];
+    let mut edges = [0u16; 512];
+    answer_parts(
+        b,
+        roots,
+        limit,
+        order,
+        bounds,
+        arcs,
+        table,
+        lasts,
+        &mut rows,
+        &mut edges,
+        buf,
+    )
+}
+
+// Lends arrays that every graph and all roots fit in.
+fn answer_full(
+    b: &[u8],
+    roots: &[u16],
+    limit: u64,
+    order: &[u16],
+    bounds: &[u16],
+    arcs: &[u64],
+    table: &[u32],
+    lasts: &[u32],
+    buf: &mut [u8],
+) -> Reply
+    requires { ⌜ JoinedAsked (now b) (now roots) limit (now order) (now bounds) (now arcs) (now table) (now lasts) (length (now buf)) ⌝ }
+    ensures { λ r. ⌜ Answers (graphOf (now (b .entry))) (rooted (now (roots .entry))) limit (now (buf .entry)) (now (buf .exit)) r ⌝ }
+{
+    let mut rows = [0u8; 8192];
+    let mut edges = [0u16; 8192];
+    answer_parts(
+        b,
+        roots,
+        limit,
+        order,
+        bounds,
+        arcs,
+        table,
+        lasts,
+        &mut rows,
+        &mut edges,
+        buf,
+    )
+}
+
+// The answer at a limit. Its arrays are small where that is enough, since setting them to zero is much of what an answer about a small graph costs.
 pub fn answer_rooted(
     b: &[u8],
     roots: &[u16],
@@ -157,6 +226,11 @@ pub fn answer_rooted(
     let found = stop_at(b, roots, &kept[..light], &mut label);
     match found {
         Found::At(v) => Reply::Stop(v),
-        Found::Nothing => answer_parts(b, roots, limit, order, bounds, arcs, table, lasts, buf),
+        Found::Nothing => {
+            if graph::vertex_count(b) * roots.len() <= 512 {
+                return answer_small(b, roots, limit, order, bounds, arcs, table, lasts, buf);
+            }
+            answer_full(b, roots, limit, order, bounds, arcs, table, lasts, buf)
+        }
     }
 }

@@ -59,8 +59,8 @@ module _ {g : Graph} {table lasts roots starts cuts flat lefts places out : List
             (rw new (t .is-tree));
       }
 
-module _ {b order table lasts roots starts cuts flat lefts places : List ℕ} {parts : ℕ} {out : List ℕ} {room : ℕ}
-    (asked : CoverAsked b order table lasts roots starts cuts flat lefts places parts out room) {used : ℕ} {bounds edges : List ℕ}
+module _ {b order table lasts roots starts cuts flat lefts places : List ℕ} {parts : ℕ} {out : List ℕ} {edges-room room : ℕ}
+    (asked : CoverAsked b order table lasts roots starts cuts flat lefts places parts out edges-room room) {used : ℕ} {bounds edges : List ℕ}
     (laid : TreesLaid (graphOf b) table lasts roots starts cuts flat lefts (take parts places) out (length roots) used bounds edges) where
   abbrev g : Graph
   g = graphOf b

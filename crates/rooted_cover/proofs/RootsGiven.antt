@@ -14,8 +14,8 @@ use Rattle.rooted_cover.specs.Tree.{ReachGiven}
 use Rattle.rooted_cover.specs.CoverTrees.{RootsGiven, CoverAsked}
 use Rattle.rooted_cover.proofs.AssignedPart.{bytes-room, byte-is-root, row-whole, places-many, start-in, part-edge, left-edge, part-back}
 
-module _ {b order table lasts roots starts cuts flat lefts places : List ℕ} {parts : ℕ} {out : List ℕ} {room : ℕ}
-    (asked : CoverAsked b order table lasts roots starts cuts flat lefts places parts out room) where
+module _ {b order table lasts roots starts cuts flat lefts places : List ℕ} {parts : ℕ} {out : List ℕ} {edges-room room : ℕ}
+    (asked : CoverAsked b order table lasts roots starts cuts flat lefts places parts out edges-room room) where
   abbrev g : Graph
   g = graphOf b
 

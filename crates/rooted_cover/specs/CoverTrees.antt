@@ -47,12 +47,12 @@ pub record TreePut (g : Graph) (table lasts roots starts cuts flat lefts places 
   pub put : PutTo at tree before after r
   pub fewer : r < at + g .vertices
 
--- What laying the trees of all roots asks: at most 32 roots, and room for 256 edges of each.
+-- What laying the trees of all roots asks: at most 32 roots, and for each room for an edge of each vertex.
 pub record LayRootsGiven (b order table lasts roots starts cuts flat lefts places out : List ℕ) (bounds-room edges-room : ℕ) : Type 0 where
   pub given : RootsGiven b order table lasts roots starts cuts flat lefts places out
   pub few : length roots ≤ 32
   pub bounds-fit : 33 ≤ bounds-room
-  pub edges-fit : 8192 ≤ edges-room
+  pub edges-fit : length roots * graphOf b .vertices ≤ edges-room
 
 -- The trees of the first i roots are laid: they take up the array's elements before `used`.
 pub record TreesLaid (g : Graph) (table lasts roots starts cuts flat lefts places out : List ℕ) (i used : ℕ) (bounds edges : List ℕ) : Type 0 where
@@ -61,8 +61,8 @@ pub record TreesLaid (g : Graph) (table lasts roots starts cuts flat lefts place
   pub are : (h : ℕ) → h < i → RootTree g table lasts roots starts cuts flat lefts places out h (segment bounds edges h)
 
 -- What writing the cover asks: a graph's bytes and its edges in order, at most 32 roots with their distances and last edges, the parts placed at
--- some limit and an assignment of them, and a large buffer.
-pub record CoverAsked (b order table lasts roots starts cuts flat lefts places : List ℕ) (parts : ℕ) (out : List ℕ) (room : ℕ) : Type 0 where
+-- some limit and an assignment of them, room for an edge of each vertex for each root, and a large buffer.
+pub record CoverAsked (b order table lasts roots starts cuts flat lefts places : List ℕ) (parts : ℕ) (out : List ℕ) (edges-room room : ℕ) : Type 0 where
   pub graph : IsGraph b
   pub in-order : order ≡ ordered (graphOf b)
   pub roots-inside : (j : ℕ) → j < length roots → getD roots j 0 < graphOf b .vertices
@@ -73,6 +73,7 @@ pub record CoverAsked (b order table lasts roots starts cuts flat lefts places :
   pub limit-small : limit ≤ 2048000000
   pub rows : List ℕ
   pub placed : PartsPlaced (graphOf b) roots limit (trialArrays starts cuts flat lefts places rows out) parts true
+  pub edges-fit : length roots * graphOf b .vertices ≤ edges-room
   pub most : 32708 ≤ room
 
 -- The bytes of the cover that the trial makes of some good choices are the buffer's first bytes, and r is the weight of its heaviest tree.

@@ -102,7 +102,7 @@ fn lay_trees(
 }
 
 // The cover of an accepted trial, one tree for each root, as the buffer's first bytes. Everything behind the bytes stays. Says the weight of
-// the heaviest tree.
+// the heaviest tree. The trees' edges are laid in an array that is lent, since its size is the caller's to choose.
 pub fn write_rooted(
     b: &[u8],
     order: &[u16],
@@ -116,15 +116,15 @@ pub fn write_rooted(
     places: &[u16],
     parts: usize,
     out: &[u8],
+    edges: &mut [u16],
     buf: &mut [u8],
 ) -> u64
     requires { ⌜ CoverAsked (now b) (now order) (now table) (now lasts) (now roots) (now starts) (now cuts) (now flat) (now lefts) (now places) parts (now out)
-        (length (now buf)) ⌝ }
+        (length (now edges)) (length (now buf)) ⌝ }
     ensures { λ r. ⌜ CoverAtLimits (graphOf (now (b .entry))) (now (roots .entry)) (now (starts .entry)) (now (cuts .entry)) (now (flat .entry))
         (now (lefts .entry)) (now (places .entry)) parts (now (out .entry)) (now (buf .entry)) (now (buf .exit)) r ⌝ }
 {
     let mut bounds = [0u16; 33];
-    let mut edges = [0u16; 8192];
     let mut numbers = [0u16; 32];
     let k = roots.len();
     lay_trees(
@@ -140,10 +140,10 @@ pub fn write_rooted(
         &places[..parts],
         out,
         &mut bounds,
-        &mut edges,
+        edges,
     );
     number_up(k, &mut numbers);
-    let heaviest = heaviest_chosen(b, &bounds, &edges, &numbers[..k]);
-    write_cover(buf, roots, &bounds, &edges, &numbers[..k]);
+    let heaviest = heaviest_chosen(b, &bounds, edges, &numbers[..k]);
+    write_cover(buf, roots, &bounds, edges, &numbers[..k]);
     heaviest
 }

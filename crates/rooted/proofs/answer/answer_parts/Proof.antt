@@ -1,4 +1,4 @@
--- `rooted::answer::answer_parts` meets its contract: arrays of zeros have room for the parts, which are placed and then answered.
+-- `rooted::answer::answer_parts` meets its contract: the arrays have room for the parts, which are placed and then answered.
 -- Assumes nothing.
 use native.Mathlib.Omega.{arith}
 use borrow.Author.Needs.{needs}
@@ -11,17 +11,17 @@ use Rattle.rooted.proofs.answer.answer_parts.Tie as tie
 abbrev start : tie.After-out → tie.Start
 start c =
     let a = c .before .before .before .before in
-    let k = a .before .before .before in
+    let k = a .before .before .before .before in
     let l = k .before .before .before .before in
-    l .before .before .before .before
+    l .before .before .before .before .before
 
 -- and where the parts are placed, seen from where they are answered.
-abbrev placed : tie.After-answer-placed-arg → tie.After-place-parts
+abbrev placed : tie.After-answer-placed-arg3 → tie.After-place-parts
 placed c =
     let o = c .before .before .before .before in
     let s = o .before .before .before .before in
     let p = s .before .before .before .before in
-    p .before .before .before
+    p .before .before .before .before .before
 
 slice-aggregate-place-parts : tie.Need-slice-aggregate-place-parts
 slice-aggregate-place-parts c = search needs
@@ -41,11 +41,8 @@ slice-aggregate-place-parts-5 c = search needs
 slice-aggregate-place-parts-6 : tie.Need-slice-aggregate-place-parts-6
 slice-aggregate-place-parts-6 c = search needs
 
-slice-aggregate-place-parts-7 : tie.Need-slice-aggregate-place-parts-7
-slice-aggregate-place-parts-7 c = search needs
-
 place-parts-requires : tie.Need-place-parts-requires
-place-parts-requires c κs = let p = start c .pre in parts-asked (joined-ready p) (p .asked .prepared .around)
+place-parts-requires c κs = let l = start c .pre in parts-asked (joined-ready l) (l .asked .asked .prepared .around) (l .rows-room) (l .rows-zero)
 
 slice-aggregate-answer-placed : tie.Need-slice-aggregate-answer-placed
 slice-aggregate-answer-placed c = search needs
@@ -65,9 +62,6 @@ slice-aggregate-answer-placed-5 c = search needs
 slice-aggregate-answer-placed-6 : tie.Need-slice-aggregate-answer-placed-6
 slice-aggregate-answer-placed-6 c = search needs
 
-slice-aggregate-answer-placed-7 : tie.Need-slice-aggregate-answer-placed-7
-slice-aggregate-answer-placed-7 c = search needs
-
 answer-placed-requires : tie.Need-answer-placed-requires
 answer-placed-requires c κs =
     let p = placed c in
@@ -75,6 +69,12 @@ answer-placed-requires c κs =
 
 same-length : tie.Need-same-length
 same-length c = search needs
+
+same-length-2 : tie.Need-same-length-2
+same-length-2 c = search needs
+
+same-length-3 : tie.Need-same-length-3
+same-length-3 c = search needs
 
 returns : tie.Need-returns
 returns c = search needs
@@ -89,7 +89,6 @@ answer-parts-spec =
     slice-aggregate-place-parts-4
     slice-aggregate-place-parts-5
     slice-aggregate-place-parts-6
-    slice-aggregate-place-parts-7
     place-parts-requires
     slice-aggregate-answer-placed
     slice-aggregate-answer-placed-2
@@ -97,7 +96,8 @@ answer-parts-spec =
     slice-aggregate-answer-placed-4
     slice-aggregate-answer-placed-5
     slice-aggregate-answer-placed-6
-    slice-aggregate-answer-placed-7
     answer-placed-requires
     same-length
+    same-length-2
+    same-length-3
     returns)

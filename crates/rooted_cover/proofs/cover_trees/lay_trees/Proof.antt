@@ -1,13 +1,16 @@
--- `rooted_cover::cover_trees::lay_trees` meets its contract. The loop's invariant: the trees of the roots before j are laid, at most 256 edges of
--- each. The measure is how many roots are left. Assumes nothing.
-use Prim.Native.Nat.{_+_, _*_, _-_, _≤_, _<_}
+-- `rooted_cover::cover_trees::lay_trees` meets its contract. The loop's invariant: the trees of the roots before j are laid, of each no more
+-- edges than there are vertices. The measure is how many roots are left. Assumes nothing.
+use Prim.Native.Nat.{ℕ, _+_, _*_, _-_, _≤_, _<_}
 use mathlib.Core.Path.{_≡_, refl, _∙_}
+use native.Mathlib.Nat.{mul-le-mul}
 use native.Mathlib.Omega.{arith}
 use lib.ListN.{length, length-set}
 use lib.Seq.{getD-set-same}
 use borrow.Author.Needs.{needs}
 use Rattle.lists.proofs.Put.{put-length}
 use Rattle.graph.specs.Bytes.{graphOf}
+use Rattle.marks.proofs.RowMarks.{row-room}
+use Rattle.marks.proofs.RowsMarked.{row-behind}
 use Rattle.rooted_cover.specs.CoverTrees.{TreesLaid}
 use Rattle.rooted_cover.proofs.CoverLaid.{trees-none, trees-more}
 use Rattle.rooted_cover.proofs.cover_trees.lay_trees.Statement.{statement}
@@ -17,7 +20,7 @@ abbrev Inv-loop : tie.InvT-loop
 Inv-loop b order table lasts roots starts cuts flat lefts places out bounds₀ edges₀ at₀ j₀ bounds edges at j =
     record {
       within : j ≤ length roots;
-      few : at ≤ j * 256;
+      few : at ≤ j * graphOf b .vertices;
       laid : TreesLaid (graphOf b) table lasts roots starts cuts flat lefts places out j at bounds edges;
       bounds-size : length bounds ≡ length bounds₀;
       edges-size : length edges ≡ length edges₀;
@@ -35,11 +38,14 @@ module _ (t : tie.In-loop Inv-loop μ-loop) where
   abbrev s : tie.Start Inv-loop μ-loop
   s = came (t .before)
 
-  most : graphOf (s .args .b .now) .vertices ≤ 256
-  most = s .pre .given .graph .valid .vertices-most
+  abbrev n : ℕ
+  n = graphOf (s .args .b .now) .vertices
 
-  fits : t .before .loop .at + graphOf (s .args .b .now) .vertices ≤ 8192
-  fits = omega (arith, most, t .before .loop .inv .few, t .loop-test .taken, s .pre .few)
+  fits : (size : ℕ) → length (s .args .roots .now) * n ≤ size → t .before .loop .at + n ≤ size
+  fits size many = omega (arith, t .before .loop .inv .few, row-room (t .before .loop .j) _ n size (t .loop-test .taken) many)
+
+  small : t .before .loop .at + n ≤ 8192
+  small = fits 8192 (omega (arith, mul-le-mul (s .pre .few) (s .pre .given .graph .valid .vertices-most)))
 
   room : t .before .loop .j + 1 < length (t .before .loop .bounds)
   room = omega (arith, t .loop-test .taken, t .before .loop .inv .bounds-size, s .pre .few, s .pre .bounds-fit, length-set (s .args .bounds .now) 0 0)
@@ -62,13 +68,13 @@ put-tree-requires : tie.Need-put-tree-requires Inv-loop μ-loop
 put-tree-requires c κs =
     let t = c .before in
     let p = s t .pre in
-    record { given = p .given; root = t .loop-test .taken; fits = omega (arith, fits t, p .edges-fit, t .before .loop .inv .edges-size) }
+    record { given = p .given; root = t .loop-test .taken; fits = fits t _ (omega (arith, p .edges-fit, t .before .loop .inv .edges-size)) }
 
 add-j : tie.Need-add-j Inv-loop μ-loop
 add-j c = search needs
 
 cast-bounds : tie.Need-cast-bounds Inv-loop μ-loop
-cast-bounds c = let p = c .before .before in omega (arith, p .put-tree .ensures .fewer, fits (p .before .before))
+cast-bounds c = let p = c .before .before in omega (arith, p .put-tree .ensures .fewer, small (p .before .before))
 
 mul-bounds : tie.Need-mul-bounds Inv-loop μ-loop
 mul-bounds c = search needs
@@ -88,7 +94,7 @@ loop-again c =
     let put = p .put-tree .ensures in
     record {
       within = omega (arith, t .loop-test .taken);
-      few = omega (arith, v .few, put .fewer, most t);
+      few = omega (arith, v .few, put .fewer, row-behind (l .loop .j) (n t));
       laid = trees-more (v .laid) (room t) put;
       bounds-size = length-set (l .loop .bounds) (l .loop .j + 1) _ ∙ v .bounds-size;
       edges-size = put-length (put .put .put) ∙ v .edges-size;

@@ -15,8 +15,8 @@ use Rattle.rooted_cover.proofs.cover_trees.write_rooted.Statement.{stat
 use Rattle.rooted_cover.proofs.cover_trees.write_rooted.Tie as tie
 
 -- Where the arrays are known: what came.
-abbrev came : tie.After-slice-known → tie.Start
-came k = let d = k .before .before .before .before in let e = d .before .before .before .before in e .before .before .before .before
+abbrev came : tie.After-slice-known2 → tie.Start
+came k = let d = k .before .before .before .before in let e = d .before .before .before .before in e .before .before .before .before .before
 
 -- Where the trees are laid.
 abbrev start : tie.After-lay-trees → tie.Start
@@ -25,7 +25,7 @@ start l = came (l .before .before .before .before)
 -- Where they are numbered.
 module _ (u : tie.After-number-up) where
   abbrev laid : tie.After-lay-trees
-  laid = u .before .before .before .before
+  laid = u .before .before .before .before .before
 
   abbrev s : tie.Start
   s = start laid
@@ -48,31 +48,25 @@ slice-aggregate-lay-trees c = let s = came (c .before) in sym (length-take-le (s
 slice-aggregate-lay-trees-2 : tie.Need-slice-aggregate-lay-trees-2
 slice-aggregate-lay-trees-2 c = search needs
 
-slice-aggregate-lay-trees-3 : tie.Need-slice-aggregate-lay-trees-3
-slice-aggregate-lay-trees-3 c = search needs
-
 lay-trees-requires : tie.Need-lay-trees-requires
 lay-trees-requires c κs =
     let pre = came (c .before .before .before) .pre in
-    record { given = roots-given pre; few = pre .roots-few; bounds-fit = omega arith; edges-fit = omega arith }
+    record { given = roots-given pre; few = pre .roots-few; bounds-fit = omega arith; edges-fit = pre .edges-fit }
 
 slice-aggregate-number-up : tie.Need-slice-aggregate-number-up
 slice-aggregate-number-up c = search needs
 
 number-up-requires : tie.Need-number-up-requires
-number-up-requires c κs = let pre = start (c .before .before .before) .pre in record { few = omega (arith, pre .roots-few); fits = omega (arith, pre .roots-few) }
+number-up-requires c κs = let pre = start (c .before .before .before .before) .pre in record { few = omega (arith, pre .roots-few); fits = omega (arith, pre .roots-few) }
 
 slice-aggregate-heaviest-chosen : tie.Need-slice-aggregate-heaviest-chosen
 slice-aggregate-heaviest-chosen c = search needs
 
-slice-aggregate-heaviest-chosen-2 : tie.Need-slice-aggregate-heaviest-chosen-2
-slice-aggregate-heaviest-chosen-2 c = search needs
-
 array-share-prefix-numbers : tie.Need-array-share-prefix-numbers
 array-share-prefix-numbers c = search needs
 
-slice-aggregate-heaviest-chosen-3 : tie.Need-slice-aggregate-heaviest-chosen-3
-slice-aggregate-heaviest-chosen-3 c = count (c .before .before .before .before)
+slice-aggregate-heaviest-chosen-2 : tie.Need-slice-aggregate-heaviest-chosen-2
+slice-aggregate-heaviest-chosen-2 c = count (c .before .before .before .before)
 
 heaviest-chosen-requires : tie.Need-heaviest-chosen-requires
 heaviest-chosen-requires c κs =
@@ -82,9 +76,6 @@ heaviest-chosen-requires c κs =
 slice-aggregate-write-cover : tie.Need-slice-aggregate-write-cover
 slice-aggregate-write-cover c = search needs
 
-slice-aggregate-write-cover-2 : tie.Need-slice-aggregate-write-cover-2
-slice-aggregate-write-cover-2 c = search needs
-
 array-share-prefix-numbers-2 : tie.Need-array-share-prefix-numbers-2
 array-share-prefix-numbers-2 c = search needs
 
@@ -92,8 +83,8 @@ array-share-prefix-numbers-2 c = search needs
 abbrev numbered : tie.After-heaviest-chosen → tie.After-number-up
 numbered h = h .before .before .before .before .before
 
-slice-aggregate-write-cover-3 : tie.Need-slice-aggregate-write-cover-3
-slice-aggregate-write-cover-3 c = count (numbered (c .before .before .before .before))
+slice-aggregate-write-cover-2 : tie.Need-slice-aggregate-write-cover-2
+slice-aggregate-write-cover-2 c = count (numbered (c .before .before .before .before))
 
 write-cover-requires : tie.Need-write-cover-requires
 write-cover-requires c κs =
@@ -102,6 +93,9 @@ write-cover-requires c κs =
 
 same-length : tie.Need-same-length
 same-length c = search needs
+
+same-length-2 : tie.Need-same-length-2
+same-length-2 c = search needs
 
 returns : tie.Need-returns
 returns c =
@@ -116,19 +110,17 @@ write-rooted-spec =
     (tie.spec
     slice-aggregate-lay-trees
     slice-aggregate-lay-trees-2
-    slice-aggregate-lay-trees-3
     lay-trees-requires
     slice-aggregate-number-up
     number-up-requires
     slice-aggregate-heaviest-chosen
-    slice-aggregate-heaviest-chosen-2
     array-share-prefix-numbers
-    slice-aggregate-heaviest-chosen-3
+    slice-aggregate-heaviest-chosen-2
     heaviest-chosen-requires
     slice-aggregate-write-cover
-    slice-aggregate-write-cover-2
     array-share-prefix-numbers-2
-    slice-aggregate-write-cover-3
+    slice-aggregate-write-cover-2
     write-cover-requires
     same-length
+    same-length-2
     returns)
