@@ -1,10 +1,8 @@
 -- Laws that belong to no one function, in reading order.
--- where an element of a row stands
+-- where rows of one length stand
 pub mod RowPlaces
--- rows of marks: one more root, one more vertex
-pub mod RowMarks
--- a row of marks for each of several trees
-pub mod RowsMarked
+-- a part of an array, replaced
+pub mod PartReplaced
 -- the nearest of vertices looked at one after the other
 pub mod NearestSoFar
 -- the rows of distances and of last edges, root by root

@@ -1,6 +1,4 @@
 -- What the contracts of `marks` say, in reading order.
--- which roots are near a part
-pub mod Near
 -- the distances from all roots in one table, and the last edges, root by root
 pub mod Tabled
 -- their rows, filled

@@ -1,13 +1,16 @@
 -- The distances from all roots in one table, and the last edges of the shortest paths (document 01, step 5). Both stand root by root.
 -- Assumes nothing.
-use Prim.Native.Nat.{ℕ, _*_, _≤_, _<_}
+use Prim.Native.Nat.{ℕ, _+_, _*_, _≤_, _<_}
 use mathlib.Core.List.{List}
 use mathlib.Core.Option.{none}
 use lib.ListN.{length, getD, take, drop}
 use Rattle.graph.specs.Graph.{Graph}
 use Rattle.rules.specs.Distance.{distances}
 use Rattle.distance.specs.Shortest.{SaysDistance, Shortest}
-use Rattle.marks.specs.Near.{distanceIn}
+
+-- The distance of vertex v, of n vertices, from root j.
+abbrev pub distanceIn : List ℕ → ℕ → ℕ → ℕ → ℕ
+distanceIn table n v j = getD table (j * n + v) 0
 
 -- The row of root j: the n elements from j * n on.
 abbrev pub rowOf : ℕ → List ℕ → ℕ → List ℕ

@@ -1,5 +1,4 @@
-// The marks of a rooted trial: the table of distances from all roots, which roots are near a part by it, and a part's nearest vertex.
+// The table of distances from all roots of a rooted trial, and a part's nearest vertex by a row of it.
 // The words of the contracts stand in specs/ and in the definitions of the crate `rules`.
-pub mod near;
 pub mod nearest;
 pub mod table;

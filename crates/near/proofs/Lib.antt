@@ -11,3 +11,5 @@ pub mod SweepWays
 pub mod PartsMarking
 -- the bits of a word as a row of bytes, and such rows one after the other
 pub mod RowBits
+-- the word of a tree, joined vertex by vertex, and the words of several trees
+pub mod HeldWords

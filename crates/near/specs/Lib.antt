@@ -5,5 +5,7 @@ pub mod Bits
 pub mod Vertices
 -- the roots near each part
 pub mod Parts
--- the same as bytes
+-- the roots near each of several trees that stand in arrays
+pub mod Held
+-- words as bytes
 pub mod Rows

@@ -1,11 +1,10 @@
--- Arrays of as many zeros as there are vertices times roots are large enough to lend for the parts.
+-- Arrays with a place for each vertex and each root are large enough to lend for the parts.
 -- Assumes nothing.
 use Prim.Native.Nat.{ℕ, _*_, _≤_}
 use mathlib.Core.List.{List}
 use native.Mathlib.Nat.{mul-comm, mul-le-mul}
 use native.Mathlib.Omega.{arith}
 use lib.ListN.{length, replicate, length-replicate}
-use Rattle.lists.proofs.Zeros.{zeros-at}
 use Rattle.graph.specs.Bytes.{graphOf}
 use Rattle.rooted.specs.Answer.{JoinedAsked, JoinedLent, JoinedSmall}
 
@@ -22,7 +21,6 @@ module _ {b roots : List ℕ} {limit : ℕ} {order bounds arcs table lasts : Lis
       record {
         asked = asked;
         rows-room = omega arith;
-        rows-zero = λ x _. zeros-at size x;
         edges-fit = omega (arith, mul-comm (length roots) (graphOf b .vertices));
       }
 

@@ -5,8 +5,6 @@ pub mod LimitDecided
 pub mod PartsCounted
 -- and to which roots each may go
 pub mod PartsNear
--- by rows of bytes, which decide
-pub mod RowsNear
 -- arrays of zeros have room for the parts of every trial
 pub mod PartsReady
 -- as those that are lent have

@@ -4,14 +4,11 @@
 use Prim.Native.Nat.{ℕ, _≤_, _<_}
 use mathlib.Core.Path.{_≡_, sym, ap, _∙_}
 use mathlib.Core.Bool.{Bool, false}
-use mathlib.Core.List.{List, [], _++_, map}
-use mathlib.Core.Option.{none}
+use mathlib.Core.List.{List, [], map}
 use native.Mathlib.Omega.{arith}
-use lib.Dec.{leb}
-use lib.ListN.{length, getD, take, length-map, List·getD-append}
+use lib.ListN.{length, getD, take, length-map}
 use lib.Seq.{getD-take, length-take-le}
 use Rattle.lists.specs.Lists.{any}
-use Rattle.lists.specs.Member.{_∈_}
 use Rattle.lists.proofs.Places.{map-at}
 use Rattle.lists.proofs.Put.{only-first-length}
 use Rattle.graph.specs.Graph.{Graph}
@@ -21,18 +18,17 @@ use Rattle.graph.proofs.Ranges.{one-end-below, other-end-below}
 use Rattle.rules.specs.Walk.{Joins, onward, back, Walk, stay, step}
 use Rattle.rules.specs.Cover.{Tree}
 use Rattle.rules.specs.Split.{allParts}
-use Rattle.rules.specs.Distance.{distances, isWithin, treeVertices, reachesPart}
+use Rattle.rules.specs.Distance.{treeVertices}
 use Rattle.rules.specs.RootedTrial.{rootedParts, partOf, mayGo}
 use Rattle.planner_laws.proofs.RootedPrepared.{pieces-of-whole}
 use Rattle.planner_laws.proofs.RootedPieces.{part-at}
 use Rattle.steps.specs.Touched.{partsTouched}
-use Rattle.marks.specs.Near.{distanceIn}
 use Rattle.near.specs.Bits.{bitAt}
-use Rattle.near.specs.Vertices.{NearAsked, NearVertices}
 use Rattle.near.specs.Parts.{PartsAsked, NearParts}
 use Rattle.near.proofs.BitsLaws.{bit-at}
-use Rattle.rooted_parts.proofs.NearMeansMayGo.{any-alike, says-within, around-inside}
-use Rattle.rooted.specs.Decide.{FewReady, PartsNear}
+use Rattle.rooted_parts.specs.Near.{WithinAsked, VerticesNear, PartsNear}
+use Rattle.rooted_parts.proofs.NearMeansMayGo.{tree-reaches}
+use Rattle.rooted.specs.Decide.{FewReady}
 use Rattle.rooted.proofs.PartsCounted.{count-asked}
 
 -- A walk to a vertex of the graph starts at one.
@@ -81,40 +77,31 @@ module _ {b roots : List ℕ} {limit : ℕ} {table walk : List ℕ} (f : FewRead
   unfolding partOf
   at-number test i h = map-at test (record { start = 0; edges = [] }) false parts i h
 
-  -- A part starts at a vertex of the graph, and so all its vertices are the graph's.
-  part-inside : (i : ℕ) → i < length parts → (v : ℕ) → v ∈ treeVertices g (partOf parts i) → v < g .vertices
-  unfolding treeVertices
-  part-inside i h v m =
+  -- A part starts at a vertex of the graph.
+  start-inside : (i : ℕ) → i < length parts → partOf parts i .start < g .vertices
+  start-inside i h =
       let p = part-at g roots limit i h in
       let (e, n) = p .some-edge in
-      let t = partOf parts i in
-      around-inside g (t .start) valid (walk-inside valid (p .joined e n .leads) (one-end-below valid e)) (t .edges) v m
+      walk-inside valid (p .joined e n .leads) (one-end-below valid e)
 
-  pub words-asked : {words : List ℕ} → length words ≡ g .vertices → ((v : ℕ) → v < length words → getD words v 0 ≡ 0) → NearAsked k table words
-  words-asked size zeros =
-      let d = f .counted .ready .asked .decidable in
-      record { roots-few = d .roots-few; room = rw size (d .distances .room); zeros = zeros }
+  pub within-asked : {near : List ℕ} → 256 ≤ length near → ((v : ℕ) → v < length near → getD near v 0 ≡ 0) → WithinAsked b roots limit table near
+  within-asked room zeros =
+      let a = f .counted .ready .asked in
+      record {
+        graph = a .decidable .graph;
+        roots-few = a .decidable .roots-few;
+        tabled = a .decidable .distances;
+        limit-most = a .limit-most;
+        room = omega (arith, valid .vertices-most);
+        zeros = zeros;
+      }
 
-  -- The word of each vertex says which roots are within the limit of it. What stands behind the words is not looked at.
-  module _ (front rest : List ℕ) {before : List ℕ} (words : NearVertices k limit table before front) (size : length before ≡ g .vertices) where
-    abbrev near : List ℕ
-    near = front ++ rest
-
-    vertex-near : (v j : ℕ) → v < g .vertices → j < k → bitAt j (getD near v 0) ≡ isWithin limit (getD (distances g (getD roots j 0)) v none)
-    vertex-near v j h l =
-        let d = f .counted .ready .asked in
-        ap (bitAt j) (List·getD-append front rest 0 v (omega (arith, words .size)))
-        ∙ words .each v j (omega arith) l
-        ∙ ap (λ n. leb (distanceIn table n v j) limit) size
-        ∙ says-within limit _ _ (omega (arith, d .limit-most)) (d .decidable .distances .each v j h l)
-
+  module _ {near : List ℕ} (words : VerticesNear g roots limit near) where
     -- Some vertex's word has root j exactly where the part may go to it.
     part-near : (i j : ℕ) → i < length parts → j < k → any (λ v. bitAt j (getD near v 0)) (treeVertices g (partOf parts i)) ≡ mayGo g roots limit i j
-    unfolding mayGo reachesPart
+    unfolding mayGo
     part-near i j h l =
-        let t = partOf parts i in
-        any-alike (λ v. bitAt j (getD near v 0)) (λ v. isWithin limit (getD (distances g (getD roots j 0)) v none)) (treeVertices g t) (treeVertices g t)
-        (λ v m. m) (λ v m. m) (λ v m. vertex-near v j (part-inside i h v m) l)
+        tree-reaches valid limit (getD roots j 0) (λ v. bitAt j (getD near v 0)) (λ v m. words .each v j m l) (partOf parts i) (start-inside i h)
 
     pub parts-near : {came left : List ℕ} {r : ℕ} → NearParts limit walk near came left r → PartsNear g roots limit left r
     parts-near {came} {left} {r} p = record { count = many; within = room; each = each }

@@ -1,12 +1,12 @@
 -- Arrays of zeros have room for the parts of every trial: at most 256 vertices and 32 roots. The rows, which are lent, have it where they are large
 -- enough.
 -- Assumes nothing.
-use Prim.Native.Nat.{ℕ, _*_, _≤_, _<_}
+use Prim.Native.Nat.{ℕ, _*_, _≤_}
 use mathlib.Core.Path.{_≡_}
 use mathlib.Core.List.{List}
 use mathlib.Core.Option.{none}
 use native.Mathlib.Omega.{arith}
-use lib.ListN.{length, getD, replicate, length-replicate}
+use lib.ListN.{length, replicate, length-replicate}
 use Rattle.graph.specs.Bytes.{graphOf}
 use Rattle.rules.specs.RootedTrial.{unjoinedAt}
 use Rattle.rooted.specs.Prepared.{WholeAround}
@@ -43,15 +43,14 @@ pieces-asked r around =
     }
 
 pub parts-asked : {b roots : List ℕ} {limit : ℕ} {bounds arcs table : List ℕ} → PartsReady b roots limit table → WholeAround b roots bounds arcs
-    → {rows : List ℕ} → graphOf b .vertices * length roots ≤ length rows → ((x : ℕ) → x < length rows → getD rows x 0 ≡ 0)
+    → {rows : List ℕ} → graphOf b .vertices * length roots ≤ length rows
     → PartsAsked (graphOf b) b roots limit bounds arcs table emptyArrays rows (replicate 256 0)
-parts-asked r around room zero =
+parts-asked r around room =
     let d = r .asked .decidable in
     record {
       pieces = pieces-asked r around;
       tabled = d .distances;
       limit-most = r .asked .limit-most;
       rows-room = room;
-      rows-zero = zero;
       out-room = omega (arith, d .graph .valid .vertices-most, length-replicate {A = ℕ} 256 0);
     }

@@ -32,11 +32,10 @@ pub record JoinedAsked (b roots : List ℕ) (limit : ℕ) (order bounds arcs tab
   pub asked : AnswerAsked b roots limit order (keep (graphOf b) (together roots) (ordered (graphOf b))) bounds arcs table lasts room
   pub joined : unjoinedAt (graphOf b) roots limit ≡ none
 
--- The same, with the arrays that are lent for it: for each vertex and each root a zero in the rows, and room for an edge.
+-- The same, with the arrays that are lent for it: for each vertex and each root room for a byte in the rows, and for an edge.
 pub record JoinedLent (b roots : List ℕ) (limit : ℕ) (order bounds arcs table lasts rows : List ℕ) (edges-room room : ℕ) : Type 0 where
   pub asked : JoinedAsked b roots limit order bounds arcs table lasts room
   pub rows-room : graphOf b .vertices * length roots ≤ length rows
-  pub rows-zero : (x : ℕ) → x < length rows → getD rows x 0 ≡ 0
   pub edges-fit : length roots * graphOf b .vertices ≤ edges-room
 
 -- The same without them, where vertices and roots are so few that small arrays are enough.

@@ -6,16 +6,14 @@ use mathlib.Core.Bool.{false}
 use mathlib.Core.List.{List}
 use mathlib.Core.Option.{none}
 use lib.ListN.{length, getD}
-use Rattle.graph.specs.Graph.{Graph}
 use Rattle.graph.specs.Bytes.{graphOf}
 use Rattle.graph.specs.Valid.{IsGraph}
 use Rattle.rules.specs.Cover.{rooted}
 use Rattle.rules.specs.Order.{ordered}
 use Rattle.rules.specs.Labels.{together}
 use Rattle.rules.specs.Forest.{keep}
-use Rattle.rules.specs.RootedTrial.{unjoinedAt, rootedParts, mayGo}
+use Rattle.rules.specs.RootedTrial.{unjoinedAt, rootedParts}
 use Rattle.rules.specs.Search.{noCover}
-use Rattle.near.specs.Bits.{bitAt}
 use Rattle.rooted.specs.Prepared.{Decidable, WholeWalked}
 
 -- What saying "no cover" asks: a graph's bytes, roots among its vertices, and the whole forest.
@@ -57,9 +55,3 @@ pub record FewReady (b roots : List ℕ) (limit : ℕ) (table walk : List ℕ) :
 pub record NearReady (b roots : List ℕ) (limit : ℕ) (table walk parts : List ℕ) : Type 0 where
   pub ready : FewReady b roots limit table walk
   pub room : length roots ≤ length parts
-
--- There are r parts, and a word for each says to which roots it may go.
-pub record PartsNear (g : Graph) (roots : List ℕ) (limit : ℕ) (parts : List ℕ) (r : ℕ) : Type 0 where
-  pub count : r ≡ length (rootedParts g roots limit)
-  pub within : r ≤ length parts
-  pub each : (i j : ℕ) → i < r → j < length roots → bitAt j (getD parts i 0) ≡ mayGo g roots limit i j

@@ -4,17 +4,18 @@
 use forest::lowest::Found;
 use near::parts::near_parts;
 use near::rows::put_rows;
-use near::vertices::near_vertices;
 use pieces::whole::light_forest;
 use pieces::whole::stop_at;
 use rooted_parts::parts::is_assigned;
+use rooted_parts::within::roots_within;
 use steps::count_parts;
 ghost use mathlib.Core.Path.{_≡_};
 ghost use Rattle.graph.specs.Bytes.{graphOf};
 ghost use Rattle.rules.specs.Cover.{rooted};
 ghost use Rattle.rules.specs.RootedTrial.{isAssignable};
 ghost use Rattle.rules.specs.Search.{accepts, noCover};
-ghost use Rattle.rooted.specs.Decide.{NoCoverAsked, DecisionAsked, CountReady, FewReady, NearReady, PartsNear};
+ghost use Rattle.rooted_parts.specs.Near.{PartsNear};
+ghost use Rattle.rooted.specs.Decide.{NoCoverAsked, DecisionAsked, CountReady, FewReady, NearReady};
 
 // Whether some vertex is joined to no root by any edge ("no cover"). The whole forest joins what all edges join.
 pub fn no_cover_rooted(b: &[u8], roots: &[u16], kept: &[u16]) -> bool
@@ -42,9 +43,8 @@ fn parts_near(
     requires { ⌜ NearReady (now b) (now roots) limit (now table) (now walk) (now parts) ⌝ }
     ensures { λ r. ⌜ PartsNear (graphOf (now (b .entry))) (now (roots .entry)) limit (now (parts .exit)) r ⌝ }
 {
-    let n = graph::vertex_count(b);
     let mut near = [0u32; 256];
-    near_vertices(table, roots.len(), limit as u32, &mut near[..n]);
+    roots_within(b, roots, limit, table, &mut near);
     near_parts(walk, limit, &near, parts)
 }
 

@@ -10,6 +10,7 @@ use lib.ListN.{length, getD, take, length-take, length-drop}
 use lib.Seq.{getD-take, length-take-le}
 use lib.Dec.{leb}
 use borrow.Author.Tests.{leb-true}
+use Rattle.lists.specs.Lists.{any}
 use Rattle.lists.specs.Member.{_∈_}
 use Rattle.lists.specs.Segments.{segment}
 use Rattle.lists.specs.Sort.{rise}
@@ -30,14 +31,13 @@ use Rattle.planner_laws.proofs.RootedPieces.{part-at, rooted-left}
 use Rattle.distance.specs.Trail.{trailOf}
 use Rattle.distance.specs.Shortest.{unreached, Shortest}
 use Rattle.pieces.specs.Pieces.{treeOf}
-use Rattle.marks.specs.Near.{distanceIn, nearOne}
 use Rattle.marks.specs.Nearest.{Nearest}
-use Rattle.marks.specs.Tabled.{DistancesTabled, LastsTabled, rowOf}
+use Rattle.marks.specs.Tabled.{distanceIn, DistancesTabled, LastsTabled, rowOf}
 use Rattle.rooted_parts.specs.Placed.{TrialArrays, PartsPlaced}
 use Rattle.rooted_cover.specs.Tree.{BackGiven}
-use Rattle.rooted_parts.proofs.NearMeansMayGo.{near-reaches, more-edges, around-inside}
+use Rattle.rooted_parts.proofs.NearMeansMayGo.{says-within, tree-reaches, reaches-risen, more-edges, around-inside}
 use Rattle.marks.proofs.RootPath.{nearest-back, nearest-shortest-path}
-use Rattle.marks.proofs.RowMarks as rows
+use Rattle.marks.proofs.RowPlaces as rows
 
 -- An array with room for k rows of n has the whole of each.
 pub row-whole : (n : ℕ) (array : List ℕ) (j k : ℕ) → j < k → k * n ≤ length array → n ≤ length (rowOf n array j)
@@ -127,10 +127,14 @@ module _ {g : Graph} {roots : List ℕ} {limit : ℕ} {a : TrialArrays} {parts :
     abbrev root : ℕ
     root = getD roots (getD (a .out) i 0) 0
 
-    near-one : nearOne table (g .vertices) limit (treeVertices g (pieceAt a i)) (getD (a .out) i 0) ≡ true
+    -- The table has a vertex of the part within the limit of it.
+    near-one : any (λ v. leb (distanceIn table (g .vertices) v (getD (a .out) i 0)) limit) (treeVertices g (pieceAt a i)) ≡ true
     unfolding mayGo
     near-one =
-        near-reaches valid tabled limit small (pieceAt a i) (start-in i h) (getD (a .out) i 0) (byte-is-root i h)
+        let j : ℕ = getD (a .out) i 0 in
+        tree-reaches valid limit root (λ v. leb (distanceIn table (g .vertices) v j) limit)
+        (λ v m. says-within limit _ _ small (tabled .each v j m (byte-is-root i h))) (pieceAt a i) (start-in i h)
+        ∙ reaches-risen g limit root (pieceAt a i)
         ∙ ap (λ t. reachesPart g limit root t) (sym (placed-part i h))
         ∙ may-go i h
 
@@ -139,7 +143,6 @@ module _ {g : Graph} {roots : List ℕ} {limit : ℕ} {a : TrialArrays} {parts :
 
     -- So the nearest vertex of the part has a distance from its root.
     nearest-reached : {v : ℕ} → Nearest g dist (pieceAt a i) v → getD dist v 0 < unreached
-    unfolding nearOne
     nearest-reached n =
         let j : ℕ = getD (a .out) i 0 in
         let (u, m, t) = any-found (λ v. leb (distanceIn table (g .vertices) v j) limit) (treeVertices g (pieceAt a i)) near-one in

@@ -13,7 +13,7 @@ use Rattle.graph.specs.Bytes.{graphOf}
 use Rattle.marks.specs.Tabled.{rowOf}
 use Rattle.rooted_cover.specs.Tree.{RootGiven, RootWritten}
 use Rattle.rooted_cover.specs.CoverTrees.{RootsGiven, TreePut}
-use Rattle.marks.proofs.RowMarks.{row-room}
+use Rattle.marks.proofs.RowPlaces.{row-room}
 
 -- From the length on nothing is left.
 drop-past : (n : ℕ) (xs : List ℕ) → length xs ≤ n → drop n xs ≡ []

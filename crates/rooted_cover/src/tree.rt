@@ -14,7 +14,7 @@ ghost use Rattle.lists.specs.Lists.{member};
 ghost use Rattle.lists.specs.Segments.{segment};
 ghost use Rattle.graph.specs.Bytes.{graphOf};
 ghost use Rattle.distance.specs.Trail.{trailOf};
-ghost use Rattle.marks.specs.Near.{Marked};
+ghost use Rattle.unions.specs.Marked.{Marked};
 ghost use Rattle.rooted_cover.specs.Tree.{FirstWith, PieceGiven, BackGiven, TreeAsked, TreeKept, ReachGiven, ReachMarked, AssignedGiven, AssignedMarked, RootGiven, RootWritten};
 
 // The first place below a bound where the byte stands; the bound where there is none.

@@ -1,16 +1,15 @@
--- The marks of the rows say which root a part may go to: the table says the distances, and a tree has the same vertices in whatever order its
--- edges stand.
+-- A root is near a part where it is within the limit of one of its vertices: the table says the distances, and a tree has the same vertices in
+-- whatever order its edges stand.
 -- Assumes nothing.
-use Prim.Native.Nat.{ℕ, _+_, _*_, _≤_, _<_}
-use mathlib.Core.Path.{_≡_, sym, ap, _∙_}
-use mathlib.Core.Bool.{Bool, true, false, cond}
+use Prim.Native.Nat.{ℕ, _<_}
+use mathlib.Core.Path.{_≡_, refl, sym, ap, _∙_}
+use mathlib.Core.Bool.{Bool, true, false}
 use mathlib.Core.List.{List, _∷_, map, List·Memᴰ·head, List·Memᴰ·tail, List·Memᴰ·not-nil}
 use mathlib.Core.Logic.{_⊎_, inl, inr}
 use mathlib.Core.Option.{none}
 use native.Mathlib.Omega.{arith}
-use lib.ListN.{length, getD, take}
-use lib.Seq.{getD-take, length-take-le}
-use lib.Dec.{leb, eqb}
+use lib.ListN.{getD}
+use lib.Dec.{leb}
 use borrow.Author.Tests.{lt-leb}
 use Rattle.lists.specs.Lists.{any, flat}
 use Rattle.lists.specs.Member.{_∈_}
@@ -23,15 +22,9 @@ use Rattle.graph.specs.Valid.{Valid}
 use Rattle.graph.proofs.Ranges.{one-end-below, other-end-below}
 use Rattle.rules.specs.Cover.{Tree}
 use Rattle.rules.specs.Distance.{Distance, distances, isWithin, treeVertices, reachesPart}
-use Rattle.rules.specs.Held.{treeAt, risen}
-use Rattle.rules.specs.RootedTrial.{mayGo}
-use Rattle.matching.specs.Input.{allowedAt}
+use Rattle.rules.specs.Held.{risen}
 use Rattle.distance.specs.Shortest.{SaysDistance, nowhere, there, unreached}
 use Rattle.pieces.specs.Pieces.{endsOf}
-use Rattle.marks.specs.Near.{distanceIn, nearOne, nearTree, RowsMarked}
-use Rattle.marks.specs.Tabled.{DistancesTabled}
-use Rattle.rooted_parts.specs.Parts.{PieceArrays, PiecesPlaced}
-use Rattle.marks.proofs.RowPlaces.{place-within, every-place}
 
 -- Some element of one list passes a test exactly where one of the other does, where they have the same elements and the tests agree on them.
 pub any-alike : {A : Type 0} (f h : A → Bool) (xs ys : List A) → ((x : A) → x ∈ xs → x ∈ ys) → ((y : A) → y ∈ ys → y ∈ xs)
@@ -71,54 +64,22 @@ module _ (g : Graph) (start : ℕ) where
       end-inside e (List·Memᴰ·tail (List·Memᴰ·head q)) = rw q (other-end-below valid e)
       end-inside e (List·Memᴰ·tail (List·Memᴰ·tail m)) = absurd (List·Memᴰ·not-nil m)
 
--- A root is near a tree by the table exactly where its distance to the tree's nearest vertex is at most the limit.
-pub near-reaches : {g : Graph} → Valid g → {roots table : List ℕ} → DistancesTabled g roots table → (limit : ℕ) → limit < unreached
-    → (t : Tree) → t .start < g .vertices → (j : ℕ) → j < length roots
-    → nearOne table (g .vertices) limit (treeVertices g t) j ≡ reachesPart g limit (getD roots j 0) (risen t)
-unfolding nearOne reachesPart treeVertices risen
-near-reaches {g} valid {roots} {table} tabled limit h t inside j l =
-    any-alike (λ v. leb (distanceIn table (g .vertices) v j) limit) (λ v. isWithin limit (getD (distances g (getD roots j 0)) v none))
-    (around g (t .start) (t .edges)) (around g (t .start) (rise (t .edges)))
+-- A root is near a tree whatever the order of its edges.
+pub reaches-risen : (g : Graph) (limit root : ℕ) (t : Tree) → reachesPart g limit root t ≡ reachesPart g limit root (risen t)
+unfolding reachesPart treeVertices risen
+reaches-risen g limit root t =
+    let test : ℕ → Bool = λ v. isWithin limit (getD (distances g root) v none) in
+    any-alike test test (around g (t .start) (t .edges)) (around g (t .start) (rise (t .edges)))
     (more-edges g (t .start) (t .edges) (rise (t .edges)) (λ e. in-rise))
     (more-edges g (t .start) (rise (t .edges)) (t .edges) (λ e. of-rise (t .edges)))
-    (λ v m. says-within limit _ _ h (tabled .each v j (around-inside g (t .start) valid inside (t .edges) v m) l))
+    (λ v m. refl)
 
--- A mark is set exactly where the test holds.
-mark-says : (t : Bool) (x y : ℕ) → x ≡ cond t 1 y → y ≡ 0 → eqb x 1 ≡ t
-mark-says true x y q z = rw q
-mark-says false x y q z = rw (q, z)
-
-mark-small : (t : Bool) (x y : ℕ) → x ≡ cond t 1 y → y ≡ 0 → x ≤ 1
-mark-small true x y q z = omega arith
-mark-small false x y q z = omega arith
-
-module _ {g : Graph} {roots : List ℕ} {limit : ℕ} {a : PieceArrays} {p : ℕ} (valid : Valid g) (placed : PiecesPlaced g roots limit a p)
-    {table : List ℕ} (tabled : DistancesTabled g roots table) (small : limit < unreached) {rows rows′ : List ℕ}
-    (zero-rows : (x : ℕ) → x < length rows → getD rows x 0 ≡ 0) (room : p * length roots ≤ length rows)
-    (marks : RowsMarked (nearTree g table limit (a .starts) (a .cuts) (a .flat)) (length roots) (take p (a .places)) rows rows′) where
-  many : length (take p (a .places)) ≡ p
-  many = length-take-le p (a .places) (placed .parts-room)
-
-  module _ (i j : ℕ) (h : i < p) (l : j < length roots) where
-    within : i * length roots + j < length rows
-    within = place-within i p (length roots) j (length rows) h l room
-
-    -- The row of part i says which root it may go to.
-    pub row-says : allowedAt rows′ (length roots) i j ≡ mayGo g roots limit i j
-    unfolding allowedAt mayGo treeAt
-    row-says =
-        let c : ℕ = getD (a .places) i 0 in
-        let same : getD (take p (a .places)) i 0 ≡ c = getD-take p (a .places) i 0 h in
-        mark-says (nearTree g table limit (a .starts) (a .cuts) (a .flat) c j) _ _
-        (rw same at (marks .each i j (omega (arith, many)) l)) (zero-rows (i * length roots + j) within)
-        ∙ near-reaches valid tabled limit small (treeAt (a .starts) (a .cuts) (a .flat) c) (placed .trees i h .start-inside) j l
-        ∙ ap (reachesPart g limit (getD roots j 0)) (sym (placed .part-is i h))
-
-    row-small : getD rows′ (i * length roots + j) 0 ≤ 1
-    row-small =
-        mark-small (nearTree g table limit (a .starts) (a .cuts) (a .flat) (getD (take p (a .places)) i 0) j) _ _
-        (marks .each i j (omega (arith, many)) l) (zero-rows (i * length roots + j) within)
-
-  -- Every mark is 0 or 1.
-  pub marks-small : 1 ≤ length roots → (x : ℕ) → x < p * length roots → getD rows′ x 0 ≤ 1
-  marks-small one = every-place (λ x. getD rows′ x 0 ≤ 1) p (length roots) one row-small
+-- A test that says of each vertex whether a root is within the limit of it says so of a tree, by the tree's vertices.
+pub tree-reaches : {g : Graph} → Valid g → (limit root : ℕ) (test : ℕ → Bool)
+    → ((v : ℕ) → v < g .vertices → test v ≡ isWithin limit (getD (distances g root) v none))
+    → (t : Tree) → t .start < g .vertices → any test (treeVertices g t) ≡ reachesPart g limit root t
+unfolding reachesPart treeVertices
+tree-reaches {g} valid limit root test says t inside =
+    let vertices : List ℕ = around g (t .start) (t .edges) in
+    any-alike test (λ v. isWithin limit (getD (distances g root) v none)) vertices vertices (λ v m. m) (λ v m. m)
+    (λ v m. says v (around-inside g (t .start) valid inside (t .edges) v m))

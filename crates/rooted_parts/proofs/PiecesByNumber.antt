@@ -33,7 +33,7 @@ use Rattle.split.proofs.ByNumber as numbered
 use Rattle.cover.specs.Chosen.{IsHeld}
 use Rattle.planner_laws.proofs.RootedPrepared.{pieces-of-whole}
 use Rattle.planner_laws.proofs.RootedSize.{rooted-parts-few}
-use Rattle.marks.specs.Near.{TreeHeld}
+use Rattle.near.specs.Held.{TreeHeld}
 use Rattle.unions.specs.Places.{between}
 use Rattle.rooted_parts.specs.Parts.{arraysOf, PiecesAsked, PiecesPlaced}
 use Rattle.unions.proofs.PartsBetween.{between-lefts}
@@ -112,8 +112,6 @@ module _ {g : Graph} {b roots : List ℕ} {limit : ℕ} {bounds arcs starts cuts
   tree-held : {c : ℕ} → c < r → TreeHeld (g .vertices) starts′ cuts′ flat′ c
   tree-held {c} h =
       record {
-        start-room = omega (arith, x .few, x .used-few, n-is, asked .starts-room, only-first-length (x .starts-rest));
-        cuts-room = omega (arith, x .few, x .used-few, n-is, asked .cuts-room, only-first-length (x .cuts-rest));
         held = is-held h;
         start-inside = omega (arith, x .starts-inside c h, n-is);
       }

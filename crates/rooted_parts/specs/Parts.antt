@@ -22,8 +22,8 @@ use Rattle.rules.specs.Held.{treeAt, treesAt, risen}
 use Rattle.rules.specs.RootedTrial.{unjoinedAt, rootedPieces, rootedParts, partOf, leftAt, mayGo, isAssignable}
 use Rattle.edges.specs.Around.{Around}
 use Rattle.cover.specs.Chosen.{IsHeld}
-use Rattle.marks.specs.Near.{TreeHeld}
 use Rattle.marks.specs.Tabled.{DistancesTabled}
+use Rattle.near.specs.Held.{TreeHeld}
 
 -- The arrays of the pieces: their starts, bounds and edges, the number of each root's leftover, and the number of each part's piece.
 pub record PieceArrays : Type 0 where
@@ -86,11 +86,15 @@ pub record PartsHeld (b roots : List ℕ) (limit : ℕ) (table starts cuts flat 
   pub lefts : List ℕ
   pub placed : PiecesPlaced (graphOf b) roots limit (arraysOf starts cuts flat lefts places) parts
 
--- What marking their rows and assigning them asks besides: a row of zeros for each part, and a byte for each.
+-- What marking the roots near them asks besides: a word for each part.
+pub record WordsAsked (b roots : List ℕ) (limit : ℕ) (table starts cuts flat places : List ℕ) (parts : ℕ) (words : List ℕ) : Type 0 where
+  pub held : PartsHeld b roots limit table starts cuts flat places parts
+  pub words-room : parts ≤ length words
+
+-- What making their rows and assigning them asks besides: room for a row for each part, and a byte for each.
 pub record RowsAsked (b roots : List ℕ) (limit : ℕ) (table starts cuts flat places : List ℕ) (parts : ℕ) (rows out : List ℕ) : Type 0 where
   pub held : PartsHeld b roots limit table starts cuts flat places parts
   pub rows-room : parts * length roots ≤ length rows
-  pub rows-zero : (x : ℕ) → x < length rows → getD rows x 0 ≡ 0
   pub out-room : parts ≤ length out
 
 -- The rows say which roots are near each part, and an assignment was found or else a deficient set.
@@ -100,12 +104,11 @@ pub record RowsAssigned (g : Graph) (roots : List ℕ) (limit parts : ℕ) (rows
   pub assignment : assigned ≡ true → IsAssignment parts (length roots) (mayGo g roots limit) (take parts out)
   pub deficient : assigned ≡ false → IsDeficient parts (length roots) (mayGo g roots limit) (take parts out)
 
--- What placing the parts asks besides: the distances from all roots, a limit no larger than document 01 has it, a row of zeros for each part,
--- and a byte for each.
+-- What placing the parts asks besides: the distances from all roots, a limit no larger than document 01 has it, room for a row for each
+-- part, and a byte for each.
 pub record PartsAsked (g : Graph) (b roots : List ℕ) (limit : ℕ) (bounds arcs table : List ℕ) (a : PieceArrays) (rows out : List ℕ) : Type 0 where
   pub pieces : PiecesAsked g b roots limit bounds arcs a
   pub tabled : DistancesTabled g roots table
   pub limit-most : limit ≤ 2048000000
   pub rows-room : g .vertices * length roots ≤ length rows
-  pub rows-zero : (x : ℕ) → x < length rows → getD rows x 0 ≡ 0
   pub out-room : g .vertices ≤ length out

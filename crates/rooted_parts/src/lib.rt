@@ -2,3 +2,4 @@
 // The words of the contracts stand in specs/ and in the definitions of the crate `rules`.
 pub mod parts;
 pub mod too_low_parts;
+pub mod within;

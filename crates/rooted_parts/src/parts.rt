@@ -1,12 +1,15 @@
 // The parts of a rooted trial, placed (document 01, steps 4 and 5): the forest's trees are split with the limit as threshold, the roots near
 // each part are marked, and each part is given a root of its own; or else a set of parts is marked that has too few roots.
-use marks::near::mark_parts;
+use crate::within::roots_within;
 use matching::Answer;
 use matching::assign;
+use near::held::near_pieces;
+use near::rows::put_rows;
 use split::split_forest;
 use unions::places::part_places;
 ghost use Rattle.graph.specs.Bytes.{graphOf};
-ghost use Rattle.rooted_parts.specs.Parts.{arraysOf, PiecesAsked, PiecesPlaced, AssignAsked, AssignDone, RowsAsked, RowsAssigned, PartsAsked};
+ghost use Rattle.rooted_parts.specs.Near.{PartsNear};
+ghost use Rattle.rooted_parts.specs.Parts.{arraysOf, PiecesAsked, PiecesPlaced, AssignAsked, AssignDone, WordsAsked, RowsAsked, RowsAssigned, PartsAsked};
 ghost use Rattle.rooted_parts.specs.Placed.{trialArrays, PartsPlaced};
 
 // How many parts there are, and whether each has a root of its own.
@@ -50,7 +53,28 @@ pub fn is_assigned(p: usize, k: usize, rows: &[u8], out: &mut [u8]) -> bool
     }
 }
 
-// Marks the roots near each part in its row, and gives each part a root of its own, or else marks a deficient set. The rows come as zeros.
+// For each part a word, whose bit j says whether the part may go to root j.
+fn pieces_near(
+    b: &[u8],
+    roots: &[u16],
+    limit: u64,
+    table: &[u32],
+    starts: &[u16],
+    cuts: &[u16],
+    flat: &[u16],
+    places: &[u16],
+    parts: usize,
+    words: &mut [u32],
+)
+    requires { ⌜ WordsAsked (now b) (now roots) limit (now table) (now starts) (now cuts) (now flat) (now places) parts (now words) ⌝ }
+    ensures { λ _. ⌜ PartsNear (graphOf (now (b .entry))) (now (roots .entry)) limit (now (words .exit)) parts ⌝ }
+{
+    let mut near = [0u32; 256];
+    roots_within(b, roots, limit, table, &mut near);
+    near_pieces(b, &near, starts, cuts, flat, &places[..parts], words);
+}
+
+// Marks the roots near each part in its row, and gives each part a root of its own, or else marks a deficient set.
 fn assign_parts(
     b: &[u8],
     roots: &[u16],
@@ -67,24 +91,27 @@ fn assign_parts(
     requires { ⌜ RowsAsked (now b) (now roots) limit (now table) (now starts) (now cuts) (now flat) (now places) parts (now rows) (now out) ⌝ }
     ensures { λ r. ⌜ RowsAssigned (graphOf (now (b .entry))) (now (roots .entry)) limit parts (now (rows .exit)) (now (out .exit)) r ⌝ }
 {
-    let k = roots.len();
-    let size = parts * k;
-    mark_parts(
+    let mut words = [0u32; 256];
+    pieces_near(
         b,
+        roots,
+        limit,
         table,
-        limit as u32,
-        k,
         starts,
         cuts,
         flat,
-        &places[..parts],
-        rows,
+        places,
+        parts,
+        &mut words,
     );
+    let k = roots.len();
+    let size = parts * k;
+    put_rows(&words[..parts], k, rows);
     is_assigned(parts, k, &rows[..size], out)
 }
 
 // The parts of a rooted trial where the edges within the limit join every vertex to a root, by the arcs of the whole forest and the distances
-// from all roots. The rows come as zeros.
+// from all roots.
 pub fn place_parts(
     b: &[u8],
     roots: &[u16],

@@ -7,7 +7,7 @@ use native.Mathlib.Omega.{arith}
 use borrow.Author.Needs.{needs}
 use lib.ListN.{length, getD, take, drop, length-drop}
 use lib.Seq.{length-take-le}
-use Rattle.marks.proofs.RowMarks.{row-room}
+use Rattle.marks.proofs.RowPlaces.{row-room}
 use Rattle.marks.proofs.RowsFilled.{TableUnderway, table-none, table-put, table-all}
 use Rattle.marks.proofs.table.fill_table.Statement.{statement}
 use Rattle.marks.proofs.table.fill_table.Tie as tie

@@ -42,7 +42,7 @@ slice-aggregate-place-parts-6 : tie.Need-slice-aggregate-place-parts-6
 slice-aggregate-place-parts-6 c = search needs
 
 place-parts-requires : tie.Need-place-parts-requires
-place-parts-requires c κs = let l = start c .pre in parts-asked (joined-ready l) (l .asked .asked .prepared .around) (l .rows-room) (l .rows-zero)
+place-parts-requires c κs = let l = start c .pre in parts-asked (joined-ready l) (l .asked .asked .prepared .around) (l .rows-room)
 
 slice-aggregate-answer-placed : tie.Need-slice-aggregate-answer-placed
 slice-aggregate-answer-placed c = search needs

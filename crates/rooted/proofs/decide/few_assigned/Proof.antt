@@ -2,13 +2,14 @@
 use Prim.Native.Nat.{ℕ, _*_, _≤_}
 use mathlib.Core.Path.{sym}
 use mathlib.Core.List.{List}
+use native.Mathlib.Nat.{mul-le-mul-right}
 use native.Mathlib.Omega.{arith}
 use lib.ListN.{length, take, replicate, length-replicate}
 use lib.Seq.{length-take-le}
 use Rattle.graph.specs.Bytes.{graphOf}
 use Rattle.near.specs.Rows.{RowsPut}
-use Rattle.rooted.specs.Decide.{PartsNear}
-use Rattle.rooted.proofs.RowsNear.{rows-small, taken, assign-asked, rows-decide}
+use Rattle.rooted_parts.specs.Near.{PartsNear}
+use Rattle.rooted_parts.proofs.RowsNear.{taken, assign-asked, rows-assigned}
 use borrow.Author.Needs.{needs}
 use Rattle.rooted.proofs.decide.few_assigned.Statement.{statement}
 use Rattle.rooted.proofs.decide.few_assigned.Tie as tie
@@ -34,8 +35,12 @@ module _ (q : tie.After-parts-near) where
   few : p ≤ length (s .args .roots .now)
   few = omega (arith, near .count, s .pre .few)
 
+  -- Rows for no more parts than roots are at most 32 times 32 bytes.
   small : p * length (s .args .roots .now) ≤ 1024
-  small = rows-small few (s .pre .counted .ready .asked .decidable .roots-few)
+  small =
+      let most = s .pre .counted .ready .asked .decidable .roots-few in
+      let h : p ≤ 32 = omega (arith, few, most) in
+      omega (arith, mul-le-mul-right (length (s .args .roots .now)) h, most)
 
 -- Where the rows are made of them.
 module _ (w : tie.After-put-rows) where
@@ -94,7 +99,7 @@ returns : tie.Need-returns
 returns c =
     let a = c .before in
     let w = a .before .before .before .before in
-    rows-decide (near (q w)) (put w) (room w) (a .is-assigned .ensures)
+    rows-assigned (near (q w)) (put w) (room w) (a .is-assigned .ensures) .assigned-is
 
 pub few-assigned-spec : {M : Type 1} → statement M
 few-assigned-spec =

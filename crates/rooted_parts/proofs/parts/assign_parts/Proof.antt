@@ -1,45 +1,89 @@
--- `rooted_parts::parts::assign_parts` meets its contract: the rows are marked, and the parts assigned. Assumes nothing.
+-- `rooted_parts::parts::assign_parts` meets its contract: the words of the parts are made into rows, by which the parts are assigned.
+-- Assumes nothing.
+use Prim.Native.Nat.{ℕ}
+use mathlib.Core.Path.{_≡_, sym}
+use mathlib.Core.List.{List}
 use native.Mathlib.Omega.{arith}
-use mathlib.Core.Path.{sym}
-use Rattle.rooted_parts.proofs.PartsAssembled.{rows-small, places-many, trees-given, taken, assign-asked, rows-assigned}
 use borrow.Author.Needs.{needs}
+use lib.ListN.{length, take, length-replicate}
+use lib.Seq.{length-take-le}
+use Rattle.graph.specs.Graph.{Graph}
+use Rattle.graph.specs.Bytes.{graphOf}
+use Rattle.near.specs.Rows.{RowsPut}
+use Rattle.rooted_parts.specs.Near.{PartsNear}
+use Rattle.rooted_parts.proofs.PartsAssembled.{few}
+use Rattle.rooted_parts.proofs.RowsNear.{taken, assign-asked, rows-assigned}
 use Rattle.rooted_parts.proofs.parts.assign_parts.Statement.{statement}
 use Rattle.rooted_parts.proofs.parts.assign_parts.Tie as tie
 
--- The start, seen from where the rows are to be marked; and where they were, seen from the assignment.
-abbrev start : tie.After-slice-known2 → tie.Start
-start c =
+-- Where the words are made: what came, and the words.
+module _ (q : tie.After-pieces-near) where
+  abbrev s : tie.Start
+  s =
+      let x = q .before .before .before .before in
+      let y = x .before .before .before .before in
+      y .before .before .before
+
+  abbrev g : Graph
+  g = graphOf (s .args .b .now)
+
+  abbrev p : ℕ
+  p = s .args .parts
+
+  abbrev k : ℕ
+  k = length (s .args .roots .now)
+
+  abbrev words : List ℕ
+  words = q .pieces-near .last .1 .1 .1 .1 .1 .1 .1 .1 .1 .0
+
+  near : PartsNear g (s .args .roots .now) (s .args .limit) words p
+  near = q .pieces-near .ensures
+
+  many : length (take p words) ≡ p
+  many = length-take-le p words (near .within)
+
+-- Where they are made into rows.
+module _ (w : tie.After-put-rows) where
+  abbrev q : tie.After-pieces-near
+  q = w .before .before .before .before
+
+  put : RowsPut (k q) (take (p q) (words q)) (s q .args .rows .now) (w .put-rows .last .1 .1 .0)
+  put = w .put-rows .ensures
+
+slice-aggregate-pieces-near : tie.Need-slice-aggregate-pieces-near
+slice-aggregate-pieces-near c = search needs
+
+pieces-near-requires : tie.Need-pieces-near-requires
+pieces-near-requires c κs =
     let x = c .before .before .before .before in
-    x .before .before .before .before .before
-
-abbrev begun : tie.After-mark-parts → tie.Start
-begun m = start (m .before .before .before)
-
-abbrev marked : tie.After-is-assigned-arg → tie.After-mark-parts
-marked c = c .before .before .before
+    let y = x .before .before .before .before in
+    let h = y .before .before .pre .held in
+    record { held = h; words-room = omega (arith, few h, h .graph .valid .vertices-most, length-replicate {A = ℕ} 256 0) }
 
 mul-size : tie.Need-mul-size
-mul-size c = let h = rows-small (start c .pre .held) in search needs
+mul-size c = search needs
 
-cast-mark-parts : tie.Need-cast-mark-parts
-cast-mark-parts c = search needs
+array-share-prefix-words : tie.Need-array-share-prefix-words
+array-share-prefix-words c = search needs
 
-slice-aggregate-mark-parts : tie.Need-slice-aggregate-mark-parts
-slice-aggregate-mark-parts c = places-many (start (c .before) .pre .held)
+slice-aggregate-put-rows : tie.Need-slice-aggregate-put-rows
+slice-aggregate-put-rows c = sym (many (c .before .before))
 
-mark-parts-requires : tie.Need-mark-parts-requires
-mark-parts-requires c κs = let s = start (c .before .before) in trees-given (s .pre .held) (s .pre .rows-room)
+put-rows-requires : tie.Need-put-rows-requires
+put-rows-requires c κs = let q = c .before .before .before in rw (many q) (s q .pre .rows-room)
 
 slice-reshare-prefix-is-assigned : tie.Need-slice-reshare-prefix-is-assigned
-slice-reshare-prefix-is-assigned c =
-    let m = c .before .before in
-    omega (arith, begun m .pre .rows-room, m .mark-parts .ensures .size)
+slice-reshare-prefix-is-assigned c = search needs
 
 slice-aggregate-is-assigned : tie.Need-slice-aggregate-is-assigned
-slice-aggregate-is-assigned c = let m = marked c in sym (taken (begun m .pre) (m .mark-parts .ensures))
+slice-aggregate-is-assigned c = let w = c .before .before .before in sym (taken (near (q w)) (put w) (s (q w) .pre .rows-room))
 
 is-assigned-requires : tie.Need-is-assigned-requires
-is-assigned-requires c κs = let m = marked (c .before) in assign-asked (begun m .pre) (m .mark-parts .ensures)
+is-assigned-requires c κs =
+    let w = c .before .before .before .before in
+    let a = s (q w) .pre in
+    let h = a .held in
+    assign-asked (near (q w)) (put w) (a .rows-room) (omega (arith, few h, h .graph .valid .vertices-most)) (h .roots-some) (h .roots-few) (a .out-room)
 
 same-length : tie.Need-same-length
 same-length c = search needs
@@ -49,18 +93,20 @@ same-length-2 c = search needs
 
 returns : tie.Need-returns
 returns c =
-    let r = c .before .before in
-    let m = marked (r .before .before) in
-    rows-assigned (begun m .pre) (m .mark-parts .ensures) (r .is-assigned .ensures)
+    let i = c .before .before in
+    let w = i .before .before .before .before .before in
+    rows-assigned (near (q w)) (put w) (s (q w) .pre .rows-room) (i .is-assigned .ensures)
 
 pub assign-parts-spec : {M : Type 1} → statement M
 assign-parts-spec =
     tie.close
     (tie.spec
+    slice-aggregate-pieces-near
+    pieces-near-requires
     mul-size
-    cast-mark-parts
-    slice-aggregate-mark-parts
-    mark-parts-requires
+    array-share-prefix-words
+    slice-aggregate-put-rows
+    put-rows-requires
     slice-reshare-prefix-is-assigned
     slice-aggregate-is-assigned
     is-assigned-requires

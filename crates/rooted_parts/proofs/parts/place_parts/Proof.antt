@@ -28,7 +28,7 @@ assign-parts-requires c κs =
     let q = placed c in
     let p = start q .pre in
     let held = asked-held p (q .place-pieces .ensures) in
-    record { held = held; rows-room = rows-enough held (p .rows-room); rows-zero = p .rows-zero; out-room = out-enough held (p .out-room) }
+    record { held = held; rows-room = rows-enough held (p .rows-room); out-room = out-enough held (p .out-room) }
 
 same-length : tie.Need-same-length
 same-length c = search needs

@@ -1,0 +1,130 @@
+-- `near::held::near_pieces` meets its contract. The loop's invariant: the trees of the first i places have their words. The measure is how many
+-- places are left. Assumes nothing.
+use Prim.Native.Nat.{ℕ, _-_, _<_}
+use mathlib.Core.Path.{_≡_, ap, subst, _∙_}
+use mathlib.Core.List.{List}
+use native.Mathlib.Omega.{arith}
+use borrow.Author.Needs.{needs}
+use lib.ListN.{length, getD}
+use Rattle.lists.specs.Segments.{segment}
+use Rattle.lists.proofs.Put.{only-first-length}
+use Rattle.graph.specs.Graph.{Graph}
+use Rattle.graph.specs.Bytes.{graphOf}
+use Rattle.rules.specs.Held.{treeAt}
+use Rattle.pieces.specs.Pieces.{treeOf}
+use Rattle.near.specs.Held.{NearTree, TreeHeld}
+use Rattle.near.proofs.HeldWords.{Wording, wording-none, wording-more, wording-all}
+use Rattle.near.proofs.held.near_pieces.Statement.{statement}
+use Rattle.near.proofs.held.near_pieces.Tie as tie
+
+abbrev Inv-loop : tie.InvT-loop
+Inv-loop b near starts cuts flat places words₀ i₀ words i = Wording (graphOf b) near starts cuts flat places i words₀ words
+
+abbrev μ-loop : tie.MeasureT-loop
+μ-loop b near starts cuts flat places words₀ i₀ words i = length places - i
+
+-- The start and the edges that were read are those of tree c.
+the-tree : (starts cuts flat : List ℕ) (c : ℕ) {g : Graph} {near edges : List ℕ} {start word : ℕ} → start ≡ getD starts c 0 → edges ≡ segment cuts flat c
+    → NearTree g near (treeOf start edges) word → NearTree g near (treeAt starts cuts flat c) word
+unfolding treeAt
+the-tree starts cuts flat c {g} {near} {edges} {start} {word} p q t =
+    subst (λ x. NearTree g near (treeOf (getD starts c 0) x) word) q (subst (λ x. NearTree g near (treeOf x edges) word) p t)
+
+-- In a turn: the tree of place i.
+module _ (t : tie.In-loop Inv-loop μ-loop) where
+  abbrev l : tie.At-loop Inv-loop μ-loop
+  l = t .before
+
+  abbrev s : tie.Start Inv-loop μ-loop
+  s = let x = l .before .before .before .before in x .before .before .before .before
+
+  abbrev c₀ : ℕ
+  c₀ = getD (s .args .places .now) (l .loop .i) 0
+
+  tree : TreeHeld (graphOf (s .args .b .now) .vertices) (s .args .starts .now) (s .args .cuts .now) (s .args .flat .now) c₀
+  tree = s .pre .trees (l .loop .i) (t .loop-test .taken)
+
+  room : l .loop .i < length (l .loop .words)
+  room = omega (arith, t .loop-test .taken, s .pre .words-room, only-first-length (l .loop .inv .only))
+
+-- Where the tree's start was read.
+module _ (w : tie.After-wide2 Inv-loop μ-loop) where
+  abbrev turn : tie.In-loop Inv-loop μ-loop
+  turn = w .before .before .before .before
+
+  start-is : w .wide2 .result ≡ getD (s turn .args .starts .now) (c₀ turn) 0
+  start-is = w .wide2 .ensures .is ∙ w .before .element-at .ensures ∙ ap (λ x. getD (s turn .args .starts .now) x 0) (w .before .before .wide .ensures .is)
+
+loop-holds : tie.Need-loop-holds Inv-loop μ-loop
+loop-holds c = wording-none _ _ _ _ _ _ _
+
+mul-c : tie.Need-mul-c Inv-loop μ-loop
+mul-c c = search needs
+
+shared-slice-read-c : tie.Need-shared-slice-read-c Inv-loop μ-loop
+shared-slice-read-c c = search needs
+
+wide-requires : tie.Need-wide-requires Inv-loop μ-loop
+wide-requires c κs = search needs
+
+element-at-requires : tie.Need-element-at-requires Inv-loop μ-loop
+element-at-requires c κs = search needs
+
+wide-requires-2 : tie.Need-wide-requires-2 Inv-loop μ-loop
+wide-requires-2 c κs = search needs
+
+piece-edges-requires : tie.Need-piece-edges-requires Inv-loop μ-loop
+piece-edges-requires c κs = tree (turn c) .held
+
+near-piece-requires : tie.Need-near-piece-requires Inv-loop μ-loop
+near-piece-requires c κs =
+    let w = c .before in
+    record { given = s (turn w) .pre .given; start-inside = omega (arith, start-is w, tree (turn w) .start-inside) }
+
+mul-words : tie.Need-mul-words Inv-loop μ-loop
+mul-words c = search needs
+
+slice-write-words : tie.Need-slice-write-words Inv-loop μ-loop
+slice-write-words c = room (turn (c .before .before))
+
+add-i : tie.Need-add-i Inv-loop μ-loop
+add-i c = search needs
+
+loop-less : tie.Need-loop-less Inv-loop μ-loop
+loop-less c = search needs
+
+loop-again : tie.Need-loop-again Inv-loop μ-loop
+loop-again c =
+    let w = c .before .before in
+    let t = turn w in
+    let a = s t .args in
+    wording-more _ _ _ _ _ _ (l t .loop .inv) (t .loop-test .taken) (room t)
+    (the-tree (a .starts .now) (a .cuts .now) (a .flat .now) (c₀ t) (start-is w) (c .before .piece-edges .ensures) (c .near-piece .ensures))
+
+same-length : tie.Need-same-length Inv-loop μ-loop
+same-length c = omega (arith, only-first-length (c .before .loop .inv .only))
+
+returns : tie.Need-returns Inv-loop μ-loop
+returns c = wording-all _ _ _ _ _ _ (c .before .loop .inv) (c .loop-test .left)
+
+pub near-pieces-spec : {M : Type 1} → statement M
+near-pieces-spec =
+    tie.close
+    (tie.spec
+    Inv-loop
+    μ-loop
+    loop-holds
+    mul-c
+    shared-slice-read-c
+    wide-requires
+    element-at-requires
+    wide-requires-2
+    piece-edges-requires
+    near-piece-requires
+    mul-words
+    slice-write-words
+    add-i
+    loop-less
+    loop-again
+    same-length
+    returns)

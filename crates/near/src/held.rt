@@ -1,0 +1,48 @@
+// The roots near each of several trees that three arrays hold, by those near each vertex. So an answer, which has its parts split, marks the roots
+// near them.
+use edges::index::wide;
+use pieces::pieces::element_at;
+use pieces::pieces::piece_edges;
+ghost use Rattle.graph.specs.Bytes.{graphOf};
+ghost use Rattle.pieces.specs.Pieces.{treeOf};
+ghost use Rattle.near.specs.Held.{PieceAsked, NearTree, PiecesAsked, NearPieces};
+
+// Those near the tree with this start and these edges: near the start, or near an end of an edge.
+fn near_piece(b: &[u8], near: &[u32], start: usize, edges: &[u16]) -> u32
+    requires { ⌜ PieceAsked (now b) (now near) start ⌝ }
+    ensures { λ r. ⌜ NearTree (graphOf (now (b .entry))) (now (near .entry)) (treeOf start (now (edges .entry))) r ⌝ }
+{
+    let mut word = near[start];
+    let mut i = 0;
+    while i < edges.len() {
+        let e = wide(edges[i]);
+        let one = graph::one_end(b, e);
+        let other = graph::other_end(b, e);
+        word = word | (near[one] | near[other]);
+        i += 1;
+    }
+    word
+}
+
+// Those near the tree of each place, a word for each.
+pub fn near_pieces(
+    b: &[u8],
+    near: &[u32],
+    starts: &[u16],
+    cuts: &[u16],
+    flat: &[u16],
+    places: &[u16],
+    words: &mut [u32],
+)
+    requires { ⌜ PiecesAsked (now b) (now near) (now starts) (now cuts) (now flat) (now places) (now words) ⌝ }
+    ensures { λ _. ⌜ NearPieces (graphOf (now (b .entry))) (now (near .entry)) (now (starts .entry)) (now (cuts .entry)) (now (flat .entry)) (now (places .entry))
+        (now (words .entry)) (now (words .exit)) ⌝ }
+{
+    let mut i = 0;
+    while i < places.len() {
+        let c = places[i];
+        let start = wide(element_at(starts, wide(c)));
+        words[i] = near_piece(b, near, start, piece_edges(cuts, flat, c));
+        i += 1;
+    }
+}

@@ -1,0 +1,69 @@
+-- The words of the parts' trees have the roots to which the parts may go, where the words of the vertices have those within the limit.
+-- Assumes nothing.
+use Prim.Native.Nat.{ℕ, _≤_, _<_}
+use mathlib.Core.Path.{_≡_, sym, ap, _∙_}
+use mathlib.Core.List.{List}
+use native.Mathlib.Omega.{arith}
+use lib.ListN.{length, getD, take}
+use lib.Seq.{getD-take}
+use Rattle.lists.specs.Lists.{any}
+use Rattle.lists.proofs.Put.{only-first-length}
+use Rattle.graph.specs.Graph.{Graph}
+use Rattle.graph.specs.Bytes.{graphOf}
+use Rattle.rules.specs.Cover.{Tree}
+use Rattle.rules.specs.Distance.{treeVertices, reachesPart}
+use Rattle.rules.specs.Held.{treeAt}
+use Rattle.rules.specs.RootedTrial.{mayGo}
+use Rattle.near.specs.Bits.{bitAt}
+use Rattle.near.specs.Held.{PiecesAsked, NearPieces}
+use Rattle.rooted_parts.specs.Near.{WithinAsked, VerticesNear, PartsNear}
+use Rattle.rooted_parts.specs.Parts.{WordsAsked}
+use Rattle.rooted_parts.proofs.NearMeansMayGo.{tree-reaches, reaches-risen}
+use Rattle.rooted_parts.proofs.PartsAssembled.{many}
+
+module _ {b roots : List ℕ} {limit : ℕ} {table starts cuts flat places : List ℕ} {p : ℕ} {words : List ℕ}
+    (a : WordsAsked b roots limit table starts cuts flat places p words) where
+  abbrev g : Graph
+  g = graphOf b
+
+  -- What is asked for the words of the vertices, and for those of the parts.
+  pub within-asked : {near : List ℕ} → 256 ≤ length near → ((v : ℕ) → v < length near → getD near v 0 ≡ 0) → WithinAsked b roots limit table near
+  within-asked room zeros =
+      record {
+        graph = a .held .graph;
+        roots-few = a .held .roots-few;
+        tabled = a .held .tabled;
+        limit-most = a .held .limit-most;
+        room = omega (arith, a .held .graph .valid .vertices-most);
+        zeros = zeros;
+      }
+
+  pub near-pieces-asked : {near : List ℕ} → 256 ≤ length near → PiecesAsked b near starts cuts flat (take p places) words
+  near-pieces-asked room =
+      record {
+        given = record { graph = a .held .graph; room = omega (arith, a .held .graph .valid .vertices-most) };
+        trees = λ i h. let l : i < p = omega (arith, many (a .held)) in rw (getD-take p places i 0 l) (a .held .placed .trees i l);
+        words-room = rw (many (a .held)) (a .words-room);
+      }
+
+  pub pieces-near : {near : List ℕ} → VerticesNear g roots limit near → {after : List ℕ} → NearPieces g near starts cuts flat (take p places) words after
+      → PartsNear g roots limit after p
+  unfolding mayGo treeAt
+  pieces-near {near} vertices {after} pieces =
+      record {
+        count = a .held .placed .parts-count;
+        within = omega (arith, a .words-room, only-first-length (pieces .rest));
+        each = each;
+      }
+    where
+      each : (i j : ℕ) → i < p → j < length roots → bitAt j (getD after i 0) ≡ mayGo g roots limit i j
+      each i j h l =
+          let c : ℕ = getD places i 0 in
+          let t : Tree = treeAt starts cuts flat c in
+          let root : ℕ = getD roots j 0 in
+          let same : getD (take p places) i 0 ≡ c = getD-take p places i 0 h in
+          pieces .each i (omega (arith, many (a .held))) .each j
+          ∙ ap (λ x. any (λ v. bitAt j (getD near v 0)) (treeVertices g (treeAt starts cuts flat x))) same
+          ∙ tree-reaches (a .held .graph .valid) limit root (λ v. bitAt j (getD near v 0)) (λ v m. vertices .each v j m l) t (a .held .placed .trees i h .start-inside)
+          ∙ reaches-risen g limit root t
+          ∙ ap (reachesPart g limit root) (sym (a .held .placed .part-is i h))

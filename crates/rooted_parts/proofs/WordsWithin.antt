@@ -1,0 +1,44 @@
+-- The words of the vertices have the roots within the limit, by the table of distances. What stands behind the words is not looked at.
+-- Assumes nothing.
+use Prim.Native.Nat.{ℕ}
+use mathlib.Core.Path.{_≡_, ap, _∙_}
+use mathlib.Core.List.{List, _++_}
+use native.Mathlib.Omega.{arith}
+use lib.Dec.{leb}
+use lib.ListN.{length, take, List·getD-append}
+use lib.Seq.{getD-take, length-take-le}
+use Rattle.graph.specs.Graph.{Graph}
+use Rattle.graph.specs.Bytes.{graphOf}
+use Rattle.marks.specs.Tabled.{distanceIn}
+use Rattle.near.specs.Bits.{bitAt}
+use Rattle.near.specs.Vertices.{NearAsked, NearVertices}
+use Rattle.rooted_parts.specs.Near.{WithinAsked, VerticesNear}
+use Rattle.rooted_parts.proofs.NearMeansMayGo.{says-within}
+
+module _ {b roots : List ℕ} {limit : ℕ} {table words : List ℕ} (a : WithinAsked b roots limit table words) where
+  abbrev g : Graph
+  g = graphOf b
+
+  -- The words of the vertices are lent, which stand first.
+  module _ (n : ℕ) (n-is : n ≡ g .vertices) where
+    pub lent : length (take n words) ≡ n
+    lent = length-take-le n words (omega (arith, a .room))
+
+    pub front-asked : NearAsked (length roots) table (take n words)
+    front-asked =
+        record {
+          roots-few = a .roots-few;
+          room = rw (lent, n-is) (a .tabled .room);
+          zeros = λ v h. getD-take n words v 0 (omega (arith, lent)) ∙ a .zeros v (omega (arith, lent, a .room));
+        }
+
+    pub front-near : (front rest : List ℕ) → NearVertices (length roots) limit table (take n words) front → VerticesNear g roots limit (front ++ rest)
+    front-near front rest near =
+        record {
+          each =
+              λ v j h l.
+              ap (bitAt j) (List·getD-append front rest 0 v (omega (arith, near .size, lent)))
+              ∙ near .each v j (omega (arith, lent)) l
+              ∙ ap (λ n. leb (distanceIn table n v j) limit) (lent ∙ n-is)
+              ∙ says-within limit _ _ (omega (arith, a .limit-most)) (a .tabled .each v j h l);
+        }
