@@ -82,7 +82,7 @@ fn answer_placed(
     reply_deficient(starts, cuts, flat, places, placed.parts, rows, out, k, buf)
 }
 
-// The answer where every vertex is joined to a root. The rows come as zeros.
+// The answer where every vertex is joined to a root.
 fn answer_parts(
     b: &[u8],
     roots: &[u16],
