@@ -1,4 +1,4 @@
--- `near::near_parts` meets its contract. The loop's invariant: for each root the pass over the steps that are left gives the answer, and what is left
+-- `near::parts::near_parts` meets its contract. The loop's invariant: for each root the pass over the steps that are left gives the answer, and what is left
 -- at each vertex is below the threshold, so that no sum wraps. The measure is how many steps are left. Assumes nothing.
 use Prim.Native.Nat.{ℕ, _+_, _-_, _<_}
 use mathlib.Core.Path.{refl}
