@@ -7,7 +7,7 @@ use Rattle.graph.specs.Bytes.{graphOf}
 use Rattle.rules.specs.Order.{ordered}
 use Rattle.cover.specs.declared.crews.Kind.{Kind}
 use Rattle.cover.specs.declared.crews.Kind.the-variants.{Rooted, Unrooted}
-use Rattle.marks.specs.Tabled.{LastsTabled}
+use Rattle.distance_table.specs.Tabled.{LastsTabled}
 use Rattle.rooted.specs.Prepared.{WholeAround}
 use Rattle.rooted.specs.Decide.{NoCoverAsked}
 use Rattle.needs.specs.Given.{ForestKept}

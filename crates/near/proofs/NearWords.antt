@@ -9,8 +9,8 @@ use lib.Dec.{leb}
 use lib.ListN.{length, getD, take, drop, set, length-set}
 use lib.Seq.{getD-set-same, getD-set-other}
 use Rattle.lists.proofs.AfterStore.{at-or-not}
-use Rattle.marks.specs.Tabled.{distanceIn}
-use Rattle.marks.proofs.RowPlaces.{part-at}
+use Rattle.distance_table.specs.Tabled.{distanceIn}
+use Rattle.distance_table.proofs.RowPlaces.{part-at}
 use Rattle.near.specs.Vertices.{RootAsked, RootAdded, NearAsked, NearVertices}
 use Rattle.near.proofs.BitsMade.{Gathering, gather-none, gather-fits, gather-more, gather-all}
 

@@ -12,8 +12,8 @@ use lib.ListN.{length, getD, take, drop, set, length-set, length-drop}
 use lib.Seq.{getD-set-same, getD-set-other, drop-drop, length-take-le}
 use Rattle.lists.proofs.AfterStore.{at-or-not}
 use Rattle.lists.proofs.OnlyFirst.{is-only-first}
-use Rattle.marks.proofs.PartReplaced.{replaced-length, replaced-in, replaced-before, replaced-behind}
-use Rattle.marks.proofs.RowPlaces.{row-behind, row-before}
+use Rattle.distance_table.proofs.PartReplaced.{replaced-length, replaced-in, replaced-before, replaced-behind}
+use Rattle.distance_table.proofs.RowPlaces.{row-behind, row-before}
 use Rattle.near.specs.Bits.{bitAt}
 use Rattle.near.specs.Rows.{RowPut, RowsPut}
 

@@ -6,7 +6,7 @@ use mathlib.Core.Bool.{cond}
 use mathlib.Core.List.{List}
 use lib.Dec.{leb}
 use lib.ListN.{length, getD}
-use Rattle.marks.specs.Tabled.{distanceIn}
+use Rattle.distance_table.specs.Tabled.{distanceIn}
 use Rattle.near.specs.Bits.{bitAt}
 
 -- What adding a root asks: a distance for each word, and room for one bit more in each.

@@ -1,8 +1,8 @@
 // What depends on the graph and the crews alone, prepared once a question: the edges in order and the whole forest; with roots the edges around each
 // vertex of it and the distances from all roots; without roots the history of its merges. Each kind prepares only what it reads.
 // The words of the contracts stand in specs/ and in the definitions of the crate `rules`.
+use distance_table::table::fill_table;
 use edges::around::put_around;
-use marks::table::fill_table;
 use needs::history::record_merges;
 use order::order::order_edges;
 use pieces::arcs::put_arcs;
@@ -10,7 +10,7 @@ use pieces::pieces::number_up;
 use pieces::whole::keep_whole;
 ghost use lib.ListN.{length};
 ghost use Rattle.graph.specs.Bytes.{graphOf};
-ghost use Rattle.marks.specs.Table.{Tabled};
+ghost use Rattle.distance_table.specs.Table.{Tabled};
 ghost use Rattle.prepare.specs.Preparing.{ForestAsked, ForestPrepared, DistancesAsked, RootedPreparable, RootedPrepared, UnrootedPreparable, UnrootedPrepared};
 
 // How many edges there are, and how many of them the whole forest has.

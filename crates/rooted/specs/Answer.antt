@@ -15,7 +15,7 @@ use Rattle.rules.specs.RootedTrial.{unjoinedAt}
 use Rattle.pieces.specs.declared.reply.Reply.{Reply}
 use Rattle.pieces.specs.declared.reply.Reply.the-variants.{Parts}
 use Rattle.rooted_parts.specs.declared.too_low_parts.Deficient.{Deficient}
-use Rattle.marks.specs.Tabled.{DistancesTabled, LastsTabled}
+use Rattle.distance_table.specs.Tabled.{DistancesTabled, LastsTabled}
 use Rattle.rooted_parts.specs.Placed.{TrialArrays, PartsPlaced}
 use Rattle.rooted.specs.Prepared.{Prepared}
 use Rattle.rooted_parts.specs.TooLowParts.{SetWritten}

@@ -13,7 +13,7 @@ use Rattle.rules.specs.Labels.{together}
 use Rattle.rules.specs.Forest.{keep}
 use Rattle.edges.specs.Around.{Around}
 use Rattle.steps.specs.WalkPut.{Walk}
-use Rattle.marks.specs.Tabled.{DistancesTabled, LastsTabled}
+use Rattle.distance_table.specs.Tabled.{DistancesTabled, LastsTabled}
 
 -- What deciding a limit takes, beside a walk: the graph's bytes and the roots (none where the crews have none), the whole forest by weight, and the
 -- distances from the roots.

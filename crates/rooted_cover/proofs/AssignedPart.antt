@@ -31,13 +31,13 @@ use Rattle.planner_laws.proofs.RootedPieces.{part-at, rooted-left}
 use Rattle.distance.specs.Trail.{trailOf}
 use Rattle.distance.specs.Shortest.{unreached, Shortest}
 use Rattle.pieces.specs.Pieces.{treeOf}
-use Rattle.marks.specs.Nearest.{Nearest}
-use Rattle.marks.specs.Tabled.{distanceIn, DistancesTabled, LastsTabled, rowOf}
+use Rattle.distance_table.specs.Nearest.{Nearest}
+use Rattle.distance_table.specs.Tabled.{distanceIn, DistancesTabled, LastsTabled, rowOf}
 use Rattle.rooted_parts.specs.Placed.{TrialArrays, PartsPlaced}
 use Rattle.rooted_cover.specs.Tree.{BackGiven}
 use Rattle.rooted_parts.proofs.NearMeansMayGo.{says-within, tree-reaches, reaches-risen, more-edges, around-inside}
-use Rattle.marks.proofs.RootPath.{nearest-back, nearest-shortest-path}
-use Rattle.marks.proofs.RowPlaces as rows
+use Rattle.distance_table.proofs.RootPath.{nearest-back, nearest-shortest-path}
+use Rattle.distance_table.proofs.RowPlaces as rows
 
 -- An array with room for k rows of n has the whole of each.
 pub row-whole : (n : ℕ) (array : List ℕ) (j k : ℕ) → j < k → k * n ≤ length array → n ≤ length (rowOf n array j)

@@ -13,8 +13,8 @@ use Rattle.graph.specs.Graph.{Graph}
 use Rattle.rules.specs.RootedTrial.{unionTree}
 use Rattle.rules.proofs.Linked.{turned}
 use Rattle.distance.specs.Trail.{trailOf}
-use Rattle.marks.specs.Nearest.{Nearest}
-use Rattle.marks.specs.Tabled.{rowOf}
+use Rattle.distance_table.specs.Nearest.{Nearest}
+use Rattle.distance_table.specs.Tabled.{rowOf}
 use Rattle.rooted_parts.specs.Placed.{TrialArrays, PartsPlaced}
 use Rattle.rooted_cover.specs.Tree.{AssignedAre, none, part}
 use Rattle.rooted_cover.specs.CoverTrees.{RootTree}

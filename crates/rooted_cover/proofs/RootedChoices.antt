@@ -25,7 +25,7 @@ use Rattle.rules.specs.RootedTrial.{rootedPieces, rootedParts, partOf, mayGo, C
 use Rattle.rules.proofs.Linked.{turned, of-turned}
 use Rattle.distance.specs.Trail.{trailOf}
 use Rattle.distance.specs.Shortest.{unreached}
-use Rattle.marks.specs.Tabled.{DistancesTabled, LastsTabled, rowOf}
+use Rattle.distance_table.specs.Tabled.{DistancesTabled, LastsTabled, rowOf}
 use Rattle.rooted_parts.specs.Placed.{TrialArrays, PartsPlaced}
 use Rattle.rooted_cover.specs.Tree.{AssignedAre, none, part}
 use Rattle.rooted_cover.specs.CoverTrees.{RootTree}

@@ -9,7 +9,7 @@ use lib.Seq.{getD-take}
 use Rattle.lists.specs.Segments.{segment}
 use Rattle.graph.specs.Graph.{Graph}
 use Rattle.graph.specs.Bytes.{graphOf}
-use Rattle.marks.specs.Tabled.{rowOf}
+use Rattle.distance_table.specs.Tabled.{rowOf}
 use Rattle.rooted_cover.specs.Tree.{ReachGiven}
 use Rattle.rooted_cover.specs.CoverTrees.{RootsGiven, CoverAsked}
 use Rattle.rooted_cover.proofs.AssignedPart.{bytes-room, byte-is-root, row-whole, places-many, start-in, part-edge, left-edge, part-back}

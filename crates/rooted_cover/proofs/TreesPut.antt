@@ -10,10 +10,10 @@ use Rattle.lists.specs.Put.{PutTo}
 use Rattle.lists.proofs.Put.{put-count, put-front}
 use Rattle.graph.specs.Graph.{Graph}
 use Rattle.graph.specs.Bytes.{graphOf}
-use Rattle.marks.specs.Tabled.{rowOf}
+use Rattle.distance_table.specs.Tabled.{rowOf}
 use Rattle.rooted_cover.specs.Tree.{RootGiven, RootWritten}
 use Rattle.rooted_cover.specs.CoverTrees.{RootsGiven, TreePut}
-use Rattle.marks.proofs.RowPlaces.{row-room}
+use Rattle.distance_table.proofs.RowPlaces.{row-room}
 
 -- From the length on nothing is left.
 drop-past : (n : ℕ) (xs : List ℕ) → length xs ≤ n → drop n xs ≡ []

@@ -14,7 +14,7 @@ use Rattle.rules.specs.Cover.{heaviest}
 use Rattle.rules.specs.CoverBytes.{encode}
 use Rattle.rules.specs.Order.{ordered}
 use Rattle.rules.specs.RootedTrial.{Choices, GoodChoices, unionTree, rootedCover}
-use Rattle.marks.specs.Tabled.{DistancesTabled, LastsTabled, rowOf}
+use Rattle.distance_table.specs.Tabled.{DistancesTabled, LastsTabled, rowOf}
 use Rattle.rooted_parts.specs.Placed.{trialArrays, PartsPlaced}
 use Rattle.rooted_cover.specs.Tree.{AssignedAre, RootGiven}
 

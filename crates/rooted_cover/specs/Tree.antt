@@ -21,7 +21,7 @@ use Rattle.distance.specs.Trail.{trailOf, CanGoBack}
 use Rattle.cover.specs.Chosen.{IsHeld, AllHeld}
 use Rattle.pieces.specs.Pieces.{treeOf}
 use Rattle.unions.specs.Marked.{Marked}
-use Rattle.marks.specs.Nearest.{NearestGiven, Nearest}
+use Rattle.distance_table.specs.Nearest.{NearestGiven, Nearest}
 
 -- r is the first place below the bound where j stands, or the bound where it stands at none.
 pub record FirstWith (bytes : List ℕ) (bound j r : ℕ) : Type 0 where

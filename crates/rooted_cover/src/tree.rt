@@ -1,8 +1,8 @@
 // The tree of one root (document 01, step 6): "a tree is the union of its part if any, a shortest path to it, and what is left at the yard".
 // The union's edges are marked, kept in order, and put by rising number.
 use distance::path_back;
+use distance_table::nearest::nearest_vertex;
 use edges::index::wide;
-use marks::nearest::nearest_vertex;
 use order::order::rise_edges;
 use pieces::pieces::element_at;
 use pieces::pieces::piece_edges;

@@ -16,7 +16,7 @@ use Rattle.rules.specs.RootedTrial.{mayGo, isAssignable}
 use Rattle.near.specs.Bits.{bitAt}
 use Rattle.near.specs.Rows.{RowsPut}
 use Rattle.near.proofs.BitsMade.{bit-says, bit-small}
-use Rattle.marks.proofs.RowPlaces.{place-within, every-place}
+use Rattle.distance_table.proofs.RowPlaces.{place-within, every-place}
 use Rattle.rooted_parts.specs.Near.{PartsNear}
 use Rattle.rooted_parts.specs.Parts.{AssignAsked, AssignDone, RowsAssigned}
 use Rattle.rooted_parts.proofs.AssignmentsAlike.{assignment-same, deficient-same, assignable-same}

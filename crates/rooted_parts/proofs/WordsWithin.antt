@@ -9,7 +9,7 @@ use lib.ListN.{length, take, List·getD-append}
 use lib.Seq.{getD-take, length-take-le}
 use Rattle.graph.specs.Graph.{Graph}
 use Rattle.graph.specs.Bytes.{graphOf}
-use Rattle.marks.specs.Tabled.{distanceIn}
+use Rattle.distance_table.specs.Tabled.{distanceIn}
 use Rattle.near.specs.Bits.{bitAt}
 use Rattle.near.specs.Vertices.{NearAsked, NearVertices}
 use Rattle.rooted_parts.specs.Near.{WithinAsked, VerticesNear}

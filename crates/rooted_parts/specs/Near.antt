@@ -10,7 +10,7 @@ use Rattle.graph.specs.Bytes.{graphOf}
 use Rattle.graph.specs.Valid.{IsGraph}
 use Rattle.rules.specs.Distance.{distances, isWithin}
 use Rattle.rules.specs.RootedTrial.{rootedParts, mayGo}
-use Rattle.marks.specs.Tabled.{DistancesTabled}
+use Rattle.distance_table.specs.Tabled.{DistancesTabled}
 use Rattle.near.specs.Bits.{bitAt}
 
 -- What is asked for the words of the vertices: the distances from at most 32 roots, a limit no larger than document 01 has it, and a word of zero for

@@ -22,7 +22,7 @@ use Rattle.rules.specs.Held.{treeAt, treesAt, risen}
 use Rattle.rules.specs.RootedTrial.{unjoinedAt, rootedPieces, rootedParts, partOf, leftAt, mayGo, isAssignable}
 use Rattle.edges.specs.Around.{Around}
 use Rattle.cover.specs.Chosen.{IsHeld}
-use Rattle.marks.specs.Tabled.{DistancesTabled}
+use Rattle.distance_table.specs.Tabled.{DistancesTabled}
 use Rattle.near.specs.Held.{TreeHeld}
 
 -- The arrays of the pieces: their starts, bounds and edges, the number of each root's leftover, and the number of each part's piece.

@@ -5,7 +5,7 @@ use mathlib.Core.Path.{_≡_}
 use native.Mathlib.Omega.{arith}
 use borrow.Author.Needs.{needs}
 use lib.ListN.{length}
-use Rattle.marks.proofs.RowPlaces.{row-room}
+use Rattle.distance_table.proofs.RowPlaces.{row-room}
 use Rattle.near.proofs.RowBits.{RowsPutting, rows-none, rows-put, rows-all}
 use Rattle.near.proofs.rows.put_rows.Statement.{statement}
 use Rattle.near.proofs.rows.put_rows.Tie as tie

@@ -6,7 +6,7 @@ use native.Mathlib.Omega.{arith}
 use borrow.Author.Needs.{needs}
 use lib.ListN.{length, take, drop, length-drop}
 use lib.Seq.{length-take-le}
-use Rattle.marks.proofs.RowPlaces.{row-room}
+use Rattle.distance_table.proofs.RowPlaces.{row-room}
 use Rattle.near.proofs.NearWords.{RootsAdding, roots-none, root-asked, roots-more, roots-all}
 use Rattle.near.proofs.vertices.near_vertices.Statement.{statement}
 use Rattle.near.proofs.vertices.near_vertices.Tie as tie

@@ -9,7 +9,7 @@ use lib.Seq.{getD-set-same}
 use borrow.Author.Needs.{needs}
 use Rattle.lists.proofs.Put.{put-length}
 use Rattle.graph.specs.Bytes.{graphOf}
-use Rattle.marks.proofs.RowPlaces.{row-room, row-behind}
+use Rattle.distance_table.proofs.RowPlaces.{row-room, row-behind}
 use Rattle.rooted_cover.specs.CoverTrees.{TreesLaid}
 use Rattle.rooted_cover.proofs.CoverLaid.{trees-none, trees-more}
 use Rattle.rooted_cover.proofs.cover_trees.lay_trees.Statement.{statement}

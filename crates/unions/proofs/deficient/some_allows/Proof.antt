@@ -12,7 +12,7 @@ use Rattle.lists.specs.Count.{anyBelow}
 use Rattle.lists.proofs.NextPlace.{any-below-next}
 use Rattle.matching.specs.Assignment.{marked}
 use Rattle.matching.specs.Input.{allowedAt}
-use Rattle.marks.proofs.RowPlaces.{place-within}
+use Rattle.distance_table.proofs.RowPlaces.{place-within}
 use Rattle.unions.proofs.deficient.some_allows.Statement.{statement}
 use Rattle.unions.proofs.deficient.some_allows.Tie as tie
 

@@ -1,4 +1,4 @@
--- What the contracts of `marks` say, in reading order.
+-- What the contracts of `distance_table` say, in reading order.
 -- the distances from all roots in one table, and the last edges, root by root
 pub mod Tabled
 -- their rows, filled

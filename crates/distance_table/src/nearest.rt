@@ -6,7 +6,7 @@ ghost use lib.Dec.{ltb};
 ghost use lib.ListN.{getD};
 ghost use Rattle.graph.specs.Bytes.{graphOf};
 ghost use Rattle.pieces.specs.Pieces.{treeOf};
-ghost use Rattle.marks.specs.Nearest.{LookGiven, NearestGiven, Nearest};
+ghost use Rattle.distance_table.specs.Nearest.{LookGiven, NearestGiven, Nearest};
 
 // The nearer of two vertices: u, unless v is nearer.
 fn nearer(dist: &[u32], u: usize, v: usize) -> usize

@@ -16,10 +16,10 @@ use Rattle.graph.specs.Graph.{Graph, edgeCount}
 use Rattle.rules.specs.Distance.{distances}
 use Rattle.edges.specs.Around.{Around}
 use Rattle.distance.specs.Shortest.{SaysDistance, Shortest, Searched}
-use Rattle.marks.specs.Tabled.{rowOf}
-use Rattle.marks.specs.Table.{TableFilled}
-use Rattle.marks.proofs.PartReplaced.{replaced-length}
-use Rattle.marks.proofs.RowPlaces.{row-before, part-at}
+use Rattle.distance_table.specs.Tabled.{rowOf}
+use Rattle.distance_table.specs.Table.{TableFilled}
+use Rattle.distance_table.proofs.PartReplaced.{replaced-length}
+use Rattle.distance_table.proofs.RowPlaces.{row-before, part-at}
 
 -- A row of an array was replaced by a list as long: it stands there, and the rows before it are as they came.
 module _ (rows row : List ℕ) (j n : ℕ) (fits : j * n + n ≤ length rows) (size : length row ≡ n) where

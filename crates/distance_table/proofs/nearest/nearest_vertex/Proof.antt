@@ -1,4 +1,4 @@
--- `marks::nearest::nearest_vertex` meets its contract. The loop's invariant: v is a vertex of the part, and neither the start nor an end
+-- `distance_table::nearest::nearest_vertex` meets its contract. The loop's invariant: v is a vertex of the part, and neither the start nor an end
 -- of an edge before i is nearer. The measure is how many edges are left. Assumes nothing.
 use Prim.Native.Nat.{ℕ, _-_, _<_}
 use mathlib.Core.Path.{_≡_, ap, _∙_}
@@ -9,9 +9,9 @@ use Rattle.graph.specs.Graph.{Graph, oneEnd, otherEnd}
 use Rattle.graph.specs.Bytes.{graphOf}
 use Rattle.graph.specs.Valid.{Valid}
 use Rattle.graph.proofs.Ranges.{one-end-below, other-end-below}
-use Rattle.marks.proofs.NearestSoFar.{Nearing, nearing-start, nearing-more, nearing-all, mid-inside, nearerOf}
-use Rattle.marks.proofs.nearest.nearest_vertex.Statement.{statement}
-use Rattle.marks.proofs.nearest.nearest_vertex.Tie as tie
+use Rattle.distance_table.proofs.NearestSoFar.{Nearing, nearing-start, nearing-more, nearing-all, mid-inside, nearerOf}
+use Rattle.distance_table.proofs.nearest.nearest_vertex.Statement.{statement}
+use Rattle.distance_table.proofs.nearest.nearest_vertex.Tie as tie
 
 abbrev Inv-loop : tie.InvT-loop
 Inv-loop b dist start edges v₀ i₀ v i = Nearing (graphOf b) dist start edges i v

@@ -12,7 +12,7 @@ use Rattle.rules.proofs.Linked.{turned}
 use Rattle.distance.specs.Trail.{trailOf, CanGoBack}
 use Rattle.distance.specs.Shortest.{unreached, Shortest}
 use Rattle.distance.proofs.NearestPath.{can-go-back, nearest-path}
-use Rattle.marks.specs.Nearest.{Nearest}
+use Rattle.distance_table.specs.Nearest.{Nearest}
 
 module _ {g : Graph} {last dist : List ℕ} {root : ℕ} {t : Tree} {v : ℕ} (s : Shortest g root dist last) (n : Nearest g dist t v)
     (reached : getD dist v 0 < unreached) where

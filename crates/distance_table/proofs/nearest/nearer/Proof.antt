@@ -1,9 +1,9 @@
--- `marks::nearest::nearer` meets its contract: the definition takes the arm that the test says. Assumes nothing.
+-- `distance_table::nearest::nearer` meets its contract: the definition takes the arm that the test says. Assumes nothing.
 use lib.ListN.{getD}
 use borrow.Author.Needs.{needs}
 use borrow.Author.Tests.{lt-ltb, le-ltb}
-use Rattle.marks.proofs.nearest.nearer.Statement.{statement}
-use Rattle.marks.proofs.nearest.nearer.Tie as tie
+use Rattle.distance_table.proofs.nearest.nearer.Statement.{statement}
+use Rattle.distance_table.proofs.nearest.nearer.Tie as tie
 
 mul-if1 : tie.Need-mul-if1
 mul-if1 c = search needs

@@ -3,7 +3,7 @@
 use distance::distances_from;
 use edges::index::wide;
 ghost use lib.ListN.{length};
-ghost use Rattle.marks.specs.Table.{TableAsked, TableFilled};
+ghost use Rattle.distance_table.specs.Table.{TableAsked, TableFilled};
 
 // The distances from all roots, and their last edges: for each root its rows of both.
 pub fn fill_table(

@@ -1,4 +1,4 @@
--- `marks::table::fill_table` meets its contract. The loop's invariant: the rows of the first j roots are filled.
+-- `distance_table::table::fill_table` meets its contract. The loop's invariant: the rows of the first j roots are filled.
 -- The measure is how many roots are left. Assumes nothing.
 use Prim.Native.Nat.{ℕ, _+_, _*_, _-_, _≤_}
 use mathlib.Core.Path.{_≡_}
@@ -7,10 +7,10 @@ use native.Mathlib.Omega.{arith}
 use borrow.Author.Needs.{needs}
 use lib.ListN.{length, getD, take, drop, length-drop}
 use lib.Seq.{length-take-le}
-use Rattle.marks.proofs.RowPlaces.{row-room}
-use Rattle.marks.proofs.RowsFilled.{TableUnderway, table-none, table-put, table-all}
-use Rattle.marks.proofs.table.fill_table.Statement.{statement}
-use Rattle.marks.proofs.table.fill_table.Tie as tie
+use Rattle.distance_table.proofs.RowPlaces.{row-room}
+use Rattle.distance_table.proofs.RowsFilled.{TableUnderway, table-none, table-put, table-all}
+use Rattle.distance_table.proofs.table.fill_table.Statement.{statement}
+use Rattle.distance_table.proofs.table.fill_table.Tie as tie
 
 abbrev Inv-loop : tie.InvT-loop
 Inv-loop n bounds arcs roots table₀ lasts₀ j₀ table lasts j = TableUnderway n bounds arcs roots j table₀ table lasts₀ lasts

@@ -7,7 +7,7 @@ use lib.ListN.{length, getD}
 use Rattle.lists.specs.Count.{below}
 use Rattle.graph.specs.Graph.{Graph, edgeCount}
 use Rattle.edges.specs.Around.{Arcs, Around}
-use Rattle.marks.specs.Tabled.{DistancesTabled, LastsTabled}
+use Rattle.distance_table.specs.Tabled.{DistancesTabled, LastsTabled}
 
 -- What filling the table asks: arcs of n vertices, the roots among them, and room for n distances and last edges for each.
 pub record TableAsked (n : ℕ) (bounds arcs roots : List ℕ) (table lasts : ℕ) : Type 0 where

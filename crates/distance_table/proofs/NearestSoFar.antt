@@ -18,7 +18,7 @@ use Rattle.graph.specs.Valid.{Valid}
 use Rattle.graph.proofs.Ranges.{one-end-below, other-end-below}
 use Rattle.rules.specs.Distance.{treeVertices}
 use Rattle.pieces.specs.Pieces.{treeOf, endsOf}
-use Rattle.marks.specs.Nearest.{Nearest}
+use Rattle.distance_table.specs.Nearest.{Nearest}
 
 -- The nearer of two.
 module _ (far : ℕ → ℕ) (u v : ℕ) where
