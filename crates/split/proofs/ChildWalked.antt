@@ -16,8 +16,8 @@ use Rattle.bunches.specs.Settles.{Load, load, Settles, stacked, Settleable, Chi
 use Rattle.bunches.specs.declared.Progress.{Progress}
 use Rattle.bunches.specs.declared.bunch.Bunch.{Bunch}
 use Rattle.bunches.proofs.PiecesAdded.{added-none, added-on}
-use Rattle.split.specs.SplitBelow.{unmarked, unvisited, pieceOf, SplitBelow, done, past, child}
-use Rattle.split.specs.ChildrenWalked.{State, passing, HasRoom, Walkable, Bunched, ChildrenWalked, NodeWalked}
+use Rattle.split.specs.SplitBelow.{unmarked, unvisited, passing, pieceOf, SplitBelow, done, past, child}
+use Rattle.split.specs.ChildrenWalked.{State, HasRoom, Walkable, Bunched, ChildrenWalked, NodeWalked}
 use Rattle.split.proofs.Unvisited.{unvisited-less}
 
 -- The bunch of v on the stack.
@@ -27,6 +27,10 @@ bunchAt base end weight = record { base = base; end = end; weight = weight }
 -- A child's edge goes on the stack,
 abbrev pub pushed : State → ℕ → State
 pushed s edge = record { marks = s .marks; stack = set (s .stack) (s .top) edge; top = s .top + 1; store = s .store }
+
+-- the child is passed,
+abbrev pub visiting : ℕ → State → State
+visiting v s = record { marks = passing v (s .marks); stack = s .stack; top = s .top; store = s .store }
 
 -- and the child's piece is settled.
 abbrev pub after : State → Store → ℕ → State
@@ -76,7 +80,7 @@ walked-of {m} {n} same x = let q : m ≡ n = same in rw q at x
 -- At a child.
 module _ {n base : ℕ} {s : State} {w : ℕ} (b : Bunched n base s w) {arc head edge : ℕ} (c : IsChild n (s .marks) arc head edge) where
   -- one vertex fewer is left
-  pub child-less : unvisited n (set (s .marks) head 1) < unvisited n (s .marks)
+  pub child-less : unvisited n (passing head (s .marks)) < unvisited n (s .marks)
   child-less = unvisited-less (s .marks) head (omega (arith, b .room .marks-length, c .inside)) n (c .inside) (c .new)
 
   -- there is room for the child's edge
@@ -88,7 +92,7 @@ module _ {n base : ℕ} {s : State} {w : ℕ} (b : Bunched n base s w) {arc head
   pushed-length = length-set (s .stack) (s .top) edge ∙ b .room .stack-length
 
   -- the child's node can be walked
-  child-room : HasRoom n (passing head (pushed s edge))
+  child-room : HasRoom n (visiting head (pushed s edge))
   child-room =
       record {
         marks-length = rw length-set (b .room .marks-length);
@@ -98,10 +102,10 @@ module _ {n base : ℕ} {s : State} {w : ℕ} (b : Bunched n base s w) {arc head
       }
 
   pub child-walkable : {bounds arcs : List ℕ} → Arcs n bounds arcs
-      → Walkable (length (set (s .stack) (s .top) edge)) bounds arcs head (passing head (pushed s edge))
+      → Walkable (length (set (s .stack) (s .top) edge)) bounds arcs head (visiting head (pushed s edge))
   child-walkable around = rw pushed-length (record { around = around; inside = c .inside; room = child-room })
 
-  module _ {bounds arcs : List ℕ} {H : ℕ} {t : State} {y : ℕ} (inner : NodeWalked n bounds arcs H head (passing head (pushed s edge)) t y) where
+  module _ {bounds arcs : List ℕ} {H : ℕ} {t : State} {y : ℕ} (inner : NodeWalked n bounds arcs H head (visiting head (pushed s edge)) t y) where
     abbrev room : HasRoom n t
     room = inner .bunched .room
 
@@ -179,7 +183,7 @@ module _ {n base : ℕ} {s : State} {w : ℕ} (b : Bunched n base s w) {arc head
           let head-is : head ≡ arcHead arc = c .head-is in
           let edge-is : edge ≡ arcEdge arc = c .edge-is in
           let left : Load = stacked (t .stack) (s .top + 1) (t .top) y in
-          let first : SplitBelow bounds arcs H head (segment bounds arcs head) (set (s .marks) head 1) (load [] 0) (inner .parts) left (t .marks) =
+          let first : SplitBelow bounds arcs H head (segment bounds arcs head) (passing head (s .marks)) (load [] 0) (inner .parts) left (t .marks) =
           rw (slice-empty (s .top + 1) (set (s .stack) (s .top) edge)) at (inner .below)
           in
           let met : Settles H v (stacked (s .stack) base (s .top) w) (pieceOf arc left) (settled .parts) (stacked (t .stack) base (r .top) (r .weight)) =

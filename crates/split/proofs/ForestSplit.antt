@@ -1,6 +1,6 @@
 -- Before the first root nothing is held, and when all roots are done the arrays hold what splitting a forest promises.
 -- Assumes nothing.
-use Prim.Native.Nat.{ℕ, _≤_, _<_}
+use Prim.Native.Nat.{ℕ, _<_}
 use mathlib.Core.Path.{_≡_, refl, sym, ap, _∙_}
 use mathlib.Core.List.{List, [], map, append-nil}
 use mathlib.Core.Logic.{inl, ⊎-elim}

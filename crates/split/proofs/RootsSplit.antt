@@ -22,11 +22,11 @@ use Rattle.bunches.specs.Settles.{load, stacked}
 use Rattle.bunches.specs.declared.Progress.{Progress}
 use Rattle.bunches.proofs.PiecesAdded.{added-on}
 use Rattle.split.specs.Pieces.{leftOf, withLeft, leftPlaces}
-use Rattle.split.specs.SplitBelow.{unvisited, SplitBelow}
-use Rattle.split.specs.ChildrenWalked.{State, passing, HasRoom, Walkable, NodeWalked}
+use Rattle.split.specs.SplitBelow.{unvisited, passing, SplitBelow}
+use Rattle.split.specs.ChildrenWalked.{State, HasRoom, Walkable, NodeWalked}
 use Rattle.split.specs.ForestSplit.{Lent}
 use Rattle.split.proofs.Unvisited.{unvisited-below, unvisited-fewer}
-use Rattle.split.proofs.ChildWalked.{after}
+use Rattle.split.proofs.ChildWalked.{visiting, after}
 use Rattle.split.proofs.SplitAsRules.{MarksAre, Gives, node-as-rules}
 use Rattle.split.proofs.PiecesOf.{piecesFor, pieces-more, lefts-more}
 
@@ -78,7 +78,7 @@ pub record RootsSplit (n : ℕ) (bounds arcs roots : List ℕ) (H : ℕ) (a : Le
 module _ {n : ℕ} {bounds arcs roots : List ℕ} {H : ℕ} {a : Lent} {j : ℕ} {s : State} {lefts : List ℕ}
     (k : RootsSplit n bounds arcs roots H a j s lefts) (more : j < length roots) {r : ℕ} (r-is : r ≡ getD roots j 0) (inside : r < n) where
   -- its node can be walked
-  pub root-walkable : Arcs n bounds arcs → Walkable (length (s .stack)) bounds arcs r (passing r s)
+  pub root-walkable : Arcs n bounds arcs → Walkable (length (s .stack)) bounds arcs r (visiting r s)
   root-walkable around =
       rw (k .room .stack-length)
       (record {
@@ -93,7 +93,7 @@ module _ {n : ℕ} {bounds arcs roots : List ℕ} {H : ℕ} {a : Lent} {j : ℕ}
             };
       })
 
-  module _ {t : State} {z : ℕ} (walked : NodeWalked n bounds arcs H r (passing r s) t z) where
+  module _ {t : State} {z : ℕ} (walked : NodeWalked n bounds arcs H r (visiting r s) t z) where
     abbrev room : HasRoom n t
     room = walked .bunched .room
 
@@ -121,7 +121,7 @@ module _ {n : ℕ} {bounds arcs roots : List ℕ} {H : ℕ} {a : Lent} {j : ℕ}
     left-number h = omega (arith, k .few, walked .filled, room .fits, room .sound .few)
 
     -- the walk split its tree, with what is left from the stack's first place on
-    tree-below : SplitBelow bounds arcs H r (segment bounds arcs r) (set (s .marks) r 1) (load [] 0) (walked .parts) (stacked (t .stack) 0 (t .top) z) (t .marks)
+    tree-below : SplitBelow bounds arcs H r (segment bounds arcs r) (passing r (s .marks)) (load [] 0) (walked .parts) (stacked (t .stack) 0 (t .top) z) (t .marks)
     tree-below = let e : s .top ≡ 0 = k .empty in rw (e, slice-empty 0 (s .stack)) at (walked .below)
 
     module _ {u : Store} {p q : Progress} (top-is : p .top ≡ t .top) (put : PiecePut r 0 0 (t .stack) (t .store) u p q) where

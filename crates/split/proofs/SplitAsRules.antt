@@ -10,7 +10,7 @@ use mathlib.Core.Logic.{dite}
 use native.Mathlib.Decide.{ℕ-discrete}
 use native.Mathlib.Omega.{arith}
 use borrow.Author.Tests.{eq-eqb, ne-eqb}
-use lib.ListN.{length, set, length-set}
+use lib.ListN.{length, length-set}
 use Rattle.lists.specs.Lists.{any, filter, member}
 use Rattle.lists.specs.Member.{_∈_}
 use Rattle.lists.specs.Segments.{segment}
@@ -28,7 +28,7 @@ use Rattle.split_laws.proofs.Deep.{unpassed, unpassed-more, unpassed-fewer, unp
 use Rattle.edges.specs.Around.{arcOf, arcEdge, arcHead, arcWeight, touches, arcsAt, Around}
 use Rattle.edges.proofs.Arcs.{arc-edge, far-end-below, valid-arc-head, valid-arc-weight}
 use Rattle.bunches.specs.Settles.{Load, load, Settles, alone, full, joins}
-use Rattle.split.specs.SplitBelow.{unmarked, pieceOf, SplitBelow, done, past, child}
+use Rattle.split.specs.SplitBelow.{unmarked, passing, pieceOf, SplitBelow, done, past, child}
 use Rattle.split.proofs.Unvisited.{marks-kept, marked-now}
 
 -- The marks are those of the vertices passed.
@@ -37,7 +37,7 @@ pub record MarksAre (n : ℕ) (marks passed : List ℕ) : Type 0 where
   pub at : (v : ℕ) → v < n → unmarked marks v ≡ not (member v passed)
 
 -- one vertex more
-agrees-more : {n : ℕ} {marks passed : List ℕ} → MarksAre n marks passed → (v : ℕ) → v < n → MarksAre n (set marks v 1) (v ∷ passed)
+agrees-more : {n : ℕ} {marks passed : List ℕ} → MarksAre n marks passed → (v : ℕ) → v < n → MarksAre n (passing v marks) (v ∷ passed)
 unfolding member any
 agrees-more {marks = marks} {passed = passed} a v h =
     record {
@@ -185,7 +185,7 @@ module _ {g : Graph} {edges bounds arcs : List ℕ} (around : Around g edges bou
 
   -- The node of a root.
   pub node-as-rules : {H v : ℕ} {marks last : List ℕ} {left : Load} {parts : List Tree}
-      → SplitBelow bounds arcs H v (segment bounds arcs v) (set marks v 1) (load [] 0) parts left last → v < g .vertices
+      → SplitBelow bounds arcs H v (segment bounds arcs v) (passing v marks) (load [] 0) parts left last → v < g .vertices
       → {passed : List ℕ} → MarksAre (g .vertices) marks passed → Gives g H v (load [] 0) parts left last (growNode (g .vertices) g edges v passed)
   node-as-rules {H} {v} {marks} {last} {left} {parts} x inside {passed} a = go (g .vertices) refl
     where

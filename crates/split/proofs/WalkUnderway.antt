@@ -14,8 +14,8 @@ use Rattle.bunches.specs.Store.{Store}
 use Rattle.bunches.specs.Settles.{ChildSettled}
 use Rattle.bunches.specs.declared.Progress.{Progress}
 use Rattle.split.specs.SplitBelow.{unmarked, unvisited}
-use Rattle.split.specs.ChildrenWalked.{State, passing, HasRoom, Bunched, ChildrenWalked, NodeWalked}
-use Rattle.split.proofs.ChildWalked.{IsChild, bunchAt, pushed, after, walk-done, walk-past, after-bunched, after-fewer, walk-child}
+use Rattle.split.specs.ChildrenWalked.{State, HasRoom, Bunched, ChildrenWalked, NodeWalked}
+use Rattle.split.proofs.ChildWalked.{IsChild, bunchAt, pushed, visiting, after, walk-done, walk-past, after-bunched, after-fewer, walk-child}
 
 -- The walk began at the state `first` with no bunch and has come to s, where the bunch weighs w: whatever the walk of the arcs from i
 -- up to `to` does from s, the walk of all arcs of v does from `first`.
@@ -26,6 +26,10 @@ pub record Underway (n : ℕ) (bounds arcs : List ℕ) (H v base : ℕ) (first :
   pub fewer : unvisited n (s .marks) ≤ unvisited n (first .marks)
   pub rest : (t : State) (z : ℕ) → ChildrenWalked n bounds arcs H v base (slice i to arcs) s w t z
       → ChildrenWalked n bounds arcs H v base (segment bounds arcs v) first 0 t z
+
+-- The next arc, and those after it.
+pub next-arc : (arcs : List ℕ) (i to : ℕ) → i < to → to ≤ length arcs → slice i to arcs ≡ getD arcs i 0 ∷ slice (i + 1) to arcs
+next-arc arcs i to more all = slice-cons i to arcs 0 more all ∙ ap (λ (k : ℕ). getD arcs i 0 ∷ slice k to arcs) (sym (add-one i))
 
 -- It begins with all arcs.
 pub underway-first : {n : ℕ} {bounds arcs : List ℕ} {H v : ℕ} {first : State} → HasRoom n first → getD bounds v 0 ≤ getD bounds (v + 1) 0
@@ -49,10 +53,6 @@ module _ {n : ℕ} {bounds arcs : List ℕ} {H v base : ℕ} {first : State} {i 
       u .rest s w (rw (q, slice-empty to arcs) (walk-done (u .bunched)))
 
   module _ (more : i < to) (all : to ≤ length arcs) where
-    -- the next arc, and those after it
-    next-arc : slice i to arcs ≡ getD arcs i 0 ∷ slice (i + 1) to arcs
-    next-arc = slice-cons i to arcs 0 more all ∙ ap (λ (k : ℕ). getD arcs i 0 ∷ slice k to arcs) (sym (add-one i))
-
     -- It goes on behind an arc whose head has a mark,
     pub underway-past : {head : ℕ} → head ≡ arcHead (getD arcs i 0) → unmarked (s .marks) head ≡ false
         → Underway n bounds arcs H v base first (i + 1) to s w
@@ -62,12 +62,12 @@ module _ {n : ℕ} {bounds arcs : List ℕ} {H v base : ℕ} {first : State} {i 
           onward = omega (arith, u .onward);
           within = omega arith;
           fewer = u .fewer;
-          rest = λ t z x. u .rest t z (rw next-arc (walk-past (rw head-is at old) x));
+          rest = λ t z x. u .rest t z (rw (next-arc arcs i to more all) (walk-past (rw head-is at old) x));
         }
 
     -- and behind a child that was walked and settled.
     pub underway-child : {head edge : ℕ} (c : IsChild n (s .marks) (getD arcs i 0) head edge)
-        → {t : State} {y : ℕ} → NodeWalked n bounds arcs H head (passing head (pushed s edge)) t y
+        → {t : State} {y : ℕ} → NodeWalked n bounds arcs H head (visiting head (pushed s edge)) t y
         → {store : Store} {p r : Progress} → p .top ≡ t .top → p .weight ≡ arcWeight (getD arcs i 0) + y
         → ChildSettled H v (bunchAt base (s .top) w) (t .stack) (t .store) store p r
         → Underway n bounds arcs H v base first (i + 1) to (after t store (r .top)) (r .weight)
@@ -77,5 +77,5 @@ module _ {n : ℕ} {bounds arcs : List ℕ} {H v base : ℕ} {first : State} {i 
           onward = omega (arith, u .onward);
           within = omega arith;
           fewer = omega (arith, u .fewer, after-fewer (u .bunched) c inner top-is weight-is settled);
-          rest = λ last z x. u .rest last z (rw next-arc (walk-child (u .bunched) c inner top-is weight-is settled x));
+          rest = λ last z x. u .rest last z (rw (next-arc arcs i to more all) (walk-child (u .bunched) c inner top-is weight-is settled x));
         }

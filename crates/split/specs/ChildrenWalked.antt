@@ -3,7 +3,7 @@
 use Prim.Native.Nat.{ℕ, _+_, _-_, _≤_, _<_}
 use mathlib.Core.Path.{_≡_}
 use mathlib.Core.List.{List}
-use lib.ListN.{length, take, set}
+use lib.ListN.{length, take}
 use Rattle.lists.specs.Segments.{segment}
 use Rattle.rules.specs.Cover.{Tree}
 use Rattle.edges.specs.Around.{Arcs}
@@ -22,10 +22,6 @@ pub record State : Type 0 where
 -- The arrays, with the numbers of the code's progress.
 abbrev pub stateOf : List ℕ → List ℕ → List ℕ → List ℕ → List ℕ → Progress → State
 stateOf marks stack starts cuts flat p = record { marks = marks; stack = stack; top = p .top; store = storeOf starts cuts flat p }
-
--- The same, with the vertex v passed.
-abbrev pub passing : ℕ → State → State
-passing v s = record { marks = set (s .marks) v 1; stack = s .stack; top = s .top; store = s .store }
 
 -- There is a mark and a place on the stack for each of n vertices, and room: each edge in a piece or on the stack led to a vertex
 -- that has a mark now.

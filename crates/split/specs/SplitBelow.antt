@@ -22,6 +22,10 @@ unmarked marks v = eqb (getD marks v 0) 0
 unfoldable pub unvisited : ℕ → List ℕ → ℕ
 unvisited n marks = count n (unmarked marks)
 
+-- The marks, with the vertex v passed.
+abbrev pub passing : ℕ → List ℕ → List ℕ
+passing v marks = set marks v 1
+
 -- A child's piece: its edge, and what is left below the child.
 abbrev pub pieceOf : ℕ → Load → Load
 pieceOf arc below = load (arcEdge arc ∷ below .edges) (arcWeight arc + below .weight)
@@ -36,7 +40,7 @@ pub data SplitBelow (bounds arcs : List ℕ) (H : ℕ) : ℕ → List ℕ → Li
       → SplitBelow bounds arcs H v (arc ∷ rest) marks bunch parts left last
   child : {v arc : ℕ} {rest marks middle last : List ℕ} {bunch below met left : Load} {inner own later : List Tree}
       → unmarked marks (arcHead arc) ≡ true
-      → SplitBelow bounds arcs H (arcHead arc) (segment bounds arcs (arcHead arc)) (set marks (arcHead arc) 1) (load [] 0) inner below middle
+      → SplitBelow bounds arcs H (arcHead arc) (segment bounds arcs (arcHead arc)) (passing (arcHead arc) marks) (load [] 0) inner below middle
       → Settles H v bunch (pieceOf arc below) own met
       → SplitBelow bounds arcs H v rest middle met later left last
       → SplitBelow bounds arcs H v (arc ∷ rest) marks bunch (inner ++ (own ++ later)) left last

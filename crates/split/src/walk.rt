@@ -8,7 +8,8 @@ use edges::arc::arc_edge;
 use edges::arc::arc_head;
 use edges::arc::arc_weight;
 ghost use lib.ListN.{length};
-ghost use Rattle.split.specs.ChildrenWalked.{stateOf, passing, Walkable, NodeWalked};
+ghost use Rattle.split.specs.SplitBelow.{passing};
+ghost use Rattle.split.specs.ChildrenWalked.{stateOf, Walkable, NodeWalked};
 
 // The node walk: v is passed, then its children are grown and split. What is left at v stands on the stack.
 pub fn walk_node(
@@ -23,9 +24,9 @@ pub fn walk_node(
     cuts: &mut [u16],
     flat: &mut [u16],
 ) -> Progress
-    requires { ⌜ Walkable (length (now stack)) (now bounds) (now arcs) v (passing v (stateOf (now passed) (now stack) (now starts) (now cuts) (now flat) s)) ⌝ }
+    requires { ⌜ Walkable (length (now stack)) (now bounds) (now arcs) v (stateOf (passing v (now passed)) (now stack) (now starts) (now cuts) (now flat) s) ⌝ }
     ensures { λ r. ⌜ NodeWalked (length (now (stack .entry))) (now (bounds .entry)) (now (arcs .entry)) h v
-        (passing v (stateOf (now (passed .entry)) (now (stack .entry)) (now (starts .entry)) (now (cuts .entry)) (now (flat .entry)) s))
+        (stateOf (passing v (now (passed .entry))) (now (stack .entry)) (now (starts .entry)) (now (cuts .entry)) (now (flat .entry)) s)
         (stateOf (now (passed .exit)) (now (stack .exit)) (now (starts .exit)) (now (cuts .exit)) (now (flat .exit)) r) (r .weight) ⌝ }
 {
     passed[v] = 1;
