@@ -13,7 +13,7 @@ pub mod SweepCounts
 pub mod WalkSwept
 -- the vertices of the steps
 pub mod StepsInside
--- writing the steps below a vertex, under way
+-- the child-list walk that writes the steps below a vertex, under way
 pub mod StepsUnderway
 -- writing the steps of all trees, under way
 pub mod TreesUnderway

@@ -5,10 +5,11 @@ use mathlib.Core.Path.{_≡_, ap}
 use mathlib.Core.List.{List, _∷_, _++_, List·Memᴰ·head, List·Memᴰ·tail, List·Memᴰ·not-nil, List·Memᴰ·append-cases}
 use mathlib.Core.Logic.{⊎-elim}
 use native.Mathlib.Omega.{arith}
-use lib.ListN.{length, getD, set, length-set}
+use lib.ListN.{length, getD, length-set}
 use Rattle.lists.specs.Member.{_∈_}
 use Rattle.lists.proofs.Places.{at-place}
 use Rattle.edges.specs.Around.{arcEdge, arcHead, arcWeight}
+use Rattle.split.specs.SplitBelow.{passing}
 use Rattle.steps.specs.Steps.{stepOf}
 use Rattle.steps.specs.StepsBelow.{StepsBelow, steps-done, steps-past, steps-child, StepsFrom, no-roots, steps-root}
 use Rattle.steps.specs.WalkPut.{StepsInside}
@@ -36,7 +37,7 @@ module _ {bounds arcs : List ℕ} where
   below-small (steps-past p x) inside few = below-small x inside few
   below-small (steps-child {v = v} {arc = arc} {marks = marks} new l x y) inside few =
       let h : ℕ = arcHead arc in
-      let size : length (set marks h 1) ≡ length marks = length-set marks h 1 in
+      let size : length (passing h marks) ≡ length marks = length-set marks h 1 in
       let same = steps-close x .size in
       small-on (below-small x (omega arith) (omega arith))
       (small-one h v (arcWeight arc) (omega arith) (omega arith) (below-small y (omega (arith, same)) (omega (arith, same))))
@@ -44,7 +45,7 @@ module _ {bounds arcs : List ℕ} where
   from-small : {roots marks steps : List ℕ} → StepsFrom bounds arcs roots marks steps → length marks ≤ 256 → AllSmall steps
   from-small no-roots few = λ step m. absurd (List·Memᴰ·not-nil m)
   from-small (steps-root {r = r} {marks = marks} l x y) few =
-      let size : length (set marks r 1) ≡ length marks = length-set marks r 1 in
+      let size : length (passing r marks) ≡ length marks = length-set marks r 1 in
       let same = steps-close x .size in
       small-on (below-small x (omega arith) (omega arith)) (from-small y (omega (arith, same)))
 

@@ -7,12 +7,12 @@ use mathlib.Core.Bool.{true, false, false≢true}
 use mathlib.Core.List.{List, _∷_, List·Memᴰ·head, List·Memᴰ·tail, List·Memᴰ·not-nil}
 use mathlib.Core.Logic.{dite, ⊎-elim}
 use native.Mathlib.Decide.{ℕ-discrete}
-use lib.ListN.{length, set, length-set}
+use lib.ListN.{length, length-set}
 use Rattle.lists.specs.Member.{_∈_}
 use Rattle.lists.specs.Segments.{segment}
 use Rattle.lists.proofs.Member.{either}
 use Rattle.edges.specs.Around.{arcHead}
-use Rattle.split.specs.SplitBelow.{unmarked}
+use Rattle.split.specs.SplitBelow.{unmarked, passing}
 use Rattle.steps.specs.StepsBelow.{StepsBelow, steps-done, steps-past, steps-child}
 use Rattle.split.proofs.Unvisited.{marks-kept, marked-now}
 
@@ -28,9 +28,9 @@ pub record Closes (bounds arcs rest marks last : List ℕ) : Type 0 where
   pub closed : (u : ℕ) → unmarked marks u ≡ true → unmarked last u ≡ false → HeadsMarked last (segment bounds arcs u)
 
 -- A mark is kept when another is set.
-pub still-marked : (marks : List ℕ) (v : ℕ) → v < length marks → (u : ℕ) → unmarked marks u ≡ false → unmarked (set marks v 1) u ≡ false
+pub still-marked : (marks : List ℕ) (v : ℕ) → v < length marks → (u : ℕ) → unmarked marks u ≡ false → unmarked (passing v marks) u ≡ false
 still-marked marks v h u q =
-    dite (ℕ-discrete u v) (λ e. ap (unmarked (set marks v 1)) e ∙ marked-now marks v h) (λ e. marks-kept marks v u e ∙ q)
+    dite (ℕ-discrete u v) (λ e. ap (unmarked (passing v marks)) e ∙ marked-now marks v h) (λ e. marks-kept marks v u e ∙ q)
 
 -- One arc more whose head has a mark.
 pub head-marked : (marks : List ℕ) (arc : ℕ) {rest : List ℕ} → unmarked marks (arcHead arc) ≡ false → HeadsMarked marks rest → HeadsMarked marks (arc ∷ rest)
@@ -51,7 +51,7 @@ module _ {bounds arcs : List ℕ} where
       record { size = a .size; stay = a .stay; heads = head-marked last arc (a .stay (arcHead arc) p) (a .heads); closed = a .closed }
   steps-close (steps-child {arc = arc} {rest = rest} {marks = marks} {middle = middle} {last = last} p l x y) =
       let h : ℕ = arcHead arc in
-      let a : Closes bounds arcs (segment bounds arcs h) (set marks h 1) middle = steps-close x in
+      let a : Closes bounds arcs (segment bounds arcs h) (passing h marks) middle = steps-close x in
       let b : Closes bounds arcs rest middle last = steps-close y in
       record {
         size = b .size ∙ a .size ∙ length-set marks h 1;

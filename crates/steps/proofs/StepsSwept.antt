@@ -7,7 +7,7 @@ use mathlib.Core.Path.{_≡_, refl, sym, ap, _∙_}
 use mathlib.Core.Bool.{Bool, true, false, false≢true}
 use mathlib.Core.List.{List, [], _∷_, _++_, map, map-append, append-nil, append-assoc, List·Memᴰ·head, List·Memᴰ·tail}
 use native.Mathlib.Omega.{arith}
-use lib.ListN.{length, set, length-set}
+use lib.ListN.{length, length-set}
 use Rattle.lists.specs.Lists.{any}
 use Rattle.lists.specs.Member.{_∈_}
 use Rattle.lists.specs.Segments.{segment}
@@ -15,7 +15,7 @@ use Rattle.graph.specs.Graph.{Graph}
 use Rattle.rules.specs.Cover.{Tree}
 use Rattle.edges.specs.Around.{arcHead, arcWeight, Around}
 use Rattle.bunches.specs.Settles.{Load, load}
-use Rattle.split.specs.SplitBelow.{unmarked, pieceOf, SplitBelow, done, past, child}
+use Rattle.split.specs.SplitBelow.{unmarked, passing, pieceOf, SplitBelow, done, past, child}
 use Rattle.steps.specs.Steps.{stepOf}
 use Rattle.steps.specs.Touched.{Sweep, sweepStep, sweep}
 use Rattle.steps.specs.StepsBelow.{StepsBelow, steps-done, steps-past, steps-child}
@@ -70,7 +70,7 @@ past-swept p x = record { parts = x .parts; left = x .left; below = past p (x .b
 -- At a child, along an arc of v.
 module _ {g : Graph} {edges bounds arcs : List ℕ} (around : Around g edges bounds arcs) {test : ℕ → Bool} {v : ℕ} (arc : ℕ) (known : arc ∈ segment bounds arcs v)
     (marks : List ℕ) {middle : List ℕ} (new : unmarked marks (arcHead arc) ≡ true) (l : arcHead arc < length marks)
-    (closes : Closes bounds arcs (segment bounds arcs (arcHead arc)) (set marks (arcHead arc) 1) middle) {bunch : Load} {s : Sweep} (k : Sweepable g test v marks bunch s) where
+    (closes : Closes bounds arcs (segment bounds arcs (arcHead arc)) (passing (arcHead arc) marks) middle) {bunch : Load} {s : Sweep} (k : Sweepable g test v marks bunch s) where
   abbrev head : ℕ
   head = arcHead arc
 
@@ -78,11 +78,11 @@ module _ {g : Graph} {edges bounds arcs : List ℕ} (around : Around g edges bou
   another : (u : ℕ) → unmarked marks u ≡ false → u ≡ head → ⊥
   another u m e = false≢true (sym m ∙ ap (unmarked marks) e ∙ new)
 
-  on-way : (u : ℕ) → unmarked marks u ≡ false → unmarked (set marks head 1) u ≡ false
+  on-way : (u : ℕ) → unmarked marks u ≡ false → unmarked (passing head marks) u ≡ false
   on-way u m = still-marked marks head l u m
 
   -- first come the steps below it
-  child-sweepable : Sweepable g test head (set marks head 1) (load [] 0) s
+  child-sweepable : Sweepable g test head (passing head marks) (load [] 0) s
   unfolding any
   child-sweepable =
       record {
@@ -94,7 +94,7 @@ module _ {g : Graph} {edges bounds arcs : List ℕ} (around : Around g edges bou
         clear = λ u q. k .clear u (unmarked-before marks head l u q);
       }
 
-  module _ {H : ℕ} {s1 : Sweep} (first : SweptAt g test bounds arcs H head (segment bounds arcs head) (set marks head 1) (load [] 0) middle s s1) where
+  module _ {H : ℕ} {s1 : Sweep} (first : SweptAt g test bounds arcs H head (segment bounds arcs head) (passing head marks) (load [] 0) middle s s1) where
     abbrev piece : Load
     piece = pieceOf arc (first .swept .left)
 
@@ -143,7 +143,7 @@ module _ {g : Graph} {edges bounds arcs : List ℕ} (around : Around g edges bou
 
   -- All together, where the pass over the later children is known from every state.
   child-passed : (H : ℕ) (inner later : List ℕ) {rest last : List ℕ}
-      → SweptAt g test bounds arcs H head (segment bounds arcs head) (set marks head 1) (load [] 0) middle s (sweep H test inner s)
+      → SweptAt g test bounds arcs H head (segment bounds arcs head) (passing head marks) (load [] 0) middle s (sweep H test inner s)
       → ((b : Load) (u : Sweep) → Sweepable g test v middle b u → SweptAt g test bounds arcs H v rest middle b last u (sweep H test later u))
       → SweptAt g test bounds arcs H v (arc ∷ rest) marks bunch last s (sweep H test (inner ++ (stepOf head v (arcWeight arc) ∷ later)) s)
   unfolding sweep

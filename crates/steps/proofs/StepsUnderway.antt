@@ -1,22 +1,23 @@
--- Writing the steps below a vertex, under way: what is known each time before the next arc is looked at.
+-- The child-list walk that writes the steps below a vertex, under way: what is known each time before the next arc is looked at.
 -- Assumes nothing.
 use Prim.Native.Nat.{ℕ, _+_, _≤_, _<_}
-use mathlib.Core.Path.{_≡_, refl, sym, ap, _∙_}
-use mathlib.Core.Bool.{true, false}
+use mathlib.Core.Path.{_≡_, refl, _∙_}
+use mathlib.Core.Bool.{false}
 use mathlib.Core.List.{List, [], _∷_, _++_, append-assoc, append-nil}
-use native.Mathlib.Numerals.{add-one}
 use native.Mathlib.Omega.{arith}
 use lib.ListN.{length, getD, set, length-set}
-use lib.Seq.{slice, slice-cons, slice-empty, append-snoc}
+use lib.Seq.{slice, slice-empty, append-snoc}
 use Rattle.lists.specs.Put.{PutTo}
 use Rattle.lists.specs.Segments.{segment}
 use Rattle.lists.proofs.Put.{put-length, put-behind, put-more, put-to-none}
-use Rattle.edges.specs.Around.{arcHead, arcWeight}
-use Rattle.split.specs.SplitBelow.{unmarked, unvisited}
+use Rattle.edges.specs.Around.{arcEdge, arcHead, arcWeight}
+use Rattle.split.specs.SplitBelow.{unmarked, unvisited, passing}
 use Rattle.steps.specs.Steps.{stepOf}
 use Rattle.steps.specs.StepsBelow.{StepsBelow, steps-done, steps-past, steps-child}
 use Rattle.steps.specs.WalkPut.{StepsAsked, StepsPut}
 use Rattle.split.proofs.Unvisited.{unvisited-less}
+use Rattle.split.proofs.ChildWalked.{IsChild}
+use Rattle.split.proofs.WalkUnderway.{next-arc}
 
 -- The writing began with the marks `first` at the place `at`, and has come to the place `next`: whatever steps the arcs from i up to `to` give,
 -- they stand behind those that are written.
@@ -61,10 +62,6 @@ module _ {bounds arcs : List ℕ} {v at : ℕ} {first walk₀ : List ℕ} {i to 
       }
 
   module _ (more : i < to) (all : to ≤ length arcs) where
-    -- the next arc, and those after it
-    next-arc : slice i to arcs ≡ getD arcs i 0 ∷ slice (i + 1) to arcs
-    next-arc = slice-cons i to arcs 0 more all ∙ ap (λ (k : ℕ). getD arcs i 0 ∷ slice k to arcs) (sym (add-one i))
-
     -- It goes on behind an arc whose head has a mark,
     pub steps-past-by : {head : ℕ} → head ≡ arcHead (getD arcs i 0) → unmarked marks head ≡ false
         → StepsUnderway bounds arcs v at first walk₀ (i + 1) to marks walk next
@@ -76,31 +73,31 @@ module _ {bounds arcs : List ℕ} {v at : ℕ} {first walk₀ : List ℕ} {i to 
           steps = u .steps;
           put = u .put;
           fits = u .fits;
-          rest = λ later last x. u .rest later last (rw next-arc (steps-past (rw head-is at old) x));
+          rest = λ later last x. u .rest later last (rw (next-arc arcs i to more all) (steps-past (rw head-is at old) x));
         }
 
     -- and at a child first its own steps are written.
-    module _ {head : ℕ} (head-is : head ≡ arcHead (getD arcs i 0)) (inside : head < length first) (new : unmarked marks head ≡ true) where
-      one-fewer : unvisited (length first) (set marks head 1) < unvisited (length first) marks
-      one-fewer = unvisited-less marks head (omega (arith, u .size)) (length first) inside new
+    module _ {head : ℕ} (c : IsChild (length first) marks (getD arcs i 0) head (arcEdge (getD arcs i 0))) where
+      one-fewer : unvisited (length first) (passing head marks) < unvisited (length first) marks
+      one-fewer = unvisited-less marks head (omega (arith, u .size, c .inside)) (length first) (c .inside) (c .new)
 
-      same-size : length (set marks head 1) ≡ length first
+      same-size : length (passing head marks) ≡ length first
       same-size = length-set marks head 1 ∙ u .size
 
-      pub below-fewer : unvisited (length (set marks head 1)) (set marks head 1) < unvisited (length first) first
+      pub below-fewer : unvisited (length (passing head marks)) (passing head marks) < unvisited (length first) first
       below-fewer = rw same-size (omega (arith, one-fewer, u .fits, u .put .behind))
 
-      pub below-asked : StepsAsked bounds arcs v at first walk₀ → StepsAsked bounds arcs head next (set marks head 1) walk
+      pub below-asked : StepsAsked bounds arcs v at first walk₀ → StepsAsked bounds arcs head next (passing head marks) walk
       below-asked a =
           record {
             around = rw same-size (a .around);
-            inside = rw same-size inside;
+            inside = rw same-size (c .inside);
             room = rw same-size (omega (arith, one-fewer, u .fits, a .room, put-length (u .put .put)));
           }
 
       module _ (room : at + unvisited (length first) first ≤ length walk₀) {marks′ walk′ : List ℕ} {end : ℕ}
-          (below : StepsPut bounds arcs head next (set marks head 1) walk marks′ walk′ end) where
-        fits-then : end + unvisited (length first) marks′ ≤ next + unvisited (length first) (set marks head 1)
+          (below : StepsPut bounds arcs head next (passing head marks) walk marks′ walk′ end) where
+        fits-then : end + unvisited (length first) marks′ ≤ next + unvisited (length first) (passing head marks)
         fits-then = rw same-size at (below .fits)
 
         -- there is room for the child's step
@@ -123,9 +120,10 @@ module _ {bounds arcs : List ℕ} {v at : ℕ} {first walk₀ : List ℕ} {i to 
               fits = omega (arith, fits-then, one-fewer, u .fits);
               rest =
                   λ later last x.
-                  let h : head < length marks = omega (arith, u .size) in
+                  let head-is : head ≡ arcHead (getD arcs i 0) = c .head-is in
+                  let h : head < length marks = omega (arith, u .size, c .inside) in
                   rw (append-snoc (u .steps ++ below .steps) step later, append-assoc (u .steps) (below .steps))
                   (u .rest (below .steps ++ (step ∷ later)) last
-                  (rw (next-arc, step-is, head-is)
-                  (steps-child (rw head-is at new) (rw head-is at h) (rw head-is at (below .below)) x)));
+                  (rw (next-arc arcs i to more all, step-is, head-is)
+                  (steps-child (rw head-is at (c .new)) (rw head-is at h) (rw head-is at (below .below)) x)));
             }

@@ -5,11 +5,11 @@ use mathlib.Core.Path.{_≡_, refl, sym, ap, _∙_}
 use mathlib.Core.List.{List, [], _∷_, _++_, append-assoc, append-nil}
 use native.Mathlib.Numerals.{add-one}
 use native.Mathlib.Omega.{arith}
-use lib.ListN.{length, drop, getD, set, length-set}
+use lib.ListN.{length, drop, getD, length-set}
 use lib.Seq.{drop-cons, drop-length}
 use Rattle.lists.specs.Put.{PutTo}
 use Rattle.lists.proofs.Put.{put-length, put-behind, put-to-none}
-use Rattle.split.specs.SplitBelow.{unvisited}
+use Rattle.split.specs.SplitBelow.{unvisited, passing}
 use Rattle.steps.specs.StepsBelow.{StepsFrom, no-roots, steps-root}
 use Rattle.steps.specs.WalkPut.{StepsAsked, StepsPut, WalkReady, WalkPut}
 use Rattle.split.proofs.Unvisited.{unvisited-fewer, unvisited-most}
@@ -64,10 +64,10 @@ module _ {bounds arcs roots first walk₀ : List ℕ} {j : ℕ} {marks walk : Li
     root-inside : root < length marks
     root-inside = omega (arith, ready .asked .roots-inside j more, u .size)
 
-    same-size : length (set marks root 1) ≡ length first
+    same-size : length (passing root marks) ≡ length first
     same-size = length-set marks root 1 ∙ u .size
 
-    pub root-asked : StepsAsked bounds arcs root next (set marks root 1) walk
+    pub root-asked : StepsAsked bounds arcs root next (passing root marks) walk
     root-asked =
         record {
           around = rw same-size (ready .asked .around);
@@ -76,7 +76,7 @@ module _ {bounds arcs roots first walk₀ : List ℕ} {j : ℕ} {marks walk : Li
         }
 
     -- and stand behind the others then.
-    pub trees-more : {marks′ walk′ : List ℕ} {end : ℕ} → StepsPut bounds arcs root next (set marks root 1) walk marks′ walk′ end
+    pub trees-more : {marks′ walk′ : List ℕ} {end : ℕ} → StepsPut bounds arcs root next (passing root marks) walk marks′ walk′ end
         → TreesUnderway bounds arcs roots first walk₀ (j + 1) marks′ walk′ end
     trees-more below =
         let fits-then = rw same-size at (below .fits) in

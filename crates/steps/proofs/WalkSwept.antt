@@ -8,7 +8,7 @@ use mathlib.Core.List.{List, [], _++_, map, append-nil, List·Memᴰ·head, List
 use mathlib.Core.Logic.{dite, ⊎-elim}
 use native.Mathlib.Decide.{ℕ-discrete}
 use native.Mathlib.Omega.{arith}
-use lib.ListN.{length, getD, set, replicate, length-set, length-replicate}
+use lib.ListN.{length, getD, replicate, length-set, length-replicate}
 use Rattle.lists.specs.Lists.{flat, member, any}
 use Rattle.lists.specs.Segments.{segment}
 use Rattle.lists.proofs.Member.{either}
@@ -18,7 +18,7 @@ use Rattle.rules.specs.Grow.{Rooted, Grown, growNode, growFrom, grow}
 use Rattle.rules.specs.Split.{Pieces, split, allParts}
 use Rattle.edges.specs.Around.{arcHead, Around}
 use Rattle.bunches.specs.Settles.{load}
-use Rattle.split.specs.SplitBelow.{unmarked, done}
+use Rattle.split.specs.SplitBelow.{unmarked, passing, done}
 use Rattle.steps.specs.Steps.{partsCounted}
 use Rattle.steps.specs.Touched.{Sweep, sweep, partsTouched}
 use Rattle.steps.specs.StepsBelow.{StepsBelow, steps-done, steps-past, steps-child, StepsFrom, no-roots, steps-root}
@@ -43,14 +43,14 @@ module _ {g : Graph} {edges bounds arcs : List ℕ} (around : Around g edges bou
   none-swept (steps-past p x) heads s sized clear = past-swept p (none-swept x (λ other m. heads other (List·Memᴰ·tail m)) s sized clear)
   none-swept (steps-child {arc = arc} new l x y) heads s sized clear = absurd (false≢true (sym (heads arc (List·Memᴰ·head refl)) ∙ new))
 
-  module _ {r : ℕ} (marks : List ℕ) {steps middle : List ℕ} (l : r < length marks) (x : StepsBelow bounds arcs r (segment bounds arcs r) (set marks r 1) steps middle)
+  module _ {r : ℕ} (marks : List ℕ) {steps middle : List ℕ} (l : r < length marks) (x : StepsBelow bounds arcs r (segment bounds arcs r) (passing r marks) steps middle)
       (closed : AllClosed bounds arcs marks) where
     -- The tree of a root.
     root-swept : length marks ≡ g .vertices → (s : Sweep) → Sized s → Clear marks s
-        → Swept g test bounds arcs H r (segment bounds arcs r) (set marks r 1) (load [] 0) middle s (sweep H test steps s)
+        → Swept g test bounds arcs H r (segment bounds arcs r) (passing r marks) (load [] 0) middle s (sweep H test steps s)
     unfolding any
     root-swept size s sized clear =
-        let clear-now : Clear (set marks r 1) s = λ u q. clear u (unmarked-before marks r l u q) in
+        let clear-now : Clear (passing r marks) s = λ u q. clear u (unmarked-before marks r l u q) in
         ⊎-elim
         (λ new.
         steps-swept around H x (λ arc m. m) (load [] 0) s
@@ -76,7 +76,7 @@ module _ {g : Graph} {edges bounds arcs : List ℕ} (around : Around g edges bou
         dite (ℕ-discrete u r)
         (λ e. subst (λ w. HeadsMarked middle (segment bounds arcs w)) (sym e) (c .heads))
         (λ e. λ other m. c .stay (arcHead other) (still-marked marks r l (arcHead other) (closed u (sym (marks-kept marks r u e) ∙ old) other m))))
-        (either (unmarked (set marks r 1) u))
+        (either (unmarked (passing r marks) u))
 
   -- All trees, from what is passed so far.
   trees-swept : {roots marks steps : List ℕ} → StepsFrom bounds arcs roots marks steps → {passed : List ℕ} → MarksAre (g .vertices) marks passed

@@ -18,14 +18,14 @@ use Rattle.steps.specs.Steps.{partsCounted}
 use Rattle.steps.specs.Touched.{partsTouched}
 use Rattle.steps.specs.StepsBelow.{StepsBelow}
 
--- What writing the steps below v asks: the arcs of as many vertices as there are marks, v one of them, and room for a step for each vertex
--- without a mark, from the place `at` on.
+-- What the node walk, with v passed, and the child-list walk ask: the arcs of as many vertices as there are marks, v one of them, and room
+-- for a step for each vertex without a mark, from the place `at` on.
 pub record StepsAsked (bounds arcs : List ℕ) (v at : ℕ) (marks walk : List ℕ) : Type 0 where
   pub around : Arcs (length marks) bounds arcs
   pub inside : v < length marks
   pub room : at + unvisited (length marks) marks ≤ length walk
 
--- What it promises: the steps stand from that place up to r, and each led to a vertex that has a mark now.
+-- What they promise: the steps below v stand from that place up to r, and each led to a vertex that has a mark now.
 pub record StepsPut (bounds arcs : List ℕ) (v at : ℕ) (marks walk marks′ walk′ : List ℕ) (r : ℕ) : Type 0 where
   pub steps : List ℕ
   pub below : StepsBelow bounds arcs v (segment bounds arcs v) marks steps marks′

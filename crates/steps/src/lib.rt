@@ -1,45 +1,17 @@
 // The trees of a forest as a list of steps, written once, and the number of parts at a threshold in one pass over them.
 // A step is a child, the vertex above it and the weight of the edge between, packed as an arc is, with the child in the edge's place.
-use edges::arc::arc;
-use edges::arc::arc_edge;
-use edges::arc::arc_head;
-use edges::arc::arc_weight;
+// The words of the contracts stand in specs/.
 ghost use mathlib.Core.Path.{_≡_};
 ghost use lib.ListN.{length};
 ghost use Rattle.steps.specs.Steps.{partsCounted};
-ghost use Rattle.steps.specs.WalkPut.{StepsAsked, StepsPut, WalkReady, WalkAsked, WalkPut, Countable};
+ghost use Rattle.steps.specs.WalkPut.{WalkReady, WalkAsked, WalkPut, Countable};
 
-// Writes the steps below v from the place `at` on, and says where they end: at each child first the steps below the child, then its own.
-// Each call passes a vertex that no call below it passes again, so that the calls nest at most as deep as the tree.
-fn put_steps(
-    bounds: &[u16],
-    arcs: &[u64],
-    v: usize,
-    at: usize,
-    passed: &mut [u8],
-    walk: &mut [u64],
-) -> usize
-    requires { ⌜ StepsAsked (now bounds) (now arcs) v at (now passed) (now walk) ⌝ }
-    ensures { λ r. ⌜ StepsPut (now (bounds .entry)) (now (arcs .entry)) v at
-        (now (passed .entry)) (now (walk .entry)) (now (passed .exit)) (now (walk .exit)) r ⌝ }
-{
-    let mut next = at;
-    let mut i = bounds[v] as usize;
-    let to = bounds[v + 1] as usize;
-    while i < to {
-        let a = arcs[i];
-        let head = arc_head(a);
-        i += 1;
-        if passed[head] != 0 {
-            continue;
-        }
-        passed[head] = 1;
-        let end = put_steps(bounds, arcs, head, next, passed, walk);
-        walk[end] = arc(head, v, arc_weight(a));
-        next = end + 1;
-    }
-    next
-}
+mod walk;
+
+use edges::arc::arc_edge;
+use edges::arc::arc_head;
+use edges::arc::arc_weight;
+use walk::put_node;
 
 // The steps of the roots' trees, one tree after the other; no vertex has a mark yet.
 fn put_trees(
@@ -56,8 +28,7 @@ fn put_trees(
     let mut j = 0;
     while j < roots.len() {
         let root = roots[j] as usize;
-        passed[root] = 1;
-        next = put_steps(bounds, arcs, root, next, passed, walk);
+        next = put_node(bounds, arcs, root, next, passed, walk);
         j += 1;
     }
     next

@@ -30,10 +30,10 @@ module _ (c : tie.In-loop Inv-loop μ-loop) where
   more = c .loop-test .taken
 
 -- The root, seen from the call for its tree; and the tree written, from the end of the loop's body.
-abbrev called : tie.After-put-steps-arg2 Inv-loop μ-loop → tie.In-loop Inv-loop μ-loop
+abbrev called : tie.After-put-node-arg2 Inv-loop μ-loop → tie.In-loop Inv-loop μ-loop
 called c = c .before .before .before
 
-abbrev written : tie.After-slice-known4 Inv-loop μ-loop → tie.After-put-steps Inv-loop μ-loop
+abbrev written : tie.After-slice-known4 Inv-loop μ-loop → tie.After-put-node Inv-loop μ-loop
 written c = c .before .before .before .before
 
 loop-holds : tie.Need-loop-holds Inv-loop μ-loop
@@ -48,11 +48,8 @@ shared-slice-read-root c = search needs
 cast-root : tie.Need-cast-root Inv-loop μ-loop
 cast-root c = omega (arith, c .shared-slice-known4 .given (at (c .before) .loop .j))
 
-slice-write-passed : tie.Need-slice-write-passed Inv-loop μ-loop
-slice-write-passed c = let i = c .before in omega (arith, start i .pre .asked .roots-inside (at i .loop .j) (more i), at i .loop .inv .size)
-
-put-steps-requires : tie.Need-put-steps-requires Inv-loop μ-loop
-put-steps-requires c κs = let i = called c in root-asked (at i .loop .inv) (start i .pre) (more i)
+put-node-requires : tie.Need-put-node-requires Inv-loop μ-loop
+put-node-requires c κs = let i = called c in root-asked (at i .loop .inv) (start i .pre) (more i)
 
 add-j : tie.Need-add-j Inv-loop μ-loop
 add-j c = search needs
@@ -64,7 +61,7 @@ loop-again : tie.Need-loop-again Inv-loop μ-loop
 loop-again c =
     let w = written c in
     let i = called (w .before) in
-    trees-more (at i .loop .inv) (start i .pre) (more i) (w .put-steps .ensures)
+    trees-more (at i .loop .inv) (start i .pre) (more i) (w .put-node .ensures)
 
 same-length : tie.Need-same-length Inv-loop μ-loop
 same-length c = search needs
@@ -85,8 +82,7 @@ put-trees-spec =
     mul-root
     shared-slice-read-root
     cast-root
-    slice-write-passed
-    put-steps-requires
+    put-node-requires
     add-j
     loop-less
     loop-again
