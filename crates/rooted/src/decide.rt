@@ -8,7 +8,7 @@ use pieces::whole::light_forest;
 use pieces::whole::stop_at;
 use rooted_parts::parts::is_assigned;
 use rooted_parts::within::roots_within;
-use steps::count_parts;
+use steps::count::count_parts;
 ghost use mathlib.Core.Path.{_≡_};
 ghost use Rattle.graph.specs.Bytes.{graphOf};
 ghost use Rattle.rules.specs.Cover.{rooted};

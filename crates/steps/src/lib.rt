@@ -1,16 +1,12 @@
 // The trees of a forest as a list of steps, written once, and the number of parts at a threshold in one pass over them.
 // A step is a child, the vertex above it and the weight of the edge between, packed as an arc is, with the child in the edge's place.
 // The words of the contracts stand in specs/.
-ghost use mathlib.Core.Path.{_≡_};
 ghost use lib.ListN.{length};
-ghost use Rattle.steps.specs.Steps.{partsCounted};
-ghost use Rattle.steps.specs.WalkPut.{WalkReady, WalkAsked, WalkPut, Countable};
+ghost use Rattle.steps.specs.WalkPut.{WalkReady, WalkAsked, WalkPut};
 
+pub mod count;
 mod walk;
 
-use edges::arc::arc_edge;
-use edges::arc::arc_head;
-use edges::arc::arc_weight;
 use walk::put_node;
 
 // The steps of the roots' trees, one tree after the other; no vertex has a mark yet.
@@ -42,35 +38,4 @@ pub fn put_walk(n: usize, bounds: &[u16], arcs: &[u64], roots: &[u16], walk: &mu
 {
     let mut passed = [0u8; 256];
     put_trees(bounds, arcs, roots, &mut passed[..n], walk)
-}
-
-// The number of parts that the trees are split into with threshold h. What is left at a vertex is kept by its weight alone.
-pub fn count_parts(walk: &[u64], h: u64) -> usize
-    requires { ⌜ Countable h (now walk) ⌝ }
-    ensures { λ r. ⌜ r ≡ partsCounted h (now (walk .entry)) ⌝ }
-{
-    if h == 0 {
-        return 0;
-    }
-    let mut left = [0u64; 256];
-    let mut parts = 0;
-    let mut i = 0;
-    while i < walk.len() {
-        let step = walk[i];
-        let piece = arc_weight(step) + left[arc_edge(step) as usize];
-        i += 1;
-        if h <= piece {
-            parts += 1;
-            continue;
-        }
-        let above = arc_head(step);
-        let bunch = left[above] + piece;
-        if h <= bunch {
-            parts += 1;
-            left[above] = 0;
-            continue;
-        }
-        left[above] = bunch;
-    }
-    parts
 }

@@ -1,4 +1,4 @@
--- `steps::count_parts` meets its contract. The loop's invariant: the pass over the steps that are left gives the answer, and what is left at each
+-- `steps::count::count_parts` meets its contract. The loop's invariant: the pass over the steps that are left gives the answer, and what is left at each
 -- vertex is below the threshold, so that no sum wraps. The measure is how many steps are left. Assumes nothing.
 use Prim.Native.Nat.{ℕ, _+_, _-_, _<_}
 use mathlib.Core.Path.{_≡_, refl}
@@ -7,8 +7,8 @@ use borrow.Author.Needs.{needs}
 use lib.ListN.{length, getD}
 use Rattle.edges.specs.Around.{arcEdge, arcHead, arcWeight}
 use Rattle.steps.proofs.PartsCounting.{Counting, none-counted, counting-first, counting-done, counting-alone, counting-full, counting-joins}
-use Rattle.steps.proofs.count_parts.Statement.{statement}
-use Rattle.steps.proofs.count_parts.Tie as tie
+use Rattle.steps.proofs.count.count_parts.Statement.{statement}
+use Rattle.steps.proofs.count.count_parts.Tie as tie
 
 abbrev Inv-loop : tie.InvT-loop
 Inv-loop walk h left₀ parts₀ i₀ left parts i = Counting walk h left parts i

@@ -1,0 +1,38 @@
+// The number of parts at a threshold, in one pass over the steps of the trees.
+use edges::arc::arc_edge;
+use edges::arc::arc_head;
+use edges::arc::arc_weight;
+ghost use mathlib.Core.Path.{_≡_};
+ghost use Rattle.steps.specs.Steps.{partsCounted};
+ghost use Rattle.steps.specs.WalkPut.{Countable};
+
+// The number of parts that the trees are split into with threshold h. What is left at a vertex is kept by its weight alone.
+pub fn count_parts(walk: &[u64], h: u64) -> usize
+    requires { ⌜ Countable h (now walk) ⌝ }
+    ensures { λ r. ⌜ r ≡ partsCounted h (now (walk .entry)) ⌝ }
+{
+    if h == 0 {
+        return 0;
+    }
+    let mut left = [0u64; 256];
+    let mut parts = 0;
+    let mut i = 0;
+    while i < walk.len() {
+        let step = walk[i];
+        let piece = arc_weight(step) + left[arc_edge(step) as usize];
+        i += 1;
+        if h <= piece {
+            parts += 1;
+            continue;
+        }
+        let above = arc_head(step);
+        let bunch = left[above] + piece;
+        if h <= bunch {
+            parts += 1;
+            left[above] = 0;
+            continue;
+        }
+        left[above] = bunch;
+    }
+    parts
+}
