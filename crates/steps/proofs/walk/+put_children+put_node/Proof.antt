@@ -2,7 +2,7 @@
 -- passes a vertex, and the child-list walk calls it only at a vertex without a mark. Twice that number lets the calls between the two fall as well.
 -- Assumes nothing.
 use Prim.Native.Nat.{ℕ, _+_, _-_, _*_, _≤_, _<_}
-use mathlib.Core.Path.{_≡_, refl, _∙_}
+use mathlib.Core.Path.{_≡_, refl, ap, _∙_}
 use mathlib.Core.List.{List}
 use native.Mathlib.Omega.{arith}
 use borrow.Author.Needs.{needs}
@@ -199,7 +199,11 @@ module _ (t : ℕ) where
   arc-requires : list.Need-arc-requires (calls t) (list-at t) put-children.Post Inv μ-loop
   arc-requires c κs =
       let h = head (called (below c .before)) in
-      (omega (arith, head-inside h, args h .pre .1 .around .few), omega (arith, args h .pre .1 .inside, args h .pre .1 .around .few), omega (arith, c .arc-weight .ensures, arc-small h))
+      let a = args h .pre .1 in (
+        omega (arith, head-inside h, a .inside, a .around .few),
+        omega (arith, head-inside h, a .inside, a .around .few),
+        omega (arith, c .arc-weight .ensures, arc-small h),
+      )
 
   mul-walk : list.Need-mul-walk (calls t) (list-at t) put-children.Post Inv μ-loop
   mul-walk c = omega (arith, fits (c .before), args (head (called (below (c .before) .before))) .good)
@@ -224,7 +228,7 @@ module _ (t : ℕ) where
       let e = called (b .before) in
       let h = head e in
       steps-child-by (loop h .loop .inv) (more h) (all h) (is-child e) (args h .pre .1 .room) (b .put-node .ensures)
-      (unfold stepOf in cc (c .arc .ensures, w .arc-weight .ensures))
+      (unfold stepOf in c .arc .ensures ∙ ap (stepOf (h .arc-head .result) (args h .args .v)) (w .arc-weight .ensures))
 
   same-length : list.Need-same-length (calls t) (list-at t) put-children.Post Inv μ-loop
   same-length c = c .before .loop .inv .size
