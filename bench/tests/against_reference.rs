@@ -8,7 +8,7 @@ use bench::trial::trial;
 use reference::judge::{self, Reply};
 use reference::made_filings::filings;
 use reference::made_shapes::{graph, SEARCHED, SHAPES, WEIGHTS};
-use reference::made_trials::records;
+use reference::made_trials::trials;
 use reference::question::{Answer, Kind};
 use reference::random::Random;
 
@@ -77,9 +77,9 @@ fn judged(
 #[test]
 fn made_trials_are_answered_as_the_reference_allows() {
     let mut met = [0; 64];
-    for (i, record) in records().iter().enumerate() {
-        let said = judged(record.kind, record.k, Some(record.limit), &record.sheet, BUFFER);
-        let case = said.unwrap_or_else(|why| panic!("record {i}: {why}"));
+    for (i, trial) in trials().iter().enumerate() {
+        let said = judged(trial.kind, trial.k, Some(trial.limit), &trial.sheet, BUFFER);
+        let case = said.unwrap_or_else(|why| panic!("trial {i}: {why}"));
         met[case as usize] += 1;
     }
     for case in [0, 1, 2, 3, 11, 12, 13, 14, 15, 16, 21, 22] {

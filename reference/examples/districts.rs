@@ -3,8 +3,9 @@
 
 use std::process::ExitCode;
 
-use reference::districts::{encode, records, text};
+use reference::districts::{encode, text};
 use reference::judge_districts::judge_all;
+use reference::made_districts::records;
 
 /// How many wrong replies are shown.
 const SHOWN: usize = 10;

@@ -1,12 +1,9 @@
-//! Replies in full, as the program `districts` writes them to its records of trials and best limits, and their judging.
-//! What is printed of a check says all, so no reply in full stands for it.
-//!
-//! The replies are those of `judge_trials`, one behind the other in the order of the records; the buffer is as long as the
-//! record says and comes filled with its `FILL`.
+//! Judging the replies in full that the program `districts` writes to its records of trials and best limits, one behind the
+//! other in the order of the records. What is printed of a check says all, so no reply in full stands for it.
 
 use crate::districts::{Asked, Record};
 use crate::judge::{self, Reply};
-use crate::judge_trials::{answer_of, decode, full_of, Full, FILL};
+use crate::replies::{answer_of, decode, full_of, Full, FILL};
 
 /// This package's own reply in full; nothing for a check.
 pub fn own_reply(record: &Record) -> Option<Full> {
@@ -34,7 +31,7 @@ pub fn judge_reply(record: &Record, full: &Full) -> Result<(), String> {
     }
 }
 
-/// Judges the replies to all records: how many they are, or what is wrong.
+/// Judges the replies to all records: how many they are, or what is wrong, from the first wrong reply on.
 pub fn judge_all(records: &[Record], mut replies: &[u8]) -> Result<usize, Vec<String>> {
     let mut wrong = Vec::new();
     let is_check = |record: &Record| matches!(record.asked, Asked::Check { .. });
@@ -47,7 +44,9 @@ pub fn judge_all(records: &[Record], mut replies: &[u8]) -> Result<usize, Vec<St
         replies = rest;
         count += 1;
         if let Err(why) = judge_reply(record, &full) {
-            wrong.push(format!("record {number}: {why}"));
+            let Record { asked, kind, k, sheet } = record;
+            let question = format!("{asked:?}, {kind:?}, k {k}, a sheet of {} bytes", sheet.len());
+            wrong.push(format!("record {number} ({question}): {why}"));
         }
     }
     if !replies.is_empty() {

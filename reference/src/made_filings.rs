@@ -1,8 +1,7 @@
 //! Made filings for the check: good covers, and each kind of damage at each field of a cover.
 
 use crate::best;
-use crate::bytes::{put_two, two};
-use crate::check::check;
+use crate::bytes::two;
 use crate::cover::{encode, Tree};
 use crate::graph::{sheet, Graph};
 use crate::made_shapes::damaged_sheets;
@@ -15,26 +14,6 @@ pub struct Filing {
     pub k: usize,
     pub sheet: Vec<u8>,
     pub cover: Vec<u8>,
-}
-
-/// The filing as a record: kind (1 rooted, 2 unrooted), k, both lengths (2 bytes each), sheet, cover.
-pub fn record(filing: &Filing) -> Vec<u8> {
-    let mut out = Vec::new();
-    put_two(&mut out, if filing.kind == Kind::Rooted { 1 } else { 2 });
-    put_two(&mut out, filing.k);
-    put_two(&mut out, filing.sheet.len());
-    put_two(&mut out, filing.cover.len());
-    out.extend_from_slice(&filing.sheet);
-    out.extend_from_slice(&filing.cover);
-    out
-}
-
-/// The answer of the check as a line: `yes` with the heaviest weight, or the number.
-pub fn line(filing: &Filing) -> String {
-    match check(filing.kind, &filing.sheet, filing.k as u64, &filing.cover) {
-        Ok(heaviest) => format!("yes {heaviest}\n"),
-        Err(number) => format!("{number}\n"),
-    }
 }
 
 /// All made filings: random ones with their damages, refused sheets and counts, and full-size ones.

@@ -1,73 +1,29 @@
-//! Records of made trials, and the text that the rules fix of the replies to them.
-//!
-//! A record is that of the made graphs: the kind (2 bytes: 1 rooted, otherwise unrooted), k (2), the limit (4),
-//! a length (2), and so many bytes of a graph, all lowest byte first. The text has one line a record, and behind
-//! an accepted unrooted trial one more line for each of its trees. Words and numbers stand one blank apart:
-//!
-//! ```text
-//! refused NUMBER
-//! too low stop VERTEX
-//! too low parts                          rooted; how many parts and roots is a free choice, so not said
-//! too low needs COUNT                    unrooted
-//! cover LIMIT yes TREES                  rooted; the heaviest weight follows from free choices, so is not said
-//! cover LIMIT HEAVIEST TREES yes         unrooted
-//! tree START WEIGHT EDGE..               unrooted; its edges rising, none for a vertex alone
-//! ```
-//!
-//! LIMIT, HEAVIEST and TREES are those of the reply. `yes` stands where the check of a filed cover, asked with the
-//! record's kind, graph and k, says yes to the bytes written and names the reply's heaviest weight; otherwise `no`.
+//! Made trials, on both sides of the limits where the reply changes.
 
 use std::collections::BTreeSet;
 
 use crate::best;
-use crate::check::check;
-use crate::cover::{decode, filed_length, gather};
 use crate::distance::from_roots;
-use crate::graph::{read, sheet, Graph};
-use crate::made_graphs::{both, Record};
+use crate::graph::{sheet, Graph};
 use crate::made_shapes::{damaged_sheets, ends, graph, mixed, mixed_from, shuffled, weighed};
 use crate::made_shapes::{
     Edges, Ends, Shape, Weights, CHAIN, CROWD, HALVES, LOOP, SHAPES, WEIGHTS,
 };
-use crate::question::{Answer, Kind, BUFFER, LIMIT};
+use crate::question::{Kind, LIMIT};
 use crate::random::Random;
-use crate::rounds::{text as answer_text, tree_line};
-use crate::trial::{run, trial};
+use crate::trial::run;
 
-/// The lines of every record.
-pub fn text(records: &[Record]) -> String {
-    records.iter().map(record_text).collect()
+/// A trial: its kind, the number of trees, the limit, and the bytes of a graph, right or wrong.
+#[derive(Clone, Debug, PartialEq, Eq)]
+pub struct Trial {
+    pub kind: Kind,
+    pub k: usize,
+    pub limit: u64,
+    pub sheet: Vec<u8>,
 }
 
-/// What the rules fix of the reply to a record.
-fn record_text(record: &Record) -> String {
-    let Record { kind, k, limit, sheet } = record;
-    let mut buffer = vec![0; BUFFER];
-    match trial(*kind, sheet, *k as u64, *limit, &mut buffer) {
-        Answer::Cover { limit, heaviest } => cover_text(record, limit, heaviest, &buffer),
-        Answer::Parts { .. } => "too low parts\n".to_string(),
-        other => answer_text(&other, None),
-    }
-}
-
-/// What the rules fix of an accepted trial whose cover was written to the buffer's front.
-fn cover_text(record: &Record, limit: u64, heaviest: u64, buffer: &[u8]) -> String {
-    let Record { kind, k, sheet, .. } = record;
-    let length = filed_length(buffer).expect("a buffer has four bytes");
-    let cover = &buffer[..length];
-    let word = if check(*kind, sheet, *k as u64, cover) == Ok(heaviest) { "yes" } else { "no" };
-    let trees = gather(&decode(cover).expect("an accepted cover was written"));
-    let t = trees.len();
-    if *kind == Kind::Rooted {
-        return format!("cover {limit} {word} {t}\n");
-    }
-    let graph = read(sheet).expect("an accepted sheet can be read");
-    let head = format!("cover {limit} {heaviest} {t} {word}\n");
-    trees.iter().fold(head, |text, tree| text + &tree_line(&graph, tree))
-}
-
-/// Every record: the smallest graphs, refused questions, graphs of every shape and weight, and the largest ones.
-pub fn records() -> Vec<Record> {
+/// Every trial: the smallest graphs, refused questions, graphs of every shape and weight, and the largest ones.
+pub fn trials() -> Vec<Trial> {
     let mut random = Random::new(83);
     let mut all = smallest();
     all.extend(refused());
@@ -83,8 +39,14 @@ pub fn records() -> Vec<Record> {
     all
 }
 
+/// A trial of each kind on a graph's bytes.
+fn both(sheet: &[u8], k: usize, limit: u64) -> Vec<Trial> {
+    let of = |kind: Kind| Trial { kind, k, limit, sheet: sheet.to_vec() };
+    vec![of(Kind::Rooted), of(Kind::Unrooted)]
+}
+
 /// One vertex, vertices without edges, and a path of three edges with its ends as roots, at the ends of the ranges too.
-fn smallest() -> Vec<Record> {
+fn smallest() -> Vec<Trial> {
     let alone = sheet(1, &[]);
     let path = sheet(4, &[(0, 2, 3), (2, 3, 3), (1, 3, 5)]);
     let mut all = Vec::new();
@@ -102,7 +64,7 @@ fn smallest() -> Vec<Record> {
 }
 
 /// Questions refused with 11 to 16, 21 and 22, alone and several at once, and those next to them that are not.
-fn refused() -> Vec<Record> {
+fn refused() -> Vec<Trial> {
     let mut all = Vec::new();
     for bytes in damaged_sheets() {
         all.extend(both(&bytes, 1, 9));
@@ -124,7 +86,7 @@ fn refused() -> Vec<Record> {
 }
 
 /// Graphs on which a tempting mistake would show: as they are, a hundred thousand times as heavy, and mixed.
-fn tempting(random: &mut Random) -> Vec<Record> {
+fn tempting(random: &mut Random) -> Vec<Trial> {
     let mut all = Vec::new();
     for (n, k, edges) in [(4, 2, CHAIN), (7, 2, LOOP), (6, 2, HALVES), (9, 3, CROWD)] {
         let heavy: Edges = edges.iter().map(|&(a, b, weight)| (a, b, 100_000 * weight)).collect();
@@ -139,7 +101,7 @@ fn tempting(random: &mut Random) -> Vec<Record> {
 }
 
 /// Trials of one kind on one graph of a few vertices, next to every limit where the reply changes.
-fn small(random: &mut Random, shape: Shape, turn: usize) -> Vec<Record> {
+fn small(random: &mut Random, shape: Shape, turn: usize) -> Vec<Trial> {
     let n = random.between(if turn == 0 { 1 } else { 4 }, 10);
     let kind = if turn % 4 < 3 { Kind::Rooted } else { Kind::Unrooted };
     let k = random.between(1, n.min(3));
@@ -149,7 +111,7 @@ fn small(random: &mut Random, shape: Shape, turn: usize) -> Vec<Record> {
 }
 
 /// Trials on one graph of some dozen vertices, next to every limit seen where the reply changes.
-fn middling(random: &mut Random, shape: Shape, turn: usize) -> Vec<Record> {
+fn middling(random: &mut Random, shape: Shape, turn: usize) -> Vec<Trial> {
     let n = random.between(12, 40);
     let kind = if turn % 2 == 0 { Kind::Rooted } else { Kind::Unrooted };
     let k = random.between(2, 9);
@@ -158,20 +120,20 @@ fn middling(random: &mut Random, shape: Shape, turn: usize) -> Vec<Record> {
     at_turns(kind, &graph, k)
 }
 
-/// A record of one kind on a graph at each of the given limits.
+/// A trial of one kind on a graph at each of the given limits.
 fn at_limits(
     kind: Kind,
     graph: &Graph,
     k: usize,
     limits: impl IntoIterator<Item = u64>,
-) -> Vec<Record> {
+) -> Vec<Trial> {
     let sheet = graph.to_sheet();
-    let record = |limit| Record { kind, k, limit, sheet: sheet.clone() };
-    limits.into_iter().map(record).collect()
+    let trial = |limit| Trial { kind, k, limit, sheet: sheet.clone() };
+    limits.into_iter().map(trial).collect()
 }
 
 /// Trials at 0, at the sum, and on both sides of every change of the reply that is seen.
-fn at_turns(kind: Kind, graph: &Graph, k: usize) -> Vec<Record> {
+fn at_turns(kind: Kind, graph: &Graph, k: usize) -> Vec<Trial> {
     let looked: Vec<u64> = looked_at(graph, k).into_iter().collect();
     let mut limits = BTreeSet::from([0, graph.total()]);
     for pair in looked.windows(2) {
@@ -213,7 +175,7 @@ fn turn_between(kind: Kind, graph: &Graph, k: usize, low: u64, high: u64) -> [u6
 }
 
 /// Trials around the best limit, at half and twice of it, at 0 and at the sum.
-fn around_best(kind: Kind, graph: &Graph, k: usize) -> Vec<Record> {
+fn around_best(kind: Kind, graph: &Graph, k: usize) -> Vec<Trial> {
     let sum = graph.total();
     let mut limits = BTreeSet::from([0, sum]);
     if let Some((best, _)) = best::search(kind, graph, k) {
@@ -223,7 +185,7 @@ fn around_best(kind: Kind, graph: &Graph, k: usize) -> Vec<Record> {
 }
 
 /// A path, a star, a caterpillar and a random tree of 256 vertices, both as numbered and with vertices mixed.
-fn trees(random: &mut Random) -> Vec<Record> {
+fn trees(random: &mut Random) -> Vec<Trial> {
     let mut all = Vec::new();
     for shape in [Shape::Path, Shape::Star, Shape::Caterpillar, Shape::Tree] {
         for (is_mixed, k) in [(false, 7), (true, 32)] {
@@ -238,7 +200,7 @@ fn trees(random: &mut Random) -> Vec<Record> {
 }
 
 /// 256 vertices and 2,048 edges for 32 trees: bare shapes with each edge repeated, and many edges between any two.
-fn full_size(random: &mut Random) -> Vec<Record> {
+fn full_size(random: &mut Random) -> Vec<Trial> {
     let rows = [
         (Shape::Grid, Weights::Between(1_000_000, 1_000_000), false),
         (Shape::Far, Weights::Between(1, 9), false),

@@ -70,7 +70,7 @@ pub fn text(answer: &Answer, cover: Option<(&Graph, &[Tree])>) -> String {
 }
 
 /// The printed row of one tree: its start, its weight and its edges.
-pub fn tree_line(graph: &Graph, tree: &Tree) -> String {
+fn tree_line(graph: &Graph, tree: &Tree) -> String {
     let head = format!("tree {} {}", tree.start, graph.weight(&tree.edges));
     let edges = tree.edges.iter().map(|e| format!(" {e}"));
     head + &edges.collect::<String>() + "\n"

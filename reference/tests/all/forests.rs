@@ -4,6 +4,7 @@ use reference::cover::Tree;
 use reference::distance;
 use reference::forest::{by_weight, components, lowest_unjoined, rooted, thin, tops, unrooted};
 use reference::graph::Graph;
+use reference::made_shapes::{graph, SHAPES, WEIGHTS};
 use reference::random::Random;
 use reference::split::split;
 
@@ -234,4 +235,40 @@ fn distances_by_hand() {
     assert_eq!(distance::closest(&from_0, &[1, 3]), Some((5, 1)));
     assert_eq!(distance::closest(&from_0, &[4]), None);
     assert_eq!(distance::path(&graph, &from_0, 3), [3, 2, 1]);
+}
+
+#[test]
+fn distances_from_roots_by_hand() {
+    let graph = Graph::new(5, &[(0, 2, 3), (2, 3, 3), (1, 3, 5), (3, 2, 9)]);
+    let due =
+        [[Some(0), Some(11), Some(3), Some(6), None], [Some(11), Some(0), Some(8), Some(5), None]];
+    assert_eq!(distance::from_roots(&graph, 2), due);
+    // The limit, the kept edges and the lowest vertex joined to no root.
+    for (limit, kept, unjoined) in [(2, &[][..], 2), (3, &[0, 1], 4)] {
+        let forest = rooted(&graph, 2, limit);
+        assert_eq!((&forest.kept[..], lowest_unjoined(&forest, 2)), (kept, Some(unjoined)));
+    }
+}
+
+#[test]
+fn paths_walked_back_weigh_the_distances() {
+    let mut random = Random::new(61);
+    let mut unreached = 0;
+    for turn in 0..20 {
+        for shape in SHAPES {
+            let n = random.between(1, if turn == 0 { 256 } else { 40 });
+            let k = random.between(1, n.min(5));
+            let weights = WEIGHTS[random.below(WEIGHTS.len())];
+            let graph = graph(&mut random, shape, n, k, weights);
+            for (root, from_root) in distance::from_roots(&graph, k).iter().enumerate() {
+                assert_eq!(from_root.iter().position(|&d| d == Some(0)), Some(root));
+                for (v, due) in from_root.iter().enumerate() {
+                    let walked = due.map(|_| graph.weight(&distance::path(&graph, from_root, v)));
+                    assert_eq!(walked, *due, "{shape:?}: from {root} to {v} of {graph:?}");
+                    unreached += usize::from(due.is_none());
+                }
+            }
+        }
+    }
+    assert!(unreached > 1_000, "{unreached} vertices without a distance");
 }

@@ -7,7 +7,9 @@ pub mod replies;
 use std::sync::OnceLock;
 
 use reference::bytes::put_two;
+use reference::districts::Record;
 use reference::graph::{sheet, Graph};
+use reference::made_districts::records;
 pub use reference::made_questions::input;
 use reference::question::{Answer, Kind, BUFFER};
 
@@ -35,6 +37,12 @@ pub fn buffer_of(length: usize) -> Vec<u8> {
 pub fn buffer() -> Vec<u8> {
     static ONCE: OnceLock<Vec<u8>> = OnceLock::new();
     ONCE.get_or_init(|| buffer_of(BUFFER)).clone()
+}
+
+/// The records of the program `districts`, made once.
+pub fn made_records() -> &'static [Record] {
+    static ONCE: OnceLock<Vec<Record>> = OnceLock::new();
+    ONCE.get_or_init(records)
 }
 
 /// The question number of a trial of a kind, or of a best limit.

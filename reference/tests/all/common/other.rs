@@ -1,29 +1,32 @@
 //! Another planner's replies: allowed ones, with each free choice made the other way round.
 
 use reference::assignment::{assign, roots_near, Assigned};
-use reference::best;
 use reference::cover::{decode, encode, gather, heaviest, Tree};
 use reference::distance::closest;
+use reference::districts::{Asked, Record};
 use reference::forest::thin;
 use reference::graph::{read, Graph};
-use reference::judge_trials::{own_reply, Full};
-use reference::made_graphs::Record;
-use reference::question::{Answer, Kind};
+use reference::judge_districts::own_reply;
+use reference::question::{Answer, Kind, BUFFER};
+use reference::replies::Full;
 use reference::rooted::{plan, Plan};
 use reference::rounds::{question, rounds, text};
-use reference::trial::admit;
 
-/// The reply to a record with the parts and the roots taken from the last on, and with other shortest paths.
-pub fn other_reply(record: &Record) -> Full {
-    let Record { kind, k, limit, sheet } = record;
-    let admitted = admit(*kind, sheet, *k as u64, *limit, usize::MAX);
-    let (Kind::Rooted, Ok((graph, k))) = (kind, admitted) else {
-        return own_reply(record);
+/// The reply to a record with the parts and the roots taken from the last on, and with other shortest paths; nothing for a
+/// check.
+pub fn other_reply(record: &Record) -> Option<Full> {
+    let own = own_reply(record)?;
+    let limit = match (&record.asked, own.case) {
+        (Asked::Trial { limit, .. }, 0 | 2) => *limit,
+        (Asked::Best { .. }, 0) => own.values[0],
+        _ => return Some(own),
     };
-    match plan(&graph, k, *limit) {
-        Ok(plan) => other_choices(&graph, k, *limit, &plan),
-        Err(_) => own_reply(record),
+    if record.kind == Kind::Unrooted {
+        return Some(own);
     }
+    let graph = read(&record.sheet).expect("an answered sheet");
+    let plan = plan(&graph, record.k, limit).expect("every vertex is joined to a root");
+    Some(other_choices(&graph, record.k, limit, &plan))
 }
 
 /// The reply of a planned trial.
@@ -88,15 +91,14 @@ fn other_path(graph: &Graph, distance: &[Option<u64>], target: usize) -> Vec<usi
 /// The text of another program `rounds`, which makes these choices.
 pub fn other_rounds(input: &[u8]) -> String {
     let own = rounds(input);
-    let Ok(asked) = question(input) else { return own };
-    let Ok(graph) = read(asked.sheet) else { return own };
-    let (kind, k, sheet) = (asked.kind, asked.k as usize, asked.sheet.to_vec());
-    if kind == Kind::Unrooted || own.starts_with("refused") || own.starts_with("no cover") {
-        return own;
-    }
-    let best = || best::search(kind, &graph, k).map(|(limit, _)| limit).expect("a cover exists");
-    let limit = asked.limit.unwrap_or_else(best);
-    let full = other_reply(&Record { kind, k, limit, sheet });
+    let Ok(question) = question(input) else { return own };
+    let Ok(graph) = read(question.sheet) else { return own };
+    let asked = match question.limit {
+        Some(limit) => Asked::Trial { limit, room: BUFFER },
+        None => Asked::Best { room: BUFFER },
+    };
+    let (kind, k, sheet) = (question.kind, question.k as usize, question.sheet.to_vec());
+    let full = other_reply(&Record { asked, kind, k, sheet }).expect("no check");
     match (full.case, &full.values[..]) {
         (0, &[limit, heaviest, _]) => {
             let trees = gather(&decode(&full.front).expect("cover bytes"));

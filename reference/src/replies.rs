@@ -1,6 +1,6 @@
-//! Replies in full, as another implementation writes them to the records of made trials, and their judging.
+//! Replies in full: an answer, and what was written to the lent buffer, as bytes.
 //!
-//! The replies stand one behind the other, in the order of the records; every field lowest byte first:
+//! Replies stand one behind the other; every field lowest byte first:
 //!
 //! ```text
 //! case             2 bytes: 0 cover, 1 too low stop, 2 too low parts, 3 too low needs, 4 no cover, otherwise the refusal
@@ -11,16 +11,13 @@
 //! rest             1 byte: 1 if the buffer is otherwise as it came, else 0
 //! ```
 //!
-//! The buffer is of the least length allowed and comes filled with `FILL`.
+//! The buffer comes filled with `FILL`.
 
 use crate::bytes::{four, put_four, put_two, two};
 use crate::cover::filed_length;
-use crate::judge::{self, Reply};
-use crate::made_graphs::Record;
-use crate::question::{Answer, BUFFER};
-use crate::trial::trial;
+use crate::question::Answer;
 
-/// What every byte of the lent buffer is before a trial.
+/// What every byte of the lent buffer is before a question.
 pub const FILL: u8 = 0xa5;
 
 /// A reply as it was written, right or wrong.
@@ -56,13 +53,6 @@ pub fn decode(bytes: &[u8]) -> Option<(Full, &[u8])> {
     Some((Full { case: two(head, 0), values, front: front.to_vec(), rest }, bytes))
 }
 
-/// This package's own reply to a record, in full.
-pub fn own_reply(record: &Record) -> Full {
-    let mut buffer = vec![FILL; BUFFER];
-    let answer = trial(record.kind, &record.sheet, record.k as u64, record.limit, &mut buffer);
-    full_of(&answer, &buffer)
-}
-
 /// An answer with the buffer it left, in full.
 pub fn full_of(answer: &Answer, buffer: &[u8]) -> Full {
     let written = matches!(answer, Answer::Cover { .. } | Answer::Parts { .. });
@@ -79,20 +69,6 @@ pub fn full_of(answer: &Answer, buffer: &[u8]) -> Full {
         Answer::Refused(number) => (usize::from(number), vec![]),
     };
     Full { case, values, front, rest }
-}
-
-/// Judges the reply to a record; the error says what is wrong with it.
-pub fn judge_reply(record: &Record, full: &Full) -> Result<(), String> {
-    let answer = answer_of(full)?;
-    if full.rest != 1 {
-        return Err("the buffer was touched behind the bytes written".into());
-    }
-    let before = vec![FILL; BUFFER];
-    let mut after = before.clone();
-    let room = after.get_mut(..full.front.len()).ok_or("more is written than fits the buffer")?;
-    room.copy_from_slice(&full.front);
-    let reply = Reply { answer: &answer, before: &before, after: &after };
-    judge::trial(record.kind, &record.sheet, record.k as u64, record.limit, reply)
 }
 
 /// The answer of a reply, whose values and bytes written must be as many as its case asks for.
@@ -116,30 +92,5 @@ pub fn answer_of(full: &Full) -> Result<Answer, String> {
         Some(t) if t == two(&full.front, 0) as u64 => Ok(answer),
         Some(t) => Err(format!("{t} trees are named, {} written", two(&full.front, 0))),
         None => Err(format!("{} bytes are written to {answer:?}", full.front.len())),
-    }
-}
-
-/// Judges the replies to all records: how many they are, or what is wrong, from the first wrong reply on.
-pub fn judge_all(records: &[Record], mut replies: &[u8]) -> Result<usize, Vec<String>> {
-    let mut wrong = Vec::new();
-    for (number, record) in records.iter().enumerate() {
-        let Some((full, rest)) = decode(replies) else {
-            wrong.push(format!("the replies end within or before number {number}"));
-            return Err(wrong);
-        };
-        replies = rest;
-        if let Err(why) = judge_reply(record, &full) {
-            let Record { kind, k, limit, sheet } = record;
-            let asked = format!("{kind:?}, k {k}, limit {limit}, a sheet of {} bytes", sheet.len());
-            wrong.push(format!("reply {number} ({asked}): {why}"));
-        }
-    }
-    if !replies.is_empty() {
-        wrong.push(format!("{} bytes follow the last reply", replies.len()));
-    }
-    if wrong.is_empty() {
-        Ok(records.len())
-    } else {
-        Err(wrong)
     }
 }

@@ -1,2 +1,0 @@
--- What the functions of this program ask of each other.
-pub mod Asked

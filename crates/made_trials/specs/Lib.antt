@@ -1,2 +1,0 @@
--- What is printed of the replies to trials.
-pub mod Text
