@@ -17,7 +17,7 @@ use Rattle.reply_text.specs.Lines.{line}
 use Rattle.reply_text.specs.Text.{textOf}
 use Rattle.reply_text.specs.Replies.{TextAsked, TextWritten, RefusalWritten}
 use Rattle.gate_replies.specs.Fixed.{FixedWritten}
-use Rattle.gate_replies.proofs.Asked.{text-fits, fixed-fits}
+use Rattle.gate_replies.proofs.FixedReplies.{text-fits, fixed-fits}
 use Rattle.districts.specs.Text.{DistrictBy, DistrictWritten, verdictText}
 
 module _ {whole : Bool} {kind : Kind} {k : ℕ} {b : List ℕ} {reply : Reply} {buf before after : List ℕ} {r : ℕ} where

@@ -1,20 +1,21 @@
--- What is written of a reply where the rules leave a choice, reply by reply.
+-- What is written of a reply where the rules leave a choice, reply by reply, and that it fits.
 -- Assumes nothing.
-use Prim.Native.Nat.{ℕ}
+use Prim.Native.Nat.{ℕ, _≤_}
 use mathlib.Core.Path.{_≡_, sym, ap, subst, _∙_}
 use mathlib.Core.Bool.{Bool}
 use mathlib.Core.List.{List, []}
-use lib.ListN.{take}
+use lib.ListN.{length, take}
 use denote.Enum.Declared.{tagOf}
 use types.Run.{OneOf, miss}
 use Rattle.lists.specs.Put.{PutTo}
+use Rattle.lists.proofs.Put.{put-fits}
 use Rattle.rules.specs.CoverBytes.{coverLength}
 use Rattle.cover.specs.declared.crews.Kind.{Kind}
 use Rattle.pieces.proofs.reply.Reply as reply
 use Rattle.pieces.specs.declared.reply.Reply.{Reply}
 use Rattle.pieces.specs.declared.reply.Reply.the-variants.{Sheet, Crews, Limit, Room, Cover, Stop, Parts, Needs, NoCover}
 use Rattle.reply_text.specs.Lines.{line}
-use Rattle.reply_text.specs.Replies.{TextWritten}
+use Rattle.reply_text.specs.Replies.{TextAsked, TextWritten}
 use Rattle.gate_replies.specs.Fixed.{confirmed, sureLine, FixedBy, FixedWritten}
 use Rattle.gate_replies.proofs.FullReplies.{others}
 
@@ -44,3 +45,20 @@ module _ {kind : Kind} {k : ℕ} {b buf before after : List ℕ} {r : ℕ} where
   fixed-other (Parts T D) o p = absurd (miss others 6 tt o)
   fixed-other (Needs C) o p = record { fixed = p }
   fixed-other NoCover o p = record { fixed = p }
+
+-- The whole text fits.
+pub text-fits : {b buf before after : List ℕ} {reply : Reply} {room r : ℕ} → TextAsked b reply buf room → TextWritten b reply buf before after r → r ≤ length before
+text-fits a w = put-fits (w .text (a .ruled) (a .earlier) (a .replied) (a .printable))
+
+-- So does what the rules fix.
+pub fixed-fits : {kind : Kind} {k : ℕ} {b buf before after : List ℕ} (reply : Reply) {room r : ℕ} → TextAsked b reply buf room
+    → FixedWritten kind k b reply buf before after r → r ≤ length before
+fixed-fits (Cover limit heaviest t) a w = put-fits (w .fixed)
+fixed-fits (Parts T D) a w = put-fits (w .fixed)
+fixed-fits (Sheet f) a w = text-fits a (w .fixed)
+fixed-fits Crews a w = text-fits a (w .fixed)
+fixed-fits Limit a w = text-fits a (w .fixed)
+fixed-fits Room a w = text-fits a (w .fixed)
+fixed-fits (Stop v) a w = text-fits a (w .fixed)
+fixed-fits (Needs C) a w = text-fits a (w .fixed)
+fixed-fits NoCover a w = text-fits a (w .fixed)

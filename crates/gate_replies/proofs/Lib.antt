@@ -1,4 +1,4 @@
--- Laws of replies as the programs of the gate print them.
+-- Laws of replies as the program of the gate prints them.
 -- numbers in several bytes: how many, and the next one
 pub mod FieldLaws
 -- whether bytes are as they came, one by one
@@ -9,7 +9,5 @@ pub mod BehindRoom
 pub mod FullReplies
 -- how long the lines are of what the rules fix
 pub mod FixedLines
--- what is written of a reply, reply by reply
+-- what is written of a reply, reply by reply, and that it fits
 pub mod FixedReplies
--- replies of the planner can be printed
-pub mod Asked

@@ -1,4 +1,4 @@
--- Replies as the programs of the gate print them, in reading order.
+-- Replies as the program of the gate prints them, in reading order.
 -- numbers in several bytes
 pub mod Fields
 -- a reply in full, as bytes

@@ -5,7 +5,7 @@ ghost use Rattle.lists.specs.Put.{PutTo};
 ghost use Rattle.gate_replies.specs.Fields.{field, fields};
 
 // A number in so many bytes, from a place on.
-pub fn put_field(width: usize, x: u64, out: &mut [u8], at: usize) -> usize
+pub(crate) fn put_field(width: usize, x: u64, out: &mut [u8], at: usize) -> usize
     requires { ⌜ at + width ≤ length (now out) ⌝ }
     ensures { λ r. ⌜ PutTo at (field width x) (now (out .entry)) (now (out .exit)) r ⌝ }
 {
@@ -22,7 +22,7 @@ pub fn put_field(width: usize, x: u64, out: &mut [u8], at: usize) -> usize
 }
 
 // Numbers in eight bytes each, from a place on.
-pub fn put_values(values: &[u64], out: &mut [u8], at: usize) -> usize
+pub(crate) fn put_values(values: &[u64], out: &mut [u8], at: usize) -> usize
     requires { ⌜ at + 8 * length (now values) ≤ length (now out) ⌝ }
     ensures { λ r. ⌜ PutTo at (fields 8 (now (values .entry))) (now (out .entry)) (now (out .exit)) r ⌝ }
 {

@@ -27,14 +27,14 @@ fn is_yes(verdict: Verdict, heaviest: u64) -> bool
 }
 
 // Whether the check says yes to the bytes of a cover, with this weight.
-pub fn confirms(kind: Kind, k: usize, b: &[u8], c: &[u8], heaviest: u64) -> bool
+fn confirms(kind: Kind, k: usize, b: &[u8], c: &[u8], heaviest: u64) -> bool
     ensures { λ r. ⌜ r ≡ confirmed kind k (now (b .entry)) (now (c .entry)) heaviest ⌝ }
 {
     is_yes(check_cover(kind, k, b, c), heaviest)
 }
 
 // A space and `yes` or `no`, from a place on.
-pub fn put_yes(sure: bool, out: &mut [u8], at: usize) -> usize
+fn put_yes(sure: bool, out: &mut [u8], at: usize) -> usize
     requires { ⌜ at + length (yesWord sure) ≤ length (now out) ⌝ }
     ensures { λ r. ⌜ PutTo at (yesWord sure) (now (out .entry)) (now (out .exit)) r ⌝ }
 {

@@ -3,7 +3,7 @@ use Prim.Native.Nat.{_≤_}
 use mathlib.Core.Path.{sym}
 use native.Mathlib.Omega.{arith}
 use lib.Seq.{length-take-le}
-use Rattle.gate_replies.proofs.Asked.{wide-asked}
+use Rattle.districts.proofs.Asked.{wide-asked}
 use Rattle.districts.proofs.DistrictReplies.{district-fits}
 use borrow.Author.Needs.{needs}
 use Rattle.districts.proofs.print_reply.Statement.{statement}

@@ -1,6 +1,6 @@
 -- `districts::reply_to` meets its contract: what the planner replies can be printed. Assumes nothing.
 use native.Mathlib.Omega.{arith}
-use Rattle.gate_replies.proofs.Asked.{trial-asked, best-asked}
+use Rattle.districts.proofs.Asked.{trial-asked, best-asked}
 use borrow.Author.Needs.{needs}
 use Rattle.districts.proofs.reply_to.Statement.{statement}
 use Rattle.districts.proofs.reply_to.Tie as tie

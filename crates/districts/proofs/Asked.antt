@@ -1,18 +1,15 @@
--- The replies of the planner can be printed, and what is printed of them fits the room.
+-- The replies of the planner can be printed.
 -- Assumes nothing.
 use Prim.Native.Nat.{ℕ, _≤_}
 use mathlib.Core.List.{List}
 use lib.ListN.{length}
-use Rattle.lists.proofs.Put.{put-fits}
 use Rattle.rules.specs.Questions.{askTrial, askBest}
 use Rattle.cover.specs.declared.crews.Kind.{Kind}
 use Rattle.cover.specs.Crews.{crewsOf}
 use Rattle.pieces.specs.declared.reply.Reply.{Reply}
-use Rattle.pieces.specs.declared.reply.Reply.the-variants.{Sheet, Crews, Limit, Room, Cover, Stop, Parts, Needs, NoCover}
 use Rattle.planner.specs.Promise.{TrialPromise, BestPromise}
-use Rattle.reply_text.specs.Replies.{TextAsked, TextWritten}
+use Rattle.reply_text.specs.Replies.{TextAsked}
 use Rattle.reply_text.proofs.PrintableReplies.{ask-trial-printable, ask-best-printable}
-use Rattle.gate_replies.specs.Fixed.{FixedWritten}
 
 module _ {kind : Kind} {k : ℕ} {b before after : List ℕ} {r : Reply} {room : ℕ} where
   pub trial-asked : {limit : ℕ} → TrialPromise kind k limit b before after r → 65536 ≤ room → TextAsked b r after room
@@ -38,20 +35,3 @@ module _ {kind : Kind} {k : ℕ} {b before after : List ℕ} {r : Reply} {room :
 -- More room does no harm.
 pub wide-asked : {b buf : List ℕ} {reply : Reply} {room more : ℕ} → TextAsked b reply buf room → 65536 ≤ more → TextAsked b reply buf more
 wide-asked a enough = record { ruled = a .ruled; earlier = a .earlier; replied = a .replied; printable = a .printable; enough = enough }
-
--- The whole text fits.
-pub text-fits : {b buf before after : List ℕ} {reply : Reply} {room r : ℕ} → TextAsked b reply buf room → TextWritten b reply buf before after r → r ≤ length before
-text-fits a w = put-fits (w .text (a .ruled) (a .earlier) (a .replied) (a .printable))
-
--- So does what the rules fix.
-pub fixed-fits : {kind : Kind} {k : ℕ} {b buf before after : List ℕ} (reply : Reply) {room r : ℕ} → TextAsked b reply buf room
-    → FixedWritten kind k b reply buf before after r → r ≤ length before
-fixed-fits (Cover limit heaviest t) a w = put-fits (w .fixed)
-fixed-fits (Parts T D) a w = put-fits (w .fixed)
-fixed-fits (Sheet f) a w = text-fits a (w .fixed)
-fixed-fits Crews a w = text-fits a (w .fixed)
-fixed-fits Limit a w = text-fits a (w .fixed)
-fixed-fits Room a w = text-fits a (w .fixed)
-fixed-fits (Stop v) a w = text-fits a (w .fixed)
-fixed-fits (Needs C) a w = text-fits a (w .fixed)
-fixed-fits NoCover a w = text-fits a (w .fixed)
