@@ -1,29 +1,37 @@
-//! Judges another program `rounds` by its answers to made questions: judge_rounds PROGRAM COUNT.
+//! Judges another program `rounds` by its answers to the questions in words of a file, and to so many made questions:
+//! judge_rounds PROGRAM QUESTIONS-FILE COUNT.
 
+use std::io::{Error, Result};
 use std::path::Path;
 use std::process::ExitCode;
 
-use reference::judge_rounds::{judge_rounds, run_program};
+use reference::judge_rounds::{judge_rounds, judge_written, run_program, Judged};
+use reference::written::read;
 
 /// How many wrong answers are shown.
 const SHOWN: usize = 5;
 
-fn main() -> ExitCode {
+fn main() -> Result<ExitCode> {
     let args: Vec<String> = std::env::args().skip(1).collect();
-    let (Some(program), Some(Ok(count))) = (args.first(), args.get(1).map(|word| word.parse()))
+    let ([program, questions, _], Some(Ok(count))) = (&args[..], args.get(2).map(|n| n.parse()))
     else {
-        eprintln!("judge_rounds PROGRAM COUNT");
-        return ExitCode::from(2);
+        eprintln!("judge_rounds PROGRAM QUESTIONS-FILE COUNT");
+        return Ok(ExitCode::from(2));
     };
-    let said = judge_rounds(count, |input| run_program(Path::new(program), input));
-    if said.undecided > 0 {
-        println!("{} answers more show too little to be judged", said.undecided);
-    }
-    if said.wrong.is_empty() {
-        println!("{} questions judged", said.judged());
-        return ExitCode::SUCCESS;
-    }
+    let program = |input: &[u8]| run_program(Path::new(program), input);
+    let questions = read(&std::fs::read_to_string(questions)?).map_err(Error::other)?;
+    let all = [
+        ("questions in words", judge_written(&questions, program)),
+        ("made questions", judge_rounds(count, program)),
+    ];
+    all.iter().for_each(|(name, said)| show(name, said));
+    let passed = all.iter().all(|(_, said)| said.is_passed());
+    Ok(if passed { ExitCode::SUCCESS } else { ExitCode::FAILURE })
+}
+
+/// Prints what was said, and the first wrong answers.
+fn show(name: &str, said: &Judged) {
     said.wrong.iter().take(SHOWN).for_each(|why| println!("{why}"));
-    println!("{} of {} wrong", said.wrong.len(), said.judged());
-    ExitCode::FAILURE
+    let Judged { undecided, wrong, .. } = said;
+    println!("{} {name} judged, {} wrong, {undecided} undecided", said.judged(), wrong.len());
 }

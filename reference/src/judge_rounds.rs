@@ -1,4 +1,4 @@
-//! Judging another program `rounds` by its answers to made questions.
+//! Judging another program `rounds` by its answers to made questions, and to questions in words with the reply that is due.
 
 use std::io::{Error, ErrorKind, Result, Write};
 use std::path::Path;
@@ -7,6 +7,7 @@ use std::process::{Command, Stdio};
 use crate::bytes::{four, two};
 use crate::judge_text::{judge, Verdict};
 use crate::made_questions::inputs;
+use crate::written::Written;
 
 /// What was said of the answers of a program.
 #[derive(Clone, Debug, Default, PartialEq, Eq)]
@@ -23,6 +24,11 @@ impl Judged {
     /// How many answers were judged, right or wrong.
     pub fn judged(&self) -> usize {
         self.right + self.wrong.len()
+    }
+
+    /// Whether some answers are right, none is wrong, and at most one of a hundred shows too little to be judged.
+    pub fn is_passed(&self) -> bool {
+        self.right > 0 && self.wrong.is_empty() && 100 * self.undecided <= self.judged()
     }
 }
 
@@ -57,6 +63,19 @@ pub fn judge_rounds(least: usize, program: impl Fn(&[u8]) -> Result<String>) -> 
         }
         if said.judged() >= least || !said.wrong.is_empty() {
             break;
+        }
+    }
+    said
+}
+
+/// Puts questions in words to a program: each is due the reply beside it, byte by byte.
+pub fn judge_written(questions: &[Written], program: impl Fn(&[u8]) -> Result<String>) -> Judged {
+    let mut said = Judged::default();
+    for Written { file, input, reply } in questions {
+        match program(input) {
+            Ok(output) if output == *reply => said.right += 1,
+            Ok(output) => said.wrong.push(format!("{file}: {reply:?} is due, not {output:?}")),
+            Err(error) => said.wrong.push(format!("{file}: {error}")),
         }
     }
     said

@@ -8,7 +8,7 @@ use crate::common::{input, sheet_n};
 use reference::best::search;
 use reference::bytes::{put_two, two};
 use reference::graph::{read, Graph};
-use reference::judge_rounds::{judge_rounds, run_program};
+use reference::judge_rounds::{judge_rounds, run_program, Judged};
 use reference::made_questions::inputs;
 use reference::question::Kind;
 use reference::rounds::{question, rounds};
@@ -24,14 +24,31 @@ fn our_own_program_passes() {
     let said = judge_rounds(1, |input| run_program(own_program(), input));
     assert_eq!(said.wrong, Vec::<String>::new());
     assert!(said.judged() > 250 && said.undecided == 0, "{} judged", said.judged());
+    assert!(said.is_passed());
+}
+
+#[test]
+fn few_answers_may_show_too_little() {
+    // Right ones, undecided ones, wrong ones, and whether the program passes.
+    let rows = [
+        (2_000, 0, 0, true),
+        (2_000, 20, 0, true),
+        (2_000, 21, 0, false),
+        (2_000, 0, 1, false),
+        (0, 0, 0, false),
+        (0, 2_000, 0, false),
+    ];
+    for (right, undecided, wrong, due) in rows {
+        let said = Judged { right, undecided, wrong: vec![String::new(); wrong] };
+        assert_eq!(said.is_passed(), due, "{right} right, {undecided} undecided, {wrong} wrong");
+    }
 }
 
 #[test]
 fn a_program_with_other_choices_passes() {
     let said = judge_rounds(2_000, |input| Ok(other_rounds(input)));
     assert_eq!(said.wrong, Vec::<String>::new());
-    assert!(said.judged() >= 2_000);
-    assert!(said.undecided < 20, "{} undecided", said.undecided);
+    assert!(said.judged() >= 2_000 && said.is_passed(), "{} undecided", said.undecided);
     let differ = |input: &&Vec<u8>| other_rounds(input) != rounds(input);
     let rounds: Vec<Vec<u8>> = (0..3).flat_map(inputs).collect();
     assert!(rounds.iter().filter(differ).count() > 50);

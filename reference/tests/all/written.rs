@@ -5,6 +5,7 @@ use std::path::PathBuf;
 use reference::bytes::two;
 use reference::fixed::is_fixed;
 use reference::graph::{read as read_graph, sheet};
+use reference::judge_rounds::judge_written;
 use reference::made_questions::input;
 use reference::rounds::{question, rounds};
 use reference::written::{read, Written};
@@ -47,6 +48,26 @@ fn the_files_kept_are_the_questions_in_words() {
         assert!(bytes == written.input, "{}", written.file);
         assert_eq!(rounds(&bytes), written.reply, "{}", written.file);
     }
+}
+
+#[test]
+fn a_program_is_held_to_the_replies() {
+    let said = judge_written(&kept(), |input| Ok(rounds(input)));
+    assert!(said.is_passed() && said.right == kept().len(), "{:?}", said.wrong);
+    let said = judge_written(&kept(), |input| Ok(rounds(input).replace("yards", "roots")));
+    assert!(!said.is_passed() && said.wrong.len() == 1, "{:?}", said.wrong);
+    let said = judge_written(&kept(), |_| Err(std::io::Error::other("stopped")));
+    assert!(!said.is_passed() && said.right == 0);
+    assert!(!judge_written(&[], |input| Ok(rounds(input))).is_passed());
+}
+
+#[test]
+fn the_first_question_is_that_of_the_readme() {
+    let readme = std::fs::read_to_string(folder().join("../README.md")).expect("README.md");
+    let first = &kept()[0];
+    let rows = first.reply.lines().map(|row| format!("      {row}\n")).collect::<String>();
+    assert!(readme.contains(&format!("target/bin/rounds < examples/{}", first.file)));
+    assert!(readme.contains(&format!("\n\n{rows}\n")), "{rows}");
 }
 
 #[test]
