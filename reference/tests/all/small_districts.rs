@@ -1,5 +1,7 @@
 //! Every row of the list of small districts, and the printed example of sheet N.
 
+use std::path::PathBuf;
+
 use crate::common::{buffer, buffer_of, filing, graph_n, input, question, sheet_n, BOTH, N};
 use reference::best::best;
 use reference::check::check;
@@ -38,6 +40,14 @@ fn rows_of_sheet_n() {
         assert_eq!(rounds(&asked), due, "{kind:?} k {k} limit {limit:?}");
         assert_eq!(judge(&asked, due), Verdict::Yes);
     }
+}
+
+#[test]
+fn the_program_is_run_on_the_printed_example() {
+    let folder = PathBuf::from(env!("CARGO_MANIFEST_DIR")).join("../crates/rounds");
+    let filed = |name: &str| std::fs::read(folder.join(name)).expect(name);
+    assert_eq!(filed("stdin"), input(1, 2, 4, &sheet_n()));
+    assert_eq!(filed("stdout"), b"cover 4 6 2\ntree 0 6 0 1\ntree 1 0\n");
 }
 
 #[test]
