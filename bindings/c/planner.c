@@ -1,0 +1,44 @@
+/* The planner as a C program links it, on sheet N of document 01 with two crews. */
+#include "planner.h"
+
+#include <assert.h>
+#include <string.h>
+
+/* Line 0 joins 0-2 weight 3, line 1 joins 2-3 weight 3, line 2 joins 1-3 weight 5. */
+static const uint8_t sheet[] = {4, 0, 3, 0, 0, 0, 2, 0, 2, 0, 3, 0, 1, 0,
+                                3, 0, 3, 0, 0, 0, 3, 0, 0, 0, 5, 0, 0, 0};
+
+/* Tree 0 from stop 0 with lines 0 and 1, tree 1 from stop 1 with none. */
+static const uint8_t cover[] = {2, 0, 2, 0, 0, 0, 1, 0, 0, 0, 0, 0, 0, 0, 1, 0};
+
+static uint8_t buffer[PLANNER_BUFFER];
+static uint64_t values[3];
+
+static uint32_t trial(uint32_t kind, uint64_t limit) {
+    return planner_trial(kind, 2, limit, sheet, sizeof sheet, values, buffer, sizeof buffer);
+}
+
+static uint32_t best(size_t room) {
+    return planner_best(PLANNER_ROOTED, 2, sheet, sizeof sheet, values, buffer, room);
+}
+
+int main(void) {
+    /* Yards: "B 4, heaviest 6". */
+    assert(trial(PLANNER_ROOTED, 4) == PLANNER_COVER);
+    assert(memcmp(values, (uint64_t[]){4, 6, 2}, sizeof values) == 0);
+    assert(memcmp(buffer, cover, sizeof cover) == 0);
+
+    /* Roving: "k 2, B 3, needs 3". */
+    assert(trial(PLANNER_UNROOTED, 3) == PLANNER_TOO_LOW_NEEDS);
+    assert(values[0] == 3);
+
+    /* Yards: "Best: limit 4, heaviest 6"; "Buffer 32,708 passes, 32,707 is 23". */
+    assert(best(32708) == PLANNER_COVER);
+    assert(memcmp(values, (uint64_t[]){4, 6, 2}, sizeof values) == 0);
+    assert(best(32707) == 23);
+
+    /* Check: "(0,0)(0,1) yes, 6". */
+    assert(planner_check(PLANNER_ROOTED, 2, sheet, sizeof sheet, cover, sizeof cover, values) == 0);
+    assert(values[0] == 6);
+    return 0;
+}
