@@ -53,3 +53,7 @@ module _ {A : Type 0} where
     -- The place behind the whole list, once all of it is put.
     pub so-far-behind : at + length whole ≡ next + length rest
     so-far-behind = omega (arith, ap length (w .whole-is), length-append (w .done) rest, w .put .behind)
+
+    -- Where there is room for the whole list, there is room for the list that is put next.
+    pub so-far-room : (xs other : List A) → rest ≡ xs ++ other → at + length whole ≤ length before → next + length xs ≤ length after
+    so-far-room xs other q room = omega (arith, so-far-behind, w .same, ap length q, length-append xs other)
