@@ -7,7 +7,8 @@ use mathlib.Core.Logic.{_⊎_, inl, inr, dite}
 use native.Mathlib.Decide.{ℕ-discrete}
 use native.Mathlib.Omega.{arith}
 use Rattle.lists.specs.Count.{from, below}
-use Rattle.lists.specs.Member.{_∈_, Rising, none, next}
+use Rattle.lists.specs.Member.{_∈_}
+use Rattle.lists.specs.InOrder.{Rising, none, next}
 
 -- two numbers are equal or not: `ℕ-discrete`, as a sum
 pub equal-or-not : (m n : ℕ) → (m ≡ n) ⊎ (m ≡ n → ⊥)

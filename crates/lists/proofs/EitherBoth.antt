@@ -17,9 +17,3 @@ pub count-either-both : (n : ℕ) (f h : ℕ → Bool) → count n (λ k. f k ||
 unfolding count
 count-either-both zero f h = omega arith
 count-either-both (suc n) f h = omega (arith, one-either-both (f n) (h n), count-either-both n f h)
-
--- where no number passes, none is counted
-pub count-none : (n : ℕ) → count n (λ _. false) ≡ 0
-unfolding count
-count-none zero = refl
-count-none (suc n) = omega (arith, count-none n)

@@ -20,6 +20,14 @@ pub second-true : (a b : Bool) → (a && b) ≡ true → b ≡ true
 second-true true b t = t
 second-true false b t = absurd (mathlib.Core.Bool.false≢true t)
 
+-- A test that says no says no with any other.
+pub no-and : {a : Bool} (b : Bool) → a ≡ false → (a && b) ≡ false
+no-and b p = rw p
+
+pub and-no : (a : Bool) {b : Bool} → b ≡ false → (a && b) ≡ false
+and-no true p = p
+and-no false p = refl
+
 -- Of two tests that say yes by `||`, one says yes, and the other way round.
 pub one-true : (a b : Bool) → (a || b) ≡ true → (a ≡ true) ⊎ (b ≡ true)
 one-true true b t = inl refl
@@ -53,3 +61,9 @@ module _ {ℓ} {A : Type ℓ} (f : A → Bool) where
   unfolding all
   each-all [] h = refl
   each-all (y ∷ ys) h = both-true (h y (List·Memᴰ·head refl)) (each-all ys (λ x m. h x (List·Memᴰ·tail m)))
+
+  -- Where one element does not pass, the test says no.
+  pub one-fails : {x : A} {xs : List A} → x ∈ xs → f x ≡ false → all f xs ≡ false
+  unfolding all
+  one-fails (List·Memᴰ·head e) q = no-and _ (ap f (sym e) ∙ q)
+  one-fails (List·Memᴰ·tail {x = y} m) q = and-no (f y) (one-fails m q)

@@ -1,6 +1,6 @@
 -- A test that passes fewer numbers below a bound counts less: the pigeonhole, with each number sent to itself.
 -- Assumes nothing.
-use Prim.Native.Nat.{ℕ, _≤_, _<_}
+use Prim.Native.Nat.{ℕ, zero, suc, _≤_, _<_}
 use mathlib.Core.Path.{_≡_, refl, sym, ap, _∙_}
 use mathlib.Core.Bool.{Bool, true, false, true≢false, false≢true}
 use native.Mathlib.Omega.{arith}
@@ -19,6 +19,12 @@ count-fewer n f h sub c l p q =
 -- No more numbers below n pass than there are.
 pub count-bounded : (n : ℕ) (f : ℕ → Bool) → count n f ≤ n
 count-bounded n f = omega (arith, count-all n, count-no-more n f (λ _. true) (λ _ _ _. refl))
+
+-- Where no number passes, none is counted.
+pub count-none : (n : ℕ) → count n (λ _. false) ≡ 0
+unfolding count
+count-none zero = refl
+count-none (suc n) = omega (arith, count-none n)
 
 -- A number that passes counts.
 pub count-some : (n : ℕ) (f : ℕ → Bool) (c : ℕ) → c < n → f c ≡ true → 1 ≤ count n f

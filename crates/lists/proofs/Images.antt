@@ -4,8 +4,7 @@ use mathlib.Core.Path.{_≡_, sym, ap, _∙_}
 use mathlib.Core.List.{List, _∷_, map, List·Memᴰ·head, List·Memᴰ·tail}
 use Rattle.lists.specs.Member.{_∈_}
 use Rattle.lists.proofs.Member.{in-map, of-map}
-use Rattle.lists.proofs.InOrder.{InOrder, none, next, Once, first-before, rest-in-order}
-use Rattle.lists.proofs.InOrderWithin.{in-order-within}
+use Rattle.lists.proofs.InOrder.{InOrder, none, next, Once, first-before, rest-in-order, in-order-within}
 
 -- Where no image stands twice, elements with one image are one.
 pub same-image {ℓ κ} : {A : Type ℓ} {B : Type κ} (f : A → B) (xs : List A) → Once (map f xs) → {x y : A} → x ∈ xs → y ∈ xs → f x ≡ f y → x ≡ y

@@ -3,10 +3,10 @@
 pub mod Member
 -- lists in which each element stands in a relation to all that follow: sorted, rising, without repeats
 pub mod InOrder
--- in order by a relation that follows for elements of the list
-pub mod InOrderWithin
 -- sums over appended, filtered and contained lists
 pub mod Sums
+-- sums and lengths compared value by value
+pub mod SumsAlike
 -- filters of a list that no element or every one passes, of two lists, of a mapped list
 pub mod Filters
 -- a test that the front of a list passes
@@ -29,14 +29,14 @@ pub mod Runs
 pub mod TakeDrop
 -- a list from a place on, and from the next place on
 pub mod NextPlace
--- what holds after one store
+-- what holds after one store, and after marks set one by one
 pub mod AfterStore
+-- the tests `all`, `&&` and `||`
+pub mod Every
 -- numbers sent to others, no two to one, are no more than those others
 pub mod Pigeonhole
 -- a test that passes fewer numbers counts less
 pub mod Fewer
--- the tests `all`, `&&` and `||`
-pub mod Every
 -- a test over all numbers below a bound
 pub mod AllBelow
 -- how often a number stands in a list
@@ -49,8 +49,8 @@ pub mod FlatMap
 pub mod AnyBelow
 -- values at the numbers below a bound, one more at a time
 pub mod Numbered
--- segments of a list, and runs of stores
-pub mod Stores
+-- segments of a list
+pub mod Slices
 -- a list put into an array: what stands before, in and behind it; one list behind the other
 pub mod Put
 -- a list put into an array element by element
@@ -63,8 +63,6 @@ pub mod OnlyFirst
 pub mod Segments
 -- sums against a bound
 pub mod Bounds
--- sums and lengths compared value by value
-pub mod SumsAlike
 -- elements that each pass at most one of several tests
 pub mod Shares
 -- elements with different images

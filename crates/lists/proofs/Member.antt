@@ -1,4 +1,4 @@
--- Laws of standing in a list: filters, maps, flattened lists, and the tests `any` and `member`.
+-- Laws of standing in a list: lists in which nothing stands, filters, maps, flattened lists, and the tests `any` and `member`.
 -- Assumes nothing.
 use Prim.Native.Nat.{ℕ}
 use mathlib.Core.Path.{_≡_, refl, sym, ap, _∙_}
@@ -16,6 +16,11 @@ either true = inl refl
 either false = inr refl
 
 module _ {ℓ} {A : Type ℓ} where
+  -- a list in which nothing stands is empty
+  pub empty-list : (xs : List A) → ((x : A) → x ∈ xs → ⊥) → xs ≡ []
+  empty-list [] out = refl
+  empty-list (x ∷ xs) out = absurd (out x (List·Memᴰ·head refl))
+
   -- an element that passes is kept
   pub in-filter : (f : A → Bool) {x : A} {xs : List A} → x ∈ xs → f x ≡ true → x ∈ filter f xs
   unfolding filter

@@ -1,16 +1,17 @@
--- A list from a place on is the element there, then the list from the next place on; so for the numbers below a bound, and for those
--- that pass a test.
+-- A list from a place on is the element there, then the list from the next place on; so for a segment, for the numbers below a bound,
+-- for the elements that pass a test, and for the test whether one does.
 -- Assumes nothing.
 use Prim.Native.Nat.{ℕ, zero, suc, _+_, _-_, _≤_, _<_}
-use mathlib.Core.Path.{_≡_}
+use mathlib.Core.Path.{_≡_, sym, ap, _∙_}
 use mathlib.Core.Bool.{Bool, true, false, _||_}
 use mathlib.Core.List.{List, [], _∷_}
 use native.Mathlib.Nat.{sub-zero}
 use native.Mathlib.Numerals.{add-one}
 use native.Mathlib.Omega.{arith}
 use lib.ListN.{length, getD, drop, drop-of-length-le}
+use lib.Seq.{slice, slice-cons}
 use Rattle.lists.specs.Count.{anyBelow, from, below}
-use Rattle.lists.specs.Lists.{filter}
+use Rattle.lists.specs.Lists.{filter, any}
 use Rattle.lists.proofs.TakeDrop.{drop-more}
 
 module _ (list : List ℕ) (i : ℕ) where
@@ -20,6 +21,10 @@ module _ (list : List ℕ) (i : ℕ) where
 
   pub rest-none : length list ≤ i → drop i list ≡ []
   rest-none h = drop-of-length-le list h
+
+  -- of a segment that ends at a place of the list
+  pub slice-next : (to : ℕ) → i < to → to ≤ length list → slice i to list ≡ getD list i 0 ∷ slice (i + 1) to list
+  slice-next to more all = slice-cons i to list 0 more all ∙ ap (λ k. getD list i 0 ∷ slice k to list) (sym (add-one i))
 
 -- of the numbers below n: those from v on
 abbrev pub belowFrom : ℕ → ℕ → List ℕ
@@ -47,6 +52,20 @@ module _ {ℓ} {A : Type ℓ} (f : A → Bool) {x : A} {rest other : List A} (q 
   pub filter-passed : f x ≡ false → filter f rest ≡ filter f other
   unfolding filter
   filter-passed t = rw (q, t)
+
+-- one from the place on passes: the one there, or one from the next place on
+module _ (f : ℕ → Bool) (list : List ℕ) (i : ℕ) where
+  pub any-here : i < length list → f (getD list i 0) ≡ true → any f (drop i list) ≡ true
+  unfolding any
+  any-here h t = rw (rest-next list i h, t)
+
+  pub any-later : i < length list → f (getD list i 0) ≡ false → any f (drop i list) ≡ any f (drop (i + 1) list)
+  unfolding any
+  any-later h t = rw (rest-next list i h, t)
+
+  pub any-nowhere : length list ≤ i → any f (drop i list) ≡ false
+  unfolding any
+  any-nowhere h = rw (rest-none list i h)
 
 -- the tests of the numbers below u, one by one from the last
 pub any-below-next : (f : ℕ → Bool) (u : ℕ) → 0 < u → anyBelow u f ≡ (f (u - 1) || anyBelow (u - 1) f)

@@ -1,12 +1,13 @@
 -- The values of a function at the numbers below a bound, one more at a time.
 -- Assumes nothing.
 use Prim.Native.Nat.{ℕ, zero, suc, _+_, _<_}
-use mathlib.Core.Path.{_≡_, refl, ap, _∙_}
+use mathlib.Core.Path.{_≡_, ap, _∙_}
 use mathlib.Core.List.{List, [], _∷_, _++_, map, map-append}
 use native.Mathlib.Nat.{add-zero, zero-add, add-suc, suc-add}
 use native.Mathlib.Numerals.{add-one}
-use native.Mathlib.Omega.{arith}
 use Rattle.lists.specs.Count.{from, below}
+use Rattle.lists.proofs.Below.{of-below}
+use Rattle.lists.proofs.Runs.{map-same}
 
 -- one more number, at the end
 pub from-snoc : (a n : ℕ) → from a (suc n) ≡ from a n ++ ((a + n) ∷ [])
@@ -15,18 +16,9 @@ from-snoc a zero = rw add-zero
 from-snoc a (suc n) = rw (add-suc, ← suc-add a n) (ap {B = List ℕ} (λ r. a ∷ r) (from-snoc (suc a) n))
 
 module _ {A : Type 0} (f g : ℕ → A) where
-  map-from-same : (a n : ℕ) → ((i : ℕ) → i < a + n → g i ≡ f i) → map g (from a n) ≡ map f (from a n)
-  unfolding from
-  map-from-same a zero h = refl
-  map-from-same a (suc n) h =
-      let x : g a ≡ f a = h a (omega arith) in
-      let r : map g (from (suc a) n) ≡ map f (from (suc a) n) = map-from-same (suc a) n (λ i l. h i (omega arith)) in
-      cc
-
   -- functions that agree below the bound have the same values there
   pub map-below-same : (n : ℕ) → ((i : ℕ) → i < n → g i ≡ f i) → map g (below n) ≡ map f (below n)
-  unfolding below
-  map-below-same n h = map-from-same 0 n (λ i l. h i (omega arith))
+  map-below-same n h = map-same (below n) (λ i m. h i (of-below n m))
 
   -- one more value, at the end
   pub map-below-more : (n : ℕ) (x : A) → ((i : ℕ) → i < n → g i ≡ f i) → g n ≡ x → map g (below (n + 1)) ≡ map f (below n) ++ (x ∷ [])

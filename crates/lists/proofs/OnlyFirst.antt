@@ -4,38 +4,54 @@
 use Prim.Native.Nat.{ℕ, _+_, _-_, _≤_, _<_}
 use mathlib.Core.Path.{_≡_, refl, sym, ap, _∙_}
 use mathlib.Core.Logic.{dite}
-use mathlib.Core.List.{List, [], _++_, append-nil}
+use mathlib.Core.List.{List, _++_, append-nil}
 use native.Mathlib.Decide.{decLe}
+use native.Mathlib.Nat.{zero-add}
 use native.Mathlib.Omega.{arith}
-use lib.ListN.{length, drop, set, length-set, drop-of-length-le}
-use lib.Seq.{take-all, drop-drop, drop-set-lt}
+use lib.ListN.{length, take, drop, set, length-append, length-drop, length-set, take-append-drop, drop-of-length-le}
+use lib.Seq.{length-take-le, take-all, drop-at, drop-drop, drop-set-lt}
 use Rattle.lists.specs.Put.{Put, OnlyFirst}
-use Rattle.lists.proofs.Put.{put-length, put-rest, only-first, only-first-length, only-first-rest}
+use Rattle.lists.proofs.Put.{put-length, put-rest, only-first-length}
 
 module _ {A : Type 0} where
-  -- nothing is left of a list behind its end
-  none-behind : (a : List A) (k : ℕ) → length a ≤ k → drop k a ≡ []
-  none-behind a k h = drop-of-length-le a h
-
   module _ (n : ℕ) {a b : List A} where
-    -- an array that is not longer than n may have changed everywhere
+    -- an array that is no longer than n may have changed everywhere
     all-first : length a ≤ n → length b ≡ length a → OnlyFirst n a b
     all-first h same =
+        let all : length a ≤ 0 + length b = omega arith in
         record {
           put =
               rw (take-all n b (omega arith))
-              (record { room = omega arith; is = sym (ap (λ l. b ++ l) (none-behind a (0 + length b) (omega arith)) ∙ append-nil b) });
+              (record { room = omega arith; is = sym (ap (λ l. b ++ l) (drop-of-length-le a all) ∙ append-nil b) });
+        }
+
+    -- in a longer one the first n did
+    some-first : n ≤ length a → length b ≡ length a → drop n b ≡ drop n a → OnlyFirst n a b
+    some-first h same rest =
+        let count : length (take n b) ≡ n = length-take-le n b (omega arith) in
+        record {
+          put =
+              record {
+                room = omega (arith, count);
+                is = sym (take-append-drop n b) ∙ ap (λ l. take n b ++ l) (rest ∙ ap (λ k. drop k a) (sym (zero-add _ ∙ count)));
+              };
         }
 
     -- The array keeps its length and what stands behind the first n elements: only these may have changed.
     pub is-only-first : length b ≡ length a → drop n b ≡ drop n a → OnlyFirst n a b
-    is-only-first same rest = dite (decLe n (length a)) (λ h. only-first n h same rest) (λ h. all-first (omega arith) same)
+    is-only-first same rest = dite (decLe n (length a)) (λ h. some-first h same rest) (λ h. all-first (omega arith) same)
 
     -- The other way round.
     pub only-first-behind : OnlyFirst n a b → drop n b ≡ drop n a
-    only-first-behind o =
-        dite (decLe n (length a)) (only-first-rest o)
-        (λ h. none-behind b n (omega (arith, only-first-length o)) ∙ sym (none-behind a n (omega arith)))
+    only-first-behind o = dite (decLe n (length a)) longer (λ h. no-longer (omega arith))
+      where
+        longer : n ≤ length a → drop n b ≡ drop n a
+        longer h =
+            let count : length (take n b) ≡ n = length-take-le n b (omega (arith, only-first-length o)) in
+            ap (drop n) (o .put .is ∙ ap (λ k. take n b ++ drop k a) (zero-add _ ∙ count)) ∙ drop-at (take n b) (drop n a) n count
+
+        no-longer : length a ≤ n → drop n b ≡ drop n a
+        no-longer h = let all : length b ≤ n = omega (arith, only-first-length o) in drop-of-length-le b all ∙ sym (drop-of-length-le a h)
 
   -- Nothing changed.
   pub only-first-none : (n : ℕ) (a : List A) → OnlyFirst n a a
@@ -73,3 +89,8 @@ module _ {A : Type 0} where
       let k : ℕ = n - (at + length xs) in
       let e : n ≡ at + length xs + k = omega arith in
       is-only-first n (put-length p) (rw e (put-rest p k))
+
+  -- A list of n elements stands for them.
+  pub only-front : (n : ℕ) (s a : List A) → length s ≡ n → n ≤ length a → OnlyFirst n a (s ++ drop n a)
+  only-front n s a q h =
+      is-only-first n (length-append s (drop n a) ∙ omega (arith, length-drop n a)) (drop-at s (drop n a) n q)

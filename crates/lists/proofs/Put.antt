@@ -97,29 +97,6 @@ module _ {A : Type 0} where
     pub put-only-first : OnlyFirst r a b
     put-only-first = record { put = rw put-taken (p .put) }
 
-  -- Only the first n elements may have changed, exactly where the array keeps its length and what stands behind them.
-  pub only-first : (n : ℕ) {a b : List A} → n ≤ length a → length b ≡ length a → drop n b ≡ drop n a → OnlyFirst n a b
-  only-first n {a} {b} h same rest =
-      let count : length (take n b) ≡ n = length-take-le n b (omega arith) in
-      record {
-        put =
-            record {
-              room = omega (arith, count);
-              is = sym (take-append-drop n b) ∙ ap (λ l. take n b ++ l) (rest ∙ ap (λ k. drop k a) (sym (zero-add _ ∙ count)));
-            };
-      }
-
-  module _ {n : ℕ} {a b : List A} (o : OnlyFirst n a b) where
-    pub only-first-length : length b ≡ length a
-    only-first-length = put-length (o .put)
-
-    pub only-first-rest : n ≤ length a → drop n b ≡ drop n a
-    only-first-rest h =
-        let count : length (take n b) ≡ n = length-take-le n b (omega (arith, only-first-length)) in
-        let q : 0 + length (take n b) ≡ n = zero-add _ ∙ count in
-        ap (drop n) (o .put .is ∙ ap (λ k. take n b ++ drop k a) q) ∙ drop-at (take n b) (drop n a) n count
-
-  -- So where a list as long stands for them.
-  pub only-front : (n : ℕ) (s a : List A) → length s ≡ n → n ≤ length a → OnlyFirst n a (s ++ drop n a)
-  only-front n s a q h =
-      only-first n h (length-append s (drop n a) ∙ omega (arith, length-drop n a)) (drop-at s (drop n a) n q)
+  -- Where only the first elements changed, the array keeps its length too.
+  pub only-first-length : {n : ℕ} {a b : List A} → OnlyFirst n a b → length b ≡ length a
+  only-first-length o = put-length (o .put)

@@ -8,7 +8,7 @@ use native.Mathlib.Decide.{ℕ-discrete}
 use native.Mathlib.Omega.{arith}
 use lib.ListN.{length, take, getD, set}
 use lib.Seq.{slice, getD-set-same, getD-set-other}
-use Rattle.lists.proofs.Stores.{slice-same}
+use Rattle.lists.proofs.Slices.{slice-same}
 use Rattle.lists.specs.Segments.{segment, Bounded}
 
 module _ {bounds : List ℕ} {k used : ℕ} (b : Bounded bounds k used) (last : ℕ) where

@@ -3,9 +3,9 @@
 pub mod Count
 -- filter, any, all, sums, the largest, the first that passes
 pub mod Lists
--- standing in a list, and rising lists of numbers
+-- standing in a list
 pub mod Member
--- lists in which each element stands in a relation to all that follow
+-- lists in which each element stands in a relation to all that follow; rising lists of numbers
 pub mod InOrder
 -- sorting
 pub mod Sort

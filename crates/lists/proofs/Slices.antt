@@ -1,11 +1,11 @@
--- Segments of a list: two that meet, and those of lists that begin alike. A run of stores leaves what stands behind it.
+-- Segments of a list: two that meet, and those of lists that begin alike.
 -- Assumes nothing.
-use Prim.Native.Nat.{ℕ, suc, _+_, _≤_}
-use mathlib.Core.Path.{_≡_, refl, sym, ap, _∙_}
-use mathlib.Core.List.{List, [], _∷_, _++_}
+use Prim.Native.Nat.{ℕ, _≤_}
+use mathlib.Core.Path.{_≡_, sym, ap, _∙_}
+use mathlib.Core.List.{List, _++_}
 use native.Mathlib.Omega.{arith}
-use lib.ListN.{length, take, drop, getD, set, take-append-drop}
-use lib.Seq.{sets, slice, take-take, drop-append-le, length-take-le, getD-set-other}
+use lib.ListN.{length, take, drop, take-append-drop}
+use lib.Seq.{slice, take-take, drop-append-le, length-take-le}
 
 module _ {A : Type 0} where
   -- the elements up to c are those up to b, then those from b to c
@@ -20,9 +20,3 @@ module _ {A : Type 0} where
   -- lists that begin alike have the same segments there
   pub slice-same : (a b c : ℕ) (l m : List A) → b ≤ c → take c l ≡ take c m → slice a b l ≡ slice a b m
   slice-same a b c l m h q = ap (drop a) (sym (take-take b c l h) ∙ ap (take b) q ∙ take-take b c m h)
-
-  -- behind a run of stores
-  pub getD-sets-past : (l : List A) (i : ℕ) (vs : List A) (j : ℕ) (d : A) → i + length vs ≤ j → getD (sets l i vs) j d ≡ getD l j d
-  getD-sets-past l i [] j d h = refl
-  getD-sets-past l i (x ∷ vs) j d h =
-      getD-sets-past (set l i x) (suc i) vs j d (omega arith) ∙ getD-set-other l i j x d (omega arith)
