@@ -94,9 +94,6 @@ module _ (allowed : ℕ → ℕ → Bool) (p y : ℕ) where
   add-part : {part : ℕ} {free : List ℕ} {s : Parts} → part < p → WantsAll part (suc part) free free s → Short allowed p y part free (λ i. eqb i part || s i)
   add-part {part} {free} {s} h u = record { from-on = λ i e. on i (one-true (eqb i part) (s i) e); fewer = omega (arith, u .tight .no-more, more, same-roots) }
     where
-      larger : Parts
-      larger i = eqb i part || s i
-
       on : (i : ℕ) → (eqb i part ≡ true) ⊎ (s i ≡ true) → part ≤ i
       on i (inl e) = omega (arith, eqb-true i part e)
       on i (inr e) = omega (arith, u .tight .from-on i e)

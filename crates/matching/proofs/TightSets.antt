@@ -16,8 +16,8 @@ use Rattle.lists.proofs.Member.{either, member-in, in-member, in-without}
 use Rattle.lists.proofs.Every.{both-true, first-true, second-true, one-true, left-true, right-true}
 use Rattle.lists.proofs.AnyBelow.{any-below-found, found-any-below}
 use Rattle.lists.proofs.Pigeonhole.{but, of-but, but-absent, count-but, count-same}
-use Rattle.lists.proofs.Fewer.{count-no-more}
-use Rattle.lists.proofs.EitherBoth.{count-either-both, count-none}
+use Rattle.lists.proofs.Fewer.{count-no-more, count-none}
+use Rattle.lists.proofs.EitherBoth.{count-either-both}
 
 -- A set of parts, as a test.
 abbrev pub Parts : Type 0

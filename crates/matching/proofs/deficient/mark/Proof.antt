@@ -5,7 +5,7 @@ use mathlib.Core.Path.{_≡_, _∙_, refl}
 use mathlib.Core.List.{List}
 use native.Mathlib.Omega.{arith}
 use lib.ListN.{length, getD, set}
-use Rattle.lists.proofs.AfterStore.{at-or-not, after-store}
+use Rattle.lists.proofs.AfterStore.{after-store, marked-more, only-marked-more}
 use Rattle.lists.proofs.Put.{only-first-length}
 use Rattle.lists.proofs.OnlyFirst.{only-first-none, only-first-store, only-first-on}
 use Rattle.matching.specs.Marks.{Cleared, Marks}
@@ -35,14 +35,8 @@ one-more {p} {a} {parts} {before} {out} m fits is-part =
     let within : part < length out = omega arith in
     record {
       mark = λ k h. after-store (λ _ b. b < 2) out part 1 k within (omega arith) (λ _. m .mark k h);
-      all =
-          λ b h.
-          after-store (λ _ v. v ≡ 1) out part 1 (getD parts b 0) within refl
-          (λ ne. m .all b (at-or-not (λ x. x < a + 1 → (getD parts x 0 ≡ part → ⊥) → x < a) a b (λ _ away. absurd (away refl)) (λ off h _. omega arith) h ne));
-      only =
-          λ k h.
-          after-store (λ k v. k < p → v ≡ 1 → (b : ℕ) × (b < a + 1) × (getD parts b 0 ≡ k)) out part 1 k within (λ _ _. (a, omega arith, refl))
-          (λ _ h one. let o = m .only k h one in (o .0, omega arith, o .2)) h;
+      all = marked-more parts out a refl within (m .all);
+      only = λ k h. only-marked-more parts out a refl within k (m .only k h);
       rest = only-first-store (m .rest) part 1 is-part;
     }
 
