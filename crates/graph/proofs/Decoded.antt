@@ -64,7 +64,11 @@ module _ (b : List ℕ) (e : ℕ) (h : e < edgeCount (graphOf b)) where
 pub edge-past : (g : Graph) (e : ℕ) → edgeCount g ≤ e → edgeAt g e ≡ noEdge
 edge-past g e h = List·getD-eq-default (g .edges) _ h
 
--- So what holds of each edge, and of none, holds of the edge of every number.
+-- So the ends of such a number are one vertex.
+pub past-ends : (g : Graph) {e : ℕ} → edgeCount g ≤ e → oneEnd g e ≡ otherEnd g e
+past-ends g {e} h = ap (λ (x : Edge). x .one) (edge-past g e h) ∙ sym (ap (λ (x : Edge). x .other) (edge-past g e h))
+
+-- And what holds of each edge, and of none, holds of the edge of every number.
 pub edge-cases : (P : Edge → Type 0) (g : Graph) (e : ℕ) → (e < edgeCount g → P (edgeAt g e))
     → P noEdge → P (edgeAt g e)
 edge-cases P g e f z =

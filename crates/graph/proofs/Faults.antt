@@ -4,26 +4,21 @@ use Prim.Native.Nat.{ℕ}
 use mathlib.Core.Path.{_≡_, refl}
 use mathlib.Core.Bool.{Bool, true, false}
 use mathlib.Core.List.{List, [], _∷_, List·Memᴰ·head, List·Memᴰ·tail}
-use mathlib.Core.Option.{Option, some, none}
-use native.Mathlib.Omega.{arith}
+use mathlib.Core.Option.{some, none, Option·some-ne-none}
 use Rattle.lists.specs.Member.{_∈_}
 use Rattle.graph.specs.Fault.{Fault, faultIf, faultUnless, firstFault}
-
--- A number is a refusal.
-pub refuses : (k : ℕ) → _≡_ {A = Option ℕ} (some k) none → ⊥
-refuses k e = let z : _≡_ {A = ℕ} 0 1 = cc in omega arith
 
 -- Where a test that must not hold refuses nothing, it says no.
 pub quiet-if : (b : Bool) (k : ℕ) → faultIf b k ≡ none → b ≡ false
 unfolding faultIf
-quiet-if true k e = absurd (refuses k e)
+quiet-if true k e = absurd (Option·some-ne-none k e)
 quiet-if false k e = refl
 
 -- A test that must hold refuses nothing exactly where it says yes.
 pub quiet-unless : (b : Bool) (k : ℕ) → faultUnless b k ≡ none → b ≡ true
 unfolding faultUnless
 quiet-unless true k e = refl
-quiet-unless false k e = absurd (refuses k e)
+quiet-unless false k e = absurd (Option·some-ne-none k e)
 
 pub unless-quiet : {b : Bool} (k : ℕ) → b ≡ true → faultUnless b k ≡ none
 unfolding faultUnless
@@ -34,7 +29,7 @@ pub quiet-each : {f : Fault} (fs : List Fault) → firstFault fs ≡ none → f 
 unfolding firstFault
 quiet-each (none ∷ fs) e (List·Memᴰ·head q) = q
 quiet-each (none ∷ fs) e (List·Memᴰ·tail m) = quiet-each fs e m
-quiet-each (some k ∷ fs) e m = absurd (refuses k e)
+quiet-each (some k ∷ fs) e m = absurd (Option·some-ne-none k e)
 
 pub none-quiet : firstFault [] ≡ none
 unfolding firstFault

@@ -7,7 +7,7 @@ pub mod Decoded
 pub mod Faults
 -- of a valid graph, the ranges that callers use
 pub mod Ranges
--- a view shows its own bytes, and what the check counts are the counts
+-- a view shows its own bytes
 pub mod Viewed
 -- the walk of a reader through a view
 mod Reading

@@ -1,4 +1,4 @@
--- What readers ask: of a view, that it shows its own bytes; of counts, that they are those of the graph.
+-- What readers ask of a view: that it shows its own bytes.
 -- Assumes nothing.
 use mathlib.Core.Path.{refl, sym, subst}
 use Prim.Native.Nat.{ℕ}
