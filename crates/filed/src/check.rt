@@ -23,7 +23,7 @@ pub enum Verdict {
     // The bytes are a cover's, whose heaviest tree weighs so much.
     Yes(u64),
     // The graph's bytes have a fault.
-    Sheet(graph_check::Fault),
+    Sheet(graph_check::Cause),
     // There are no crews, too many, or more roots than vertices.
     Crews,
     // The length is not that of so many trees and entries.

@@ -1,26 +1,27 @@
 -- The check says yes exactly to graphs: where it says yes the bytes are a valid graph's and the counts are that graph's, and to every
 -- valid graph's bytes it says yes.
 -- Assumes nothing.
-use Prim.Native.Nat.{ℕ, zero, suc, _+_, _≤_, _<_}
+use Prim.Native.Nat.{ℕ, zero, suc, _+_, _<_}
 use mathlib.Core.Path.{_≡_, refl, sym, ap, _∙_}
 use mathlib.Core.Logic.{_↔_}
 use mathlib.Core.Bool.{Bool, false, not, _||_}
 use mathlib.Core.List.{List, List·Memᴰ·head, List·Memᴰ·tail}
 use mathlib.Core.Option.{some, none}
-use native.Mathlib.Numerals.{add-one}
 use native.Mathlib.Omega.{arith}
 use lib.ListN.{length}
 use lib.Dec.{ltb, leb, eqb}
 use borrow.Author.Tests.{ltb-false, leb-false, eqb-true, eqb-false, not-false}
 use Rattle.lists.proofs.Every.{first-false, second-false}
-use Rattle.graph.specs.Graph.{Edge, Graph, edgeCount, edgeAt}
+use Rattle.lists.proofs.Member.{in-map}
+use Rattle.lists.proofs.Places.{at-place}
+use Rattle.graph.specs.Graph.{Edge, Graph, edgeCount, noEdge, edgeAt}
 use Rattle.graph.specs.Bytes.{verticesIn, edgesIn, lengthFor, graphOf}
 use Rattle.graph.specs.Fault.{Fault, faultIf, refusedOr}
 use Rattle.graph.specs.Valid.{ValidEdge, IsGraph, Counted}
 use Rattle.graph.proofs.Decoded.{vertices-head, edges-sized}
 use Rattle.graph.proofs.Faults.{quiet-if, quiet-each}
-use Rattle.graph_check.specs.Check.{yes, edgeFault, headFault, answerTo, checkOf}
-use Rattle.graph_check.proofs.Steps.{faultFrom, fault-later, fault-done, none-here, edge-passed, head-passed, edges-decide}
+use Rattle.graph_check.specs.Check.{yes, edgeFault, edgesFault, headFault, answerTo, checkOf}
+use Rattle.graph_check.proofs.Steps.{faultFrom, fault-later, fault-done, edge-passed, head-passed, edges-decide}
 
 -- Where a test by `||` refuses nothing, both say no.
 quiet-both : (s t : Bool) (k : ℕ) → faultIf (s || t) k ≡ none → (s ≡ false) × (t ≡ false)
@@ -43,15 +44,9 @@ edge-valid n x q =
 
 -- The edges of a graph have no fault exactly where each is valid.
 module _ (g : Graph) where
-  module _ (q : faultFrom g 0 ≡ none) where
-    none-from : (e : ℕ) → e ≤ edgeCount g → faultFrom g e ≡ none
-    none-from zero h = q
-    none-from (suc e) h =
-        let before = none-from e (omega arith) in
-        rw add-one at (sym (fault-later g e h (none-here g e h before)) ∙ before)
-
-    edges-valid : (e : ℕ) → e < edgeCount g → ValidEdge (g .vertices) (edgeAt g e)
-    edges-valid e h = edge-valid (g .vertices) (edgeAt g e) (none-here g e h (none-from e (omega arith)))
+  edges-valid : faultFrom g 0 ≡ none → (e : ℕ) → e < edgeCount g → ValidEdge (g .vertices) (edgeAt g e)
+  unfolding edgesFault
+  edges-valid q e h = edge-valid (g .vertices) (edgeAt g e) (quiet-each _ q (in-map (edgeFault (g .vertices)) (at-place noEdge (g .edges) e h)))
 
   valid-none : ((e : ℕ) → e < edgeCount g → ValidEdge (g .vertices) (edgeAt g e)) → (k e : ℕ) → k + e ≡ edgeCount g → faultFrom g e ≡ none
   valid-none v zero e q = fault-done g e (omega arith)

@@ -1,9 +1,9 @@
 -- The check, test by test: what each fault makes of it, and what is left of it where a test is passed.
 -- Assumes nothing.
 use Prim.Native.Nat.{ℕ, _+_, _≤_, _<_}
-use mathlib.Core.Path.{_≡_, refl, sym, ap, _∙_}
+use mathlib.Core.Path.{_≡_, sym, ap, _∙_}
 use mathlib.Core.Bool.{true, false, or-true}
-use mathlib.Core.List.{List, _∷_, map, List·Memᴰ·head}
+use mathlib.Core.List.{List, _∷_, map}
 use mathlib.Core.Option.{some, none}
 use native.Mathlib.Numerals.{add-one}
 use native.Mathlib.Omega.{arith}
@@ -15,7 +15,7 @@ use Rattle.graph.specs.Graph.{Edge, Graph, edgeCount, noEdge, edgeAt}
 use Rattle.graph.specs.Bytes.{verticesIn, edgesIn, lengthFor, graphOf}
 use Rattle.graph.specs.Fault.{Fault, faultIf, firstFault, refusedOr}
 use Rattle.graph.specs.Valid.{ValidEdge}
-use Rattle.graph.proofs.Faults.{quiet-each, one-fault}
+use Rattle.graph.proofs.Faults.{one-fault}
 use Rattle.graph_check.specs.Check.{number, edgeFault, edgesFault, headFault, answerTo, checkAll, checkOf}
 
 -- One edge among n vertices.
@@ -79,10 +79,6 @@ module _ (g : Graph) (e : ℕ) where
     pub fault-later : edgeFault (g .vertices) (edgeAt g e) ≡ none → faultFrom g e ≡ faultFrom g (e + 1)
     unfolding edgesFault firstFault
     fault-later q = fault-next h ∙ rw q
-
-    -- where nothing is refused from here on, this edge has no fault, and nothing is refused behind it
-    pub none-here : faultFrom g e ≡ none → edgeFault (g .vertices) (edgeAt g e) ≡ none
-    none-here q = quiet-each _ (sym (fault-next h) ∙ q) (List·Memᴰ·head refl)
 
   pub fault-done : edgeCount g ≤ e → faultFrom g e ≡ none
   unfolding edgesFault firstFault

@@ -8,8 +8,8 @@ use lib.Dec.{eqb, leb, ltb}
 use Rattle.graph.specs.Graph.{Edge, Graph, edgeCount}
 use Rattle.graph.specs.Bytes.{verticesIn, edgesIn, lengthFor, graphOf}
 use Rattle.graph.specs.Fault.{Fault, faultIf, firstFault, refusedOr}
-use Rattle.graph_check.specs.declared.Fault.{Fault as Cause}
-use Rattle.graph_check.specs.declared.Fault.the-variants.{Length, Vertices, Edges, End, Loop, Weight}
+use Rattle.graph_check.specs.declared.Cause.{Cause}
+use Rattle.graph_check.specs.declared.Cause.the-variants.{Length, Vertices, Edges, End, Loop, Weight}
 use Rattle.graph_check.specs.declared.Checked.{Checked}
 use Rattle.graph_check.specs.declared.Checked.the-variants.{Counts, Refused}
 
@@ -18,7 +18,7 @@ pub data Answer : Type 0 where
   yes : ℕ → ℕ → Answer
   number : ℕ → Answer
 
--- Document 01's number of each fault.
+-- Document 01's number of each cause.
 abbrev pub numberOf : Cause → ℕ
 numberOf Length = 11
 numberOf Vertices = 12

@@ -5,8 +5,8 @@ ghost use mathlib.Core.Path.{_≡_};
 ghost use Rattle.graph.specs.Bytes.{graphOf};
 ghost use Rattle.graph_check.specs.Check.{numberOf, says, checkAll, checkOf};
 
-// What can be wrong with a graph's bytes, by cause.
-pub enum Fault {
+// What can be wrong with a graph's bytes.
+pub enum Cause {
     // The length is not that of so many edges.
     Length,
     // No vertex ("stop"), or too many.
@@ -21,23 +21,23 @@ pub enum Fault {
     Weight,
 }
 
-// What the check answers: how many vertices and edges there are, or the first fault.
+// What the check answers: how many vertices and edges there are, or the cause of the first fault.
 pub enum Checked {
     Counts(usize, usize),
-    Refused(Fault),
+    Refused(Cause),
 }
 
-// Document 01's number of a fault.
-pub fn number(f: Fault) -> u16
+// Document 01's number of a cause.
+pub fn number(f: Cause) -> u16
     ensures { λ r. ⌜ r ≡ numberOf f ⌝ }
 {
     match f {
-        Fault::Length => 11,
-        Fault::Vertices => 12,
-        Fault::Edges => 13,
-        Fault::End => 14,
-        Fault::Loop => 15,
-        Fault::Weight => 16,
+        Cause::Length => 11,
+        Cause::Vertices => 12,
+        Cause::Edges => 13,
+        Cause::End => 14,
+        Cause::Loop => 15,
+        Cause::Weight => 16,
     }
 }
 
@@ -53,19 +53,19 @@ fn check_edges(b: &[u8]) -> Checked
         let other = view::other_end(b, n, m, e);
         let w = view::weight(b, n, m, e);
         if n <= one {
-            return Checked::Refused(Fault::End);
+            return Checked::Refused(Cause::End);
         }
         if n <= other {
-            return Checked::Refused(Fault::End);
+            return Checked::Refused(Cause::End);
         }
         if one == other {
-            return Checked::Refused(Fault::Loop);
+            return Checked::Refused(Cause::Loop);
         }
         if w == 0 {
-            return Checked::Refused(Fault::Weight);
+            return Checked::Refused(Cause::Weight);
         }
         if 1000000 < w {
-            return Checked::Refused(Fault::Weight);
+            return Checked::Refused(Cause::Weight);
         }
         e += 1;
     }
@@ -77,21 +77,21 @@ pub fn check_graph(b: &[u8]) -> Checked
     ensures { λ r. ⌜ says r ≡ checkOf (now (b .entry)) ⌝ }
 {
     if b.len() < 4 {
-        return Checked::Refused(Fault::Length);
+        return Checked::Refused(Cause::Length);
     }
     let n = graph::u16_within(b, 0);
     let m = graph::u16_within(b, 2);
     if b.len() != 4 + 8 * m {
-        return Checked::Refused(Fault::Length);
+        return Checked::Refused(Cause::Length);
     }
     if n == 0 {
-        return Checked::Refused(Fault::Vertices);
+        return Checked::Refused(Cause::Vertices);
     }
     if 256 < n {
-        return Checked::Refused(Fault::Vertices);
+        return Checked::Refused(Cause::Vertices);
     }
     if 2048 < m {
-        return Checked::Refused(Fault::Edges);
+        return Checked::Refused(Cause::Edges);
     }
     check_edges(b)
 }

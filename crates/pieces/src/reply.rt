@@ -3,7 +3,7 @@
 // The reply. What is written besides, the cover or the parts, stands in the buffer.
 pub enum Reply {
     // The graph's bytes have a fault.
-    Sheet(graph_check::Fault),
+    Sheet(graph_check::Cause),
     // There are no crews, too many, or more roots than vertices.
     Crews,
     // The limit is too large.
