@@ -1,4 +1,4 @@
--- Crews that 21 does not refuse fit the graph: there is at least one, and the roots, numbered from 0, are vertices.
+-- Crews that 21 does not refuse are 1 to 32, and fit the graph: the roots, numbered from 0, are vertices.
 -- Assumes nothing.
 use Prim.Native.Nat.{ℕ, _≤_}
 use mathlib.Core.Path.{_≡_}
@@ -18,18 +18,20 @@ use Rattle.rules.specs.Questions.{crewCount, tooManyRoots, crewFault}
 use Rattle.rules.specs.Fit.{CrewsFit}
 use Rattle.graph.proofs.Faults.{quiet-if}
 
--- There is at least one crew, and there are no more roots than vertices.
-quiet-crews : (crews : Crews) (n : ℕ) → crewFault crews n ≡ none → (1 ≤ crewCount crews) × (tooManyRoots crews n ≡ false)
+-- There are 1 to 32 crews, and no more roots than vertices.
+pub quiet-crews : (crews : Crews) (n : ℕ) → crewFault crews n ≡ none → (1 ≤ crewCount crews) × (crewCount crews ≤ 32) × (tooManyRoots crews n ≡ false)
 unfolding crewFault
 quiet-crews crews n e =
-    let t = quiet-if (ltb (crewCount crews) 1 || (ltb 32 (crewCount crews) || tooManyRoots crews n)) 21 e in
-    let r = second-false (ltb (crewCount crews) 1) (ltb 32 (crewCount crews) || tooManyRoots crews n) t in
-    (ltb-false (crewCount crews) 1 (first-false (ltb (crewCount crews) 1) _ t), second-false (ltb 32 (crewCount crews)) (tooManyRoots crews n) r)
+    let few = ltb (crewCount crews) 1 in
+    let many = ltb 32 (crewCount crews) in
+    let quiet = quiet-if (few || (many || tooManyRoots crews n)) 21 e in
+    let rest = second-false few (many || tooManyRoots crews n) quiet in
+    (ltb-false _ _ (first-false few _ quiet), ltb-false _ _ (first-false many (tooManyRoots crews n) rest), second-false many (tooManyRoots crews n) rest)
 
 pub rooted-fit : (g : Graph) (k : ℕ) → crewFault (rooted (below k)) (g .vertices) ≡ none → CrewsFit g (rooted (below k))
 unfolding crewCount tooManyRoots
 rooted-fit g k e =
-    let (some, few) = quiet-crews (rooted (below k)) (g .vertices) e in
+    let (some, _, few) = quiet-crews (rooted (below k)) (g .vertices) e in
     let most = ltb-false (g .vertices) (length (below k)) few in
     (some, λ r m. omega (arith, of-below k m, length-below k, most))
 

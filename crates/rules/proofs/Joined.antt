@@ -1,16 +1,31 @@
--- Edges that are linked to a vertex: the edges of a walk are linked to its start, a vertex at a linked edge is linked, and a set of edges
--- that is linked to a tree's start links to it whatever the tree covers.
+-- What an edge joins: vertices of the graph, covered by a tree with the edge. Edges that are linked to a vertex: the edges of a walk are
+-- linked to its start, a vertex at a linked edge is linked, and a set of edges that is linked to a tree's start links to it whatever the
+-- tree covers.
 -- Assumes nothing.
-use Prim.Native.Nat.{ℕ}
+use Prim.Native.Nat.{ℕ, _<_}
 use mathlib.Core.Path.{refl, sym}
 use mathlib.Core.List.{List, List·Memᴰ·head, List·Memᴰ·tail, List·Memᴰ·not-nil}
 use Rattle.lists.specs.Member.{_∈_}
-use Rattle.graph.specs.Graph.{Graph, oneEnd}
+use Rattle.graph.specs.Graph.{Graph, oneEnd, otherEnd}
 use Rattle.rules.specs.Walk.{Joins, onward, back, Walk, stay, step, Linked}
 use Rattle.rules.specs.Cover.{Tree, Covers, at-start, at-one-end, at-other-end}
 use Rattle.rules.proofs.Linked.{linked-same, linked-on, linked-edge, linked-more, linked-other}
 
+-- Every edge of the list is linked to v by the list.
+abbrev pub JoinedTo : Graph → ℕ → List ℕ → Type 0
+JoinedTo g v edges = (e : ℕ) → e ∈ edges → Linked g edges v (oneEnd g e)
+
 module _ {g : Graph} where
+  -- what an edge joins is below n where both of its ends are
+  pub joins-below : {n e u v : ℕ} → oneEnd g e < n → otherEnd g e < n → Joins g e u v → v < n
+  joins-below h l (onward p q) = rw q l
+  joins-below h l (back p q) = rw q h
+
+  -- a tree covers what its edges join
+  pub joins-covers : {t : Tree} {e u v : ℕ} → e ∈ t .edges → Joins g e u v → Covers g t v
+  joins-covers {e = e} m (onward p q) = at-other-end e m q
+  joins-covers {e = e} m (back p q) = at-one-end e m q
+
   -- an edge of the list links what it joins to its one end
   pub linked-one-end : {edges : List ℕ} {e u v : ℕ} → e ∈ edges → Joins g e u v → Linked g edges u (oneEnd g e)
   linked-one-end m (onward p q) = linked-same p
@@ -26,13 +41,13 @@ module _ {g : Graph} where
   walk-linked {path} w = record { path = path; along = λ e m. m; leads = w }
 
   -- and to each of its edges
-  pub walk-joined : {path : List ℕ} {u v : ℕ} → Walk g path u v → (e : ℕ) → e ∈ path → Linked g path u (oneEnd g e)
+  pub walk-joined : {path : List ℕ} {u v : ℕ} → Walk g path u v → JoinedTo g u path
   walk-joined (stay q) e m = absurd (List·Memᴰ·not-nil m)
   walk-joined (step j w) e (List·Memᴰ·head q) = rw q (linked-one-end (List·Memᴰ·head refl) j)
   walk-joined (step j w) e (List·Memᴰ·tail m) = linked-on (linked-edge (List·Memᴰ·head refl) j) (linked-more (λ f n. List·Memᴰ·tail n) (walk-joined w e m))
 
 -- where a tree's edges are linked to its start, whatever it covers is
-pub joined-covers : {g : Graph} {t : Tree} → ((e : ℕ) → e ∈ t .edges → Linked g (t .edges) (t .start) (oneEnd g e)) → {v : ℕ} → Covers g t v → Linked g (t .edges) (t .start) v
+pub joined-covers : {g : Graph} {t : Tree} → JoinedTo g (t .start) (t .edges) → {v : ℕ} → Covers g t v → Linked g (t .edges) (t .start) v
 joined-covers joined (at-start q) = linked-same (sym q)
 joined-covers joined (at-one-end e m q) = linked-on (joined e m) (linked-same (sym q))
 joined-covers joined (at-other-end e m q) = linked-on (linked-other m (joined e m)) (linked-same (sym q))

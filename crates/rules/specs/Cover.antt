@@ -5,7 +5,8 @@ use mathlib.Core.Path.{_≡_}
 use mathlib.Core.List.{List, map}
 use lib.ListN.{length}
 use Rattle.lists.specs.Lists.{largest, without}
-use Rattle.lists.specs.Member.{_∈_, Rising}
+use Rattle.lists.specs.Member.{_∈_}
+use Rattle.lists.specs.InOrder.{Rising}
 use Rattle.graph.specs.Graph.{Graph, edgeCount, oneEnd, otherEnd}
 use Rattle.rules.specs.Walk.{Linked, totalWeight}
 

@@ -87,7 +87,7 @@ unfolding headD
     RootedTrial.rootedTrial
     UnrootedTrial.components UnrootedTrial.needs UnrootedTrial.needed UnrootedTrial.leftovers UnrootedTrial.fromLowest
     UnrootedTrial.componentTrees UnrootedTrial.startsBefore UnrootedTrial.unrootedTrees UnrootedTrial.unrootedTrial
-    Search.nobody Search.accepts Search.trial Search.noCover Search.narrowed Search.searched Search.bestLimit Search.best
+    Search.noVertex Search.accepts Search.trial Search.noCover Search.narrowed Search.searched Search.bestLimit Search.best
     Fault.faultIf Fault.faultUnless Fault.firstFault Fault.refusedOr
     CheckCover.startsRight CheckCover.startsBelow CheckCover.entryRises CheckCover.entryRight CheckCover.entriesRight CheckCover.loopFree
     CheckCover.allJoined CheckCover.treesRight CheckCover.verticesCovered CheckCover.coverFault

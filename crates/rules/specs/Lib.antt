@@ -6,8 +6,6 @@ pub mod Walk
 pub mod Cover
 -- the bytes of a cover
 pub mod CoverBytes
--- trees as arrays hold them
-pub mod Held
 -- "A trial at limit B":
 -- steps 1 and 2: the order of the edges
 pub mod Order
@@ -29,8 +27,6 @@ pub mod RootedTrial
 pub mod UnrootedTrial
 -- "The best limit":
 pub mod Search
--- crews that fit, and choices that are good
-pub mod Fit
 -- "Who causes which number":
 -- the check of a filed cover
 pub mod CheckCover
@@ -40,3 +36,8 @@ pub mod Questions
 pub mod Filed
 -- "Small districts": the starred rows
 pub mod Districts
+-- Besides document 01, what promises cite:
+-- trees as arrays hold them
+pub mod Held
+-- crews that fit, and choices that are good
+pub mod Fit

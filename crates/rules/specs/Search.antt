@@ -16,13 +16,13 @@ use Rattle.rules.specs.RootedTrial.{Choices, unjoinedAt, isAssignable, r
 use Rattle.rules.specs.UnrootedTrial.{needed, unrootedTrial}
 
 -- There is no such vertex.
-unfoldable pub nobody : Option ℕ → Bool
-nobody none = true
-nobody (some v) = false
+unfoldable pub noVertex : Option ℕ → Bool
+noVertex none = true
+noVertex (some v) = false
 
 -- The limit is accepted. No free choice bears on it.
 unfoldable pub accepts : Graph → Crews → ℕ → Bool
-accepts g (rooted roots) limit = nobody (unjoinedAt g roots limit) && isAssignable g roots limit
+accepts g (rooted roots) limit = noVertex (unjoinedAt g roots limit) && isAssignable g roots limit
 accepts g (unrooted k) limit = leb (needed g limit) k
 
 -- The trial by either kind of crews.
@@ -32,7 +32,7 @@ trial g (unrooted k) limit c = unrootedTrial g k limit
 
 -- "No cover of the kind exists at all (a stop joined to no yard by any line; more components than k)."
 unfoldable pub noCover : Graph → Crews → Bool
-noCover g (rooted roots) = not (nobody (unjoined g roots (mergeAll g (together roots) (ordered g))))
+noCover g (rooted roots) = not (noVertex (unjoined g roots (mergeAll g (together roots) (ordered g))))
 noCover g (unrooted k) = ltb k (length (lowest g (mergeAll g apart (ordered g))))
 
 -- Where the search stands: low was not accepted, high was.
