@@ -19,11 +19,9 @@ pub mod Replacing
 pub mod Loops
 -- labels are vertices
 pub mod VertexLabels
--- the kept edges are fewer than the vertices
-pub mod FewEdges
 -- the kept edges are fewer than the starts to which their ends are joined
 pub mod FewKept
--- edges without a loop, and the forest's, are fewer than the vertices
+-- the kept edges, edges without a loop, and the forest's are fewer than the vertices
 pub mod FewForest
 -- all edges by weight, then number
 pub mod Ordering

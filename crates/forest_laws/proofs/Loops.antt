@@ -3,7 +3,7 @@
 -- list does not depend on the order, and says just that no edge's ends are linked by the others.
 -- Assumes nothing.
 use Prim.Native.Nat.{ℕ}
-use mathlib.Core.Path.{_≡_, refl, sym, ap}
+use mathlib.Core.Path.{_≡_, refl, sym}
 use mathlib.Core.List.{List, [], _∷_, _++_, List·Memᴰ·head, List·Memᴰ·tail, List·Memᴰ·not-nil}
 use mathlib.Core.Logic.{_↔_}
 use native.Mathlib.Decide.{ℕ-discrete}
@@ -15,7 +15,7 @@ use Rattle.graph.specs.Graph.{Graph, oneEnd, otherEnd}
 use Rattle.rules.specs.Walk.{Linked}
 use Rattle.rules.specs.Labels.{Labels, apart, mergeEdge, mergeAll}
 use Rattle.rules.specs.Forest.{keep}
-use Rattle.forest_laws.proofs.Merging.{JoinsEnds, _⊑_, merged-coarser, merged-monotone}
+use Rattle.forest_laws.proofs.Merging.{JoinsEnds, merged-coarser, merged-monotone}
 use Rattle.forest_laws.proofs.Walks.{linked-merged, merged-linked}
 use Rattle.forest_laws.proofs.Keeping.{Kept, nothing, skipped, taken, kept, is-kept}
 use Rattle.forest_laws.proofs.Exchange.{first-joining}
@@ -42,14 +42,6 @@ module _ {g : Graph} where
 
   pub whole-all-kept : (P : Labels) (E : List ℕ) → keep g P E ≡ E → AllKept g P E
   whole-all-kept P E q = rw q at (kept-all (kept g P E))
-
-  -- what is kept whole from some labels is kept whole from labels that join less
-  pub all-kept-finer : {P : Labels} (Q : Labels) {E : List ℕ} → Q ⊑ P → AllKept g P E → AllKept g Q E
-  unfolding mergeAll
-  all-kept-finer Q finer all-none = all-none
-  all-kept-finer {P} Q finer (all-next {e = e} p k) =
-      all-next (λ q. p (finer (oneEnd g e) (otherEnd g e) q))
-      (all-kept-finer (mergeEdge g Q e) (merged-monotone g Q P (e ∷ []) (e ∷ []) finer (λ x m. m)) k)
 
   -- an edge in the middle finds its ends apart
   middle-apart : {P : Labels} (before : List ℕ) (e : ℕ) (after : List ℕ) → AllKept g P (before ++ e ∷ after) → JoinsEnds g (mergeAll g P before) e → ⊥
@@ -95,11 +87,6 @@ module _ (g : Graph) where
   -- the kept edges, taken again, are all kept
   pub kept-whole : (P : Labels) (L : List ℕ) → keep g P (keep g P L) ≡ keep g P L
   kept-whole P L = all-kept-whole (kept-all (kept g P L))
-
-  -- they are all kept from all vertices apart, too
-  pub kept-whole-apart : (P : Labels) (L : List ℕ) → keep g apart (keep g P L) ≡ keep g P L
-  unfolding apart
-  kept-whole-apart P L = all-kept-whole (all-kept-finer apart (λ u v q. ap P q) (kept-all (kept g P L)))
 
   -- edges of a list that is kept whole, each once, in whatever order, are kept whole
   pub kept-whole-within : (P : Labels) (E : List ℕ) {F : List ℕ} → keep g P E ≡ E → Once F → ((e : ℕ) → e ∈ F → e ∈ E) → keep g P F ≡ F

@@ -2,21 +2,21 @@
 -- rising, without a loop, no heavier than U, and link just what U links. (A number past the last edge links nothing new.)
 -- Assumes nothing.
 use Prim.Native.Nat.{ℕ, _≤_, _<_}
-use mathlib.Core.Path.{_≡_, sym, ap, _∙_}
+use mathlib.Core.Path.{_≡_, ap}
 use mathlib.Core.Bool.{true, false}
 use mathlib.Core.List.{List}
 use mathlib.Core.Logic.{_⊎_, inl, inr}
 use lib.Dec.{ltb}
-use lib.ListN.{List·getD-eq-default}
 use borrow.Author.Tests.{ltb-true, ltb-false}
 use Rattle.lists.specs.Lists.{filter, member, without}
-use Rattle.lists.specs.Member.{_∈_, Rising}
+use Rattle.lists.specs.Member.{_∈_}
 use Rattle.lists.specs.Sort.{rise}
 use Rattle.lists.proofs.Member.{either, in-filter, of-filter, member-in, in-member}
-use Rattle.lists.proofs.InOrder.{Once, rising-once}
+use Rattle.lists.proofs.InOrder.{Once, Rising, rising-once}
 use Rattle.lists.proofs.Sums.{sum-within}
 use Rattle.lists.proofs.Sorting.{in-rise, of-rise, sum-rise, rise-rising}
-use Rattle.graph.specs.Graph.{Edge, Graph, edgeCount, edgeAt, oneEnd, otherEnd, weightOf}
+use Rattle.graph.specs.Graph.{Graph, edgeCount, oneEnd, otherEnd, weightOf}
+use Rattle.graph.proofs.Decoded.{past-ends}
 use Rattle.rules.specs.Walk.{Linked, totalWeight}
 use Rattle.rules.specs.Labels.{apart, mergeAll}
 use Rattle.rules.specs.Order.{ordered}
@@ -32,13 +32,6 @@ use Rattle.forest_laws.proofs.Ordering.{in-ordered, of-ordered}
 pub rise-weight : (g : Graph) (E : List ℕ) → totalWeight g (rise E) ≡ totalWeight g E
 unfolding totalWeight
 rise-weight g E = sum-rise (weightOf g) E
-
--- the ends of a number past the last edge are one vertex
-past-ends : (g : Graph) {e : ℕ} → edgeCount g ≤ e → oneEnd g e ≡ otherEnd g e
-past-ends g {e} h = ap (λ (x : Edge). x .one) past ∙ sym (ap (λ (x : Edge). x .other) past)
-  where
-    past : edgeAt g e ≡ record { one = 0; other = 0; weight = 0 }
-    past = List·getD-eq-default (g .edges) (record { one = 0; other = 0; weight = 0 }) h
 
 -- the edges of U that are kept, by weight
 abbrev pub thinned : Graph → List ℕ → List ℕ

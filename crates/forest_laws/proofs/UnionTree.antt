@@ -6,25 +6,22 @@ use mathlib.Core.Path.{_≡_, refl}
 use mathlib.Core.List.{List, List·Memᴰ·head, List·Memᴰ·tail}
 use Rattle.lists.specs.Member.{_∈_}
 use Rattle.graph.specs.Graph.{Graph, oneEnd}
-use Rattle.rules.specs.Walk.{Joins, onward, back, Walk, stay, step, Linked, totalWeight}
-use Rattle.rules.specs.Cover.{Tree, IsTree, Covers, at-start, at-one-end, at-other-end, treeWeight}
+use Rattle.rules.specs.Walk.{Walk, stay, step, Linked, totalWeight}
+use Rattle.rules.specs.Cover.{Tree, IsTree, Covers, at-start, treeWeight}
 use Rattle.rules.specs.RootedTrial.{unionTree}
+use Rattle.rules.proofs.Joined.{joins-covers}
 use Rattle.forest_laws.proofs.Thinning.{Spans, thinned-spans}
 
 -- a tree covers what its edges link to its start
 pub linked-covered : {g : Graph} (t : Tree) {v : ℕ} → Linked g (t .edges) (t .start) v → Covers g t v
 linked-covered {g} t l = go (l .leads) (l .along) (at-start refl)
   where
-    over : {e u v : ℕ} → e ∈ t .edges → Joins g e u v → Covers g t v
-    over {e} m (onward p q) = at-other-end e m q
-    over {e} m (back p q) = at-one-end e m q
-
     on : {u v : ℕ} → u ≡ v → Covers g t u → Covers g t v
     on q c = rw q at c
 
     go : {p : List ℕ} {u v : ℕ} → Walk g p u v → ((e : ℕ) → e ∈ p → e ∈ t .edges) → Covers g t u → Covers g t v
     go (stay q) sub c = on q c
-    go (step {e = e} j w) sub c = go w (λ f m. sub f (List·Memᴰ·tail m)) (over (sub e (List·Memᴰ·head refl)) j)
+    go (step {e = e} j w) sub c = go w (λ f m. sub f (List·Memᴰ·tail m)) (joins-covers (sub e (List·Memᴰ·head refl)) j)
 
 module _ (g : Graph) (root : ℕ) (union : List ℕ) where
   -- the tree's edges span the union
