@@ -13,8 +13,10 @@ use Rattle.lists.specs.Member.{_∈_}
 use Rattle.lists.proofs.Below.{in-below}
 use Rattle.graph.specs.Graph.{Graph, edgeCount, weightOf}
 use Rattle.graph.specs.Valid.{Valid}
-use Rattle.rules.specs.Walk.{Joins, onward, back, Walk, stay, step, totalWeight}
+use Rattle.graph.proofs.Ranges.{one-end-below, other-end-below}
+use Rattle.rules.specs.Walk.{Joins, Walk, stay, step, totalWeight}
 use Rattle.rules.specs.Distance.{Distance, distancesIn}
+use Rattle.rules.proofs.Joined.{joins-below}
 use Rattle.distance_laws.proofs.Nearer.{AtMost}
 use Rattle.distance_laws.proofs.Relaxing.{relaxed-old, relaxed-over}
 use Rattle.distance_laws.proofs.Rounds.{valueIn, value-first, value-next, value-inside}
@@ -24,9 +26,8 @@ pub looser : {x : Distance} {c d : ℕ} → AtMost x c → c ≤ d → AtMost x 
 looser h l = record { value = h .value; is = h .is; low = omega (arith, h .low) }
 
 -- An edge of the graph leads to a vertex of the graph.
-pub joins-inside : {g : Graph} → Valid g → {e u v : ℕ} → e < edgeCount g → Joins g e u v → v < g .vertices
-joins-inside valid {e} h (onward p q) = omega (arith, valid .each-edge e h .other-end)
-joins-inside valid {e} h (back p q) = omega (arith, valid .each-edge e h .one-end)
+pub joins-inside : {g : Graph} → Valid g → {e u v : ℕ} → Joins g e u v → v < g .vertices
+joins-inside valid {e} j = joins-below (one-end-below valid e) (other-end-below valid e) j
 
 module _ (g : Graph) (r : ℕ) where
   -- A round more makes no value larger.
@@ -43,7 +44,7 @@ module _ (g : Graph) (r : ℕ) where
   -- A round takes a bound over an edge.
   pub value-over : Valid g → (j : ℕ) {e u v c : ℕ} → e < edgeCount g → Joins g e u v → AtMost (valueIn g r j u) c → AtMost (valueIn g r (suc j) v) (c + weightOf g e)
   value-over valid j {e} {u} {v} h join most =
-      rw (value-next g r j v (joins-inside valid h join)) (relaxed-over g (distancesIn j g r) v (in-below (edgeCount g) h) join most)
+      rw (value-next g r j v (joins-inside valid join)) (relaxed-over g (distancesIn j g r) v (in-below (edgeCount g) h) join most)
 
   -- As many more rounds as a walk has edges take a bound along the walk.
   pub value-along : Valid g → {path : List ℕ} {u v c : ℕ} (j k : ℕ) → j + length path ≤ k → Walk g path u v → ((e : ℕ) → e ∈ path → e < edgeCount g)

@@ -4,7 +4,7 @@
 use Prim.Native.Nat.{ℕ, _≤_, _<_}
 use mathlib.Core.Path.{_≡_, refl, ap, sym, _∙_}
 use mathlib.Core.List.{List}
-use mathlib.Core.Option.{none, some}
+use mathlib.Core.Option.{none, some, Option·none-ne-some}
 use mathlib.Core.Logic.{_↔_}
 use native.Mathlib.Omega.{arith}
 use lib.ListN.{getD}
@@ -12,7 +12,7 @@ use Rattle.graph.specs.Graph.{Graph}
 use Rattle.graph.specs.Valid.{Valid}
 use Rattle.rules.specs.Walk.{Walk, totalWeight}
 use Rattle.rules.specs.Distance.{Distance, distances}
-use Rattle.distance_laws.proofs.Nearer.{AtMost, none-some}
+use Rattle.distance_laws.proofs.Nearer.{AtMost}
 use Rattle.distance_laws.proofs.Reaching.{Reached, value-reached}
 use Rattle.distance_laws.proofs.Bounding.{looser, value-most}
 use Rattle.distance_laws.proofs.Shortening.{shortened}
@@ -63,7 +63,7 @@ module _ {g : Graph} (valid : Valid g) {r : ℕ} (start : r < g .vertices) where
 
   -- A vertex has no distance exactly where no walk leads there.
   pub distance-none : (v : ℕ) → (distanceTo g r v ≡ none) ↔ ((path : List ℕ) → Walk g path r v → ⊥)
-  distance-none v = (λ q path walk. none-some (sym q ∙ distance-most walk .is), λ out. go out (distanceTo g r v) refl)
+  distance-none v = (λ q path walk. Option·none-ne-some _ (sym q ∙ distance-most walk .is), λ out. go out (distanceTo g r v) refl)
     where
       go : ((path : List ℕ) → Walk g path r v → ⊥) → (x : Distance) → distanceTo g r v ≡ x → distanceTo g r v ≡ none
       go out none q = q

@@ -3,7 +3,7 @@
 use Prim.Native.Nat.{ℕ, _+_, _≤_, min}
 use mathlib.Core.Path.{_≡_, refl, ap}
 use mathlib.Core.Bool.{Bool, true, false, cond}
-use mathlib.Core.Option.{some, none}
+use mathlib.Core.Option.{some, none, Option·none-ne-some}
 use mathlib.Core.Logic.{_⊎_, inl, inr}
 use native.Mathlib.Omega.{arith}
 use lib.Dec.{leb}
@@ -17,14 +17,10 @@ pub record AtMost (x : Distance) (most : ℕ) : Type 0 where
   pub is : x ≡ some value
   pub low : value ≤ most
 
--- None is not some distance, so from such an equation anything follows.
-pub none-some {ℓ} : {A : Type ℓ} {d : ℕ} → _≡_ {A = Distance} none (some d) → A
-none-some q = let z : _≡_ {A = ℕ} 0 1 = cc in absurd (omega arith)
-
 -- What a test lets through passed it.
 pub cond-some : (b : Bool) (x : Distance) {d : ℕ} → cond b x none ≡ some d → (b ≡ true) × (x ≡ some d)
 cond-some true x q = (refl, q)
-cond-some false x q = none-some q
+cond-some false x q = absurd (Option·none-ne-some _ q)
 
 -- The nearer of two distances is one of them.
 pub nearer-some : (x y : Distance) {d : ℕ} → nearer x y ≡ some d → (x ≡ some d) ⊎ (y ≡ some d)
@@ -40,24 +36,24 @@ nearer-some (some a) (some b) {d} q = let e : min a b ≡ d = cc in go e (either
 -- The nearer of two distances is as near as the first, and as the second.
 pub nearer-left : (x y : Distance) {c : ℕ} → AtMost x c → AtMost (nearer x y) c
 unfolding nearer
-nearer-left none y h = none-some (h .is)
+nearer-left none y h = absurd (Option·none-ne-some _ (h .is))
 nearer-left (some a) none h = h
 nearer-left (some a) (some b) h = let e : a ≡ h .value = cc in record { value = min a b; is = refl; low = omega (arith, h .low) }
 
 pub nearer-right : (x y : Distance) {c : ℕ} → AtMost y c → AtMost (nearer x y) c
 unfolding nearer
 nearer-right none y h = h
-nearer-right (some a) none h = none-some (h .is)
+nearer-right (some a) none h = absurd (Option·none-ne-some _ (h .is))
 nearer-right (some a) (some b) h = let e : b ≡ h .value = cc in record { value = min a b; is = refl; low = omega (arith, h .low) }
 
 -- A distance with a weight added is that of a distance that there is.
 pub further-some : (w : ℕ) (x : Distance) {d : ℕ} → further w x ≡ some d → (k : ℕ) × (x ≡ some k) × (d ≡ k + w)
 unfolding further
-further-some w none q = none-some q
+further-some w none q = absurd (Option·none-ne-some _ q)
 further-some w (some k) q = (k, refl, cc)
 
 -- With a weight added, the bound grows by the weight.
 pub further-most : (w : ℕ) (x : Distance) {c : ℕ} → AtMost x c → AtMost (further w x) (c + w)
 unfolding further
-further-most w none h = none-some (h .is)
+further-most w none h = absurd (Option·none-ne-some _ (h .is))
 further-most w (some k) h = let e : k ≡ h .value = cc in record { value = k + w; is = refl; low = omega (arith, h .low) }

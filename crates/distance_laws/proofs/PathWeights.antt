@@ -6,6 +6,7 @@ use mathlib.Core.List.{List, [], _∷_}
 use native.Mathlib.Omega.{arith}
 use lib.ListN.{length}
 use Rattle.lists.specs.Lists.{sumOf}
+use Rattle.lists.proofs.Bounds.{sum-most}
 use Rattle.lists.proofs.Sums.{sum-append}
 use Rattle.graph.specs.Graph.{Graph, weightOf}
 use Rattle.graph.specs.Valid.{Valid}
@@ -21,6 +22,5 @@ turned-weight g (e ∷ path) = omega (arith, sum-append (weightOf g) (turned pat
 
 -- Each edge of a valid graph weighs at most 1,000,000.
 pub weight-most : {g : Graph} → Valid g → (path : List ℕ) → totalWeight g path ≤ 1000000 * length path
-unfolding totalWeight sumOf
-weight-most valid [] = omega arith
-weight-most valid (e ∷ path) = omega (arith, weight-at-most valid e, weight-most valid path)
+unfolding totalWeight
+weight-most {g} valid path = omega (arith, sum-most (weightOf g) 1000000 path (λ e m. weight-at-most valid e))

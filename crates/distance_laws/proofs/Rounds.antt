@@ -3,7 +3,7 @@
 use Prim.Native.Nat.{ℕ, zero, suc, _<_}
 use mathlib.Core.Path.{_≡_, sym, _∙_}
 use mathlib.Core.Bool.{true, false, cond}
-use mathlib.Core.Option.{none, some}
+use mathlib.Core.Option.{none, some, Option·none-ne-some}
 use mathlib.Core.Logic.{_⊎_, inl, inr}
 use native.Mathlib.Omega.{arith}
 use lib.Dec.{eqb, ltb}
@@ -14,7 +14,6 @@ use Rattle.lists.proofs.Member.{either}
 use Rattle.lists.proofs.Runs.{getD-map-below, length-map-below}
 use Rattle.graph.specs.Graph.{Graph, edgeCount}
 use Rattle.rules.specs.Distance.{Distance, relaxed, distancesIn}
-use Rattle.distance_laws.proofs.Nearer.{none-some}
 
 module _ (g : Graph) (r : ℕ) where
   -- The value of v after so many rounds.
@@ -43,4 +42,4 @@ module _ (g : Graph) (r : ℕ) where
     where
       go : (ltb v (g .vertices) ≡ true) ⊎ (ltb v (g .vertices) ≡ false) → v < g .vertices
       go (inl t) = ltb-true v (g .vertices) t
-      go (inr t) = none-some (sym (List·getD-eq-default (distancesIn j g r) none (omega (arith, length-round j, ltb-false v (g .vertices) t))) ∙ q)
+      go (inr t) = absurd (Option·none-ne-some _ (sym (List·getD-eq-default (distancesIn j g r) none (omega (arith, length-round j, ltb-false v (g .vertices) t))) ∙ q))

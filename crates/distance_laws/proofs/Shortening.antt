@@ -2,12 +2,12 @@
 -- never comes back there, so the rest of it has one vertex fewer to pass.
 -- Assumes nothing.
 use Prim.Native.Nat.{ℕ, zero, suc, _+_, _≤_, _<_}
-use mathlib.Core.Path.{_≡_, refl, sym, ap, _∙_, subst}
+use mathlib.Core.Path.{_≡_, refl, sym, _∙_, subst}
 use mathlib.Core.Bool.{Bool, true, false, true≢false}
 use mathlib.Core.List.{List, [], _∷_, List·Memᴰ·head, List·Memᴰ·tail, List·Memᴰ·not-nil}
 use mathlib.Core.Logic.{_⊎_, inl, inr}
 use native.Mathlib.Omega.{arith}
-use lib.ListN.{length, List·getD-eq-default}
+use lib.ListN.{length}
 use lib.Dec.{ltb}
 use borrow.Author.Tests.{ltb-true, ltb-false}
 use Rattle.lists.specs.Count.{count}
@@ -16,8 +16,9 @@ use Rattle.lists.specs.Member.{_∈_}
 use Rattle.lists.proofs.Member.{either}
 use Rattle.lists.proofs.Pigeonhole.{but, but-at, count-but, count-all}
 use Rattle.lists.proofs.Fewer.{count-some}
-use Rattle.graph.specs.Graph.{Graph, Edge, noEdge, edgeCount, edgeAt, weightOf}
+use Rattle.graph.specs.Graph.{Graph, edgeCount, weightOf}
 use Rattle.graph.specs.Valid.{Valid}
+use Rattle.graph.proofs.Decoded.{past-ends}
 use Rattle.rules.specs.Walk.{Joins, onward, back, Walk, stay, step, totalWeight}
 use Rattle.distance_laws.proofs.Bounding.{joins-inside}
 use Rattle.distance_laws.proofs.Touring.{Tour, here, on, Left, at-end, leaves, tour-starts, last-visit}
@@ -51,8 +52,8 @@ module _ {g : Graph} where
 
   -- Past the last edge a number leads nowhere.
   nowhere : {e u w : ℕ} → edgeCount g ≤ e → Joins g e u w → u ≡ w
-  nowhere {e} h (onward p q) = let n : edgeAt g e ≡ noEdge = List·getD-eq-default (g .edges) noEdge h in p ∙ ap (λ (x : Edge). x .one) n ∙ sym (q ∙ ap (λ (x : Edge). x .other) n)
-  nowhere {e} h (back p q) = let n : edgeAt g e ≡ noEdge = List·getD-eq-default (g .edges) noEdge h in p ∙ ap (λ (x : Edge). x .other) n ∙ sym (q ∙ ap (λ (x : Edge). x .one) n)
+  nowhere h (onward p q) = p ∙ past-ends g h ∙ sym q
+  nowhere h (back p q) = p ∙ sym (past-ends g h) ∙ sym q
 
   -- Without the numbers past the last edge a walk is a tour, and weighs no more.
   walk-tour : Valid g → {path : List ℕ} {u v : ℕ} → u < g .vertices → Walk g path u v → (p : List ℕ) × Tour g (λ _. true) p u v × (totalWeight g p ≤ totalWeight g path)
@@ -67,7 +68,7 @@ module _ {g : Graph} where
           → (p : List ℕ) × Tour g (λ _. true) p u v × (totalWeight g p ≤ weightOf g e + totalWeight g path)
       go (inl t) ih =
           let l : e < edgeCount g = ltb-true e (edgeCount g) t in
-          let (p, tour, light) = ih (joins-inside valid l j) in
+          let (p, tour, light) = ih (joins-inside valid j) in
           (e ∷ p, on h refl l j tour, omega arith)
       go (inr t) ih =
           let q : u ≡ w = nowhere (ltb-false e (edgeCount g) t) j in
