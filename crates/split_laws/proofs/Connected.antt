@@ -10,17 +10,14 @@ use Rattle.lists.specs.Member.{_∈_}
 use Rattle.lists.specs.Sort.{rise}
 use Rattle.lists.proofs.Sorting.{in-rise, of-rise}
 use Rattle.graph.specs.Graph.{Graph, oneEnd}
-use Rattle.rules.specs.Walk.{Joins, onward, back, Linked}
+use Rattle.rules.specs.Walk.{Joins, Linked}
 use Rattle.rules.specs.Cover.{Tree}
 use Rattle.rules.specs.Grow.{Branches}
 use Rattle.rules.specs.Split.{partAt, splitAt}
-use Rattle.rules.proofs.Linked.{linked-same, linked-on, linked-edge, linked-more}
+use Rattle.rules.proofs.Linked.{linked-on, linked-edge, linked-more}
+use Rattle.rules.proofs.Joined.{JoinedTo, linked-one-end}
 use Rattle.split_laws.proofs.Along.{Hangs, children, along-both, along-children}
 use Rattle.split_laws.proofs.Rules.{Rules, PiecesHold, split-holds}
-
--- Every edge of the list is linked to v by the list.
-abbrev pub JoinedTo : Graph → ℕ → List ℕ → Type 0
-JoinedTo g v edges = (e : ℕ) → e ∈ edges → Linked g edges v (oneEnd g e)
 
 -- A connected part whose start is one of the vertices S and an end of one of its edges.
 pub record Connected (g : Graph) (S : ℕ → Type 0) (t : Tree) : Type 0 where
@@ -31,12 +28,8 @@ pub record Connected (g : Graph) (S : ℕ → Type 0) (t : Tree) : Type 0 where
 module _ {g : Graph} where
   -- What is joined to a child is joined, with the child's edge, to the vertex above.
   piece-joined : {v e child : ℕ} {below : List ℕ} → Joins g e v child → JoinedTo g child below → JoinedTo g v (e ∷ below)
-  piece-joined {v} {e} {child} {below} j q f (List·Memᴰ·head same) = rw same (near j)
-    where
-      near : Joins g e v child → Linked g (e ∷ below) v (oneEnd g e)
-      near (onward a b) = linked-same a
-      near (back a b) = linked-edge (List·Memᴰ·head refl) (back a refl)
-  piece-joined {v} {e} {child} {below} j q f (List·Memᴰ·tail m) = linked-on (linked-edge (List·Memᴰ·head refl) j) (linked-more (λ _ n. List·Memᴰ·tail n) (q f m))
+  piece-joined j q f (List·Memᴰ·head same) = rw same (linked-one-end (List·Memᴰ·head refl) j)
+  piece-joined j q f (List·Memᴰ·tail m) = linked-on (linked-edge (List·Memᴰ·head refl) j) (linked-more (λ _ n. List·Memᴰ·tail n) (q f m))
 
   -- Two lists joined to v are so together, and sorted.
   append-joined : {v : ℕ} {xs ys : List ℕ} → JoinedTo g v xs → JoinedTo g v ys → JoinedTo g v (xs ++ ys)

@@ -13,9 +13,11 @@ use Rattle.lists.specs.Member.{_∈_}
 use Rattle.lists.proofs.Member.{in-member, member-out, out-member}
 use Rattle.lists.proofs.Fewer.{count-no-more, count-fewer, count-bounded}
 use Rattle.graph.specs.Graph.{Graph, oneEnd, otherEnd}
-use Rattle.rules.specs.Walk.{Joins, onward, back}
+use Rattle.rules.specs.Walk.{Joins}
 use Rattle.rules.specs.Grow.{branch, Grown, farEnd, leadsOn, growChildren, growNode}
-use Rattle.split_laws.proofs.Leads.{far-end, leads-on, leads-nowhere}
+use Rattle.rules.proofs.FarEnd.{far-end}
+use Rattle.rules.proofs.Joined.{joins-below}
+use Rattle.split_laws.proofs.Leads.{leads-on, leads-nowhere}
 use Rattle.split_laws.proofs.Grown.{kept, node-grows, children-grow}
 
 -- How many vertices of the graph were not passed.
@@ -81,8 +83,7 @@ module _ {g : Graph} where
 module _ (g : Graph) (edges : List ℕ) (inside : Inside g edges) where
   -- What an edge leads to is a vertex of the graph.
   far-inside : {e u w : ℕ} → e ∈ edges → Joins g e u w → w < g .vertices
-  far-inside {e} m (onward p q) = rw q (inside e m .1)
-  far-inside {e} m (back p q) = rw q (inside e m .0)
+  far-inside {e} m j = joins-below (inside e m .0) (inside e m .1) j
 
   -- With this depth every node is finished, where fewer vertices than that are unpassed.
   abbrev NodesFinish : ℕ → Type 0

@@ -12,6 +12,7 @@ use Rattle.lists.specs.Lists.{flat, sumOf}
 use Rattle.lists.specs.Member.{_∈_}
 use Rattle.lists.proofs.FlatMap.{in-flat-map, of-flat-map}
 use Rattle.lists.proofs.Sums.{sum-append}
+use Rattle.lists.proofs.SumsAlike.{sum-flat-map}
 use Rattle.lists.proofs.Sorting.{sum-rise}
 use Rattle.lists.proofs.Times.{times, times-append, in-times, times-in}
 use Rattle.graph.specs.Graph.{Graph, weightOf}
@@ -34,9 +35,8 @@ of-part-edges parts m = of-flat-map (λ (t : Tree). t .edges) parts m
 module _ (f : ℕ → ℕ) where
   -- The sum over all parts, and over pieces.
   part-edges-append : (xs ys : List Tree) → sumOf f (entryEdges (xs ++ ys)) ≡ sumOf f (entryEdges xs) + sumOf f (entryEdges ys)
-  unfolding entryEdges flat sumOf
-  part-edges-append [] ys = omega arith
-  part-edges-append (t ∷ xs) ys = omega (arith, part-edges-append xs ys, sum-append f (t .edges) (entryEdges (xs ++ ys)), sum-append f (t .edges) (entryEdges xs))
+  unfolding entryEdges
+  part-edges-append xs ys = simp sum-flat-map (sum-append (λ t. sumOf f (t .edges)) xs ys)
 
   both : Pieces → ℕ
   both s = sumOf f (entryEdges (s .parts)) + sumOf f (s .left)

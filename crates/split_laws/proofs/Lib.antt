@@ -5,7 +5,7 @@ pub mod Along
 pub mod Rules
 -- each edge as often in parts and leftover as in bunch and branches
 pub mod Exact
--- parts weigh at least H and less than twice H, less than H is left
+-- parts weigh at least H and less than twice H, or at most 2 H - 2; less than H is left
 pub mod Weights
 -- how many parts there are, and that a component has no more trees than it needs
 pub mod Number
@@ -38,8 +38,6 @@ pub mod SplitForest
 -- nothing is left out, of a rooted trial's forest and of an unrooted one's
 pub mod Whole
 -- For what is built on them:
--- edges below the threshold give parts of at most twice it, less 2
-pub mod SharpParts
 -- the edges of a part rise
 pub mod PartsRise
 -- the root among the edges and the parts of its tree

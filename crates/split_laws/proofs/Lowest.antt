@@ -8,9 +8,9 @@ use mathlib.Core.Logic.{_⊎_, inl, inr}
 use native.Mathlib.Omega.{arith}
 use borrow.Author.Tests.{eqb-true, eq-eqb, not-true}
 use Rattle.lists.specs.Count.{below, anyBelow}
-use Rattle.lists.specs.Member.{_∈_, Rising}
+use Rattle.lists.specs.Member.{_∈_}
 use Rattle.lists.proofs.Member.{either, in-filter, of-filter}
-use Rattle.lists.proofs.InOrder.{filter-in-order, in-order-rising, rising-in-order}
+use Rattle.lists.proofs.InOrder.{Rising, filter-in-order}
 use Rattle.lists.proofs.Below.{in-below, of-below, below-rising}
 use Rattle.lists.proofs.AnyBelow.{any-below-found, found-any-below}
 use Rattle.graph.specs.Graph.{Graph}
@@ -35,7 +35,7 @@ module _ (g : Graph) (label : Labels) where
   -- they rise,
   pub lowest-rising : Rising (lowest g label)
   unfolding lowest
-  lowest-rising = in-order-rising (filter-in-order (λ v. not (anyBelow v (λ u. joined label u v))) (rising-in-order (below-rising (g .vertices))))
+  lowest-rising = filter-in-order (λ v. not (anyBelow v (λ u. joined label u v))) (below-rising (g .vertices))
 
   -- none below one of them has its label,
   pub lowest-first : {u v : ℕ} → v ∈ lowest g label → u < v → label u ≡ label v → ⊥

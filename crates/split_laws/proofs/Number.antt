@@ -2,13 +2,14 @@
 -- With threshold 2 B that is at most one tree for each 2 B of a component's weight, and one more: what the component needs.
 -- Assumes nothing.
 use Prim.Native.Nat.{ℕ, zero, suc, _+_, _*_, _/_, _≤_, _<_}
-use mathlib.Core.Path.{_≡_, refl}
-use mathlib.Core.List.{List, [], _∷_, _++_, List·Memᴰ·head, List·Memᴰ·tail}
+use mathlib.Core.Path.{_≡_}
+use mathlib.Core.List.{List, [], _∷_, _++_}
 use native.Mathlib.Omega.{arith}
-use native.Mathlib.Nat.{suc-mul, le-div-iff-mul-le}
+use native.Mathlib.Nat.{le-div-iff-mul-le}
 use lib.ListN.{length, length-append, length-map}
-use Rattle.lists.specs.Lists.{flat}
 use Rattle.lists.specs.Member.{_∈_}
+use Rattle.lists.proofs.Bounds.{sum-least}
+use Rattle.lists.proofs.SumsAlike.{sum-flat-map}
 use Rattle.graph.specs.Graph.{Graph}
 use Rattle.rules.specs.Walk.{totalWeight}
 use Rattle.rules.specs.Cover.{Tree, treeWeight}
@@ -17,14 +18,12 @@ use Rattle.rules.specs.Split.{splitAt, split}
 use Rattle.rules.specs.UnrootedTrial.{needs, leftovers, fromLowest, componentTrees}
 use Rattle.rules.specs.CoverBytes.{entryEdges}
 use Rattle.split_laws.proofs.Exact.{split-weight}
-use Rattle.split_laws.proofs.Weights.{weight-append, weight-none, part-heavy, no-parts}
+use Rattle.split_laws.proofs.Weights.{weight-none, part-heavy, no-parts}
 
 -- Trees that weigh at least H each weigh together at least H times their number.
 pub heavy-together : (g : Graph) (H : ℕ) (trees : List Tree) → ((t : Tree) → t ∈ trees → H ≤ treeWeight g t) → length trees * H ≤ totalWeight g (entryEdges trees)
-unfolding entryEdges flat treeWeight
-heavy-together g H [] each = omega arith
-heavy-together g H (t ∷ ts) each =
-    omega (arith, suc-mul (length ts) H, weight-append g (t .edges) (entryEdges ts), each t (List·Memᴰ·head refl), heavy-together g H ts (λ u m. each u (List·Memᴰ·tail m)))
+unfolding entryEdges treeWeight totalWeight
+heavy-together g H trees each = rw sum-flat-map (sum-least (treeWeight g) H trees each)
 
 -- H times the number of parts is at most the weight of the bunch and the branches.
 pub parts-few : (g : Graph) (H v : ℕ) (bunch : List ℕ) (b : Branches) → length (splitAt g H v bunch b .parts) * H ≤ totalWeight g bunch + totalWeight g (branchEdges b)

@@ -14,10 +14,11 @@ use Rattle.rules.specs.Cover.{Tree}
 use Rattle.rules.specs.Grow.{Branches, Rooted, branchEdges}
 use Rattle.rules.specs.Split.{splitAt, split}
 use Rattle.rules.proofs.Linked.{linked-more}
+use Rattle.rules.proofs.Joined.{JoinedTo}
 use Rattle.split_laws.proofs.Along.{Hangs, bare, fork}
 use Rattle.split_laws.proofs.Exact.{left-edge-from}
 use Rattle.split_laws.proofs.Weights.{all-left}
-use Rattle.split_laws.proofs.Connected.{JoinedTo, left-connected}
+use Rattle.split_laws.proofs.Connected.{left-connected}
 use Rattle.split_laws.proofs.SplitTree.{tree-split}
 
 -- Every edge of branches that hang at v is linked to v by their edges: with threshold 0 all of them are left, and what is left is connected.

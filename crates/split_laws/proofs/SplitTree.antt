@@ -13,10 +13,11 @@ use Rattle.rules.specs.Cover.{Tree, treeWeight}
 use Rattle.rules.specs.Grow.{Branches, Rooted, branchEdges}
 use Rattle.rules.specs.Split.{Pieces, split}
 use Rattle.rules.specs.CoverBytes.{entryEdges}
+use Rattle.rules.proofs.Joined.{JoinedTo}
 use Rattle.split_laws.proofs.Along.{Hangs, children}
 use Rattle.split_laws.proofs.Exact.{split-exact, split-weight, edge-kept, part-edge-from, left-edge-from}
-use Rattle.split_laws.proofs.Weights.{weight-none, part-heavy, part-light, left-light}
-use Rattle.split_laws.proofs.Connected.{JoinedTo, Connected, parts-connected, left-connected}
+use Rattle.split_laws.proofs.Weights.{weight-none, part-heavy, part-light, left-light, part-sharp}
+use Rattle.split_laws.proofs.Connected.{Connected, parts-connected, left-connected}
 
 -- Each edge stands in the parts and among those left as often as in the tree.
 pub tree-exact : (g : Graph) (H : ℕ) (t : Rooted) (e : ℕ) → times e (entryEdges (split g H t .parts)) + times e (split g H t .left) ≡ times e (branchEdges (t .branches))
@@ -31,10 +32,12 @@ pub record IsSplit (g : Graph) (H : ℕ) (t : Rooted) (pieces : Pieces) : Type 0
   pub kept : {e : ℕ} → e ∈ branchEdges (t .branches) → ((p : Tree) × (p ∈ pieces .parts) × (e ∈ p .edges)) ⊎ (e ∈ pieces .left)
   pub part-edges : {e : ℕ} {p : Tree} → p ∈ pieces .parts → e ∈ p .edges → e ∈ branchEdges (t .branches)
   pub left-edges : {e : ℕ} → e ∈ pieces .left → e ∈ branchEdges (t .branches)
-  -- a part weighs at least H, and where no edge weighs more than H it weighs less than 2 H, and what is left less than H
+  -- a part weighs at least H, and where no edge weighs more than H it weighs less than 2 H, and what is left less than H;
+  -- where every edge weighs less than H, a part weighs at most 2 H - 2
   pub heavy : {p : Tree} → p ∈ pieces .parts → H ≤ treeWeight g p
   pub light : 1 ≤ H → ((e : ℕ) → e ∈ branchEdges (t .branches) → weightOf g e ≤ H) → {p : Tree} → p ∈ pieces .parts → treeWeight g p < 2 * H
   pub left-below : 1 ≤ H → ((e : ℕ) → e ∈ branchEdges (t .branches) → weightOf g e ≤ H) → totalWeight g (pieces .left) < H
+  pub sharp : 1 ≤ H → ((e : ℕ) → e ∈ branchEdges (t .branches) → weightOf g e < H) → {p : Tree} → p ∈ pieces .parts → treeWeight g p + 2 ≤ 2 * H
   -- parts are connected, each at a vertex of the tree, and what is left is connected at the root
   pub connected : {p : Tree} → p ∈ pieces .parts → Connected g (λ x. x ∈ (t .root ∷ children (t .branches))) p
   pub left-joined : JoinedTo g (t .root) (pieces .left)
@@ -49,8 +52,9 @@ tree-split g H t hangs = record {
   part-edges = part-edge-from g H r [] b;
   left-edges = left-edge-from g H r [] b;
   heavy = part-heavy g H r [] b;
-  light = λ above each m. part-light g H r [] b above each (omega (arith, weight-none g)) m;
-  left-below = λ above each. left-light g H r [] b above each (omega (arith, weight-none g));
+  light = λ above each m. part-light g H r [] b above (omega (arith, weight-none g)) each m;
+  left-below = λ above each. left-light g H r [] b above (omega (arith, weight-none g)) each;
+  sharp = λ above each m. part-sharp g H r [] b above (omega (arith, weight-none g)) each m;
   connected = parts-connected g H r [] b hangs none-joined;
   left-joined = left-connected g H r [] b hangs none-joined;
 }

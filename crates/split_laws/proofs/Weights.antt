@@ -1,16 +1,17 @@
 -- How heavy the pieces are: a part weighs at least the threshold H and less than twice H, and less than H is left, where no edge of the
--- branches weighs more than H. A bunch is below H before the piece that fills it, and that piece is below H or would be a part alone;
--- a part alone is one edge and what was left below it. With threshold 0 there are no parts.
+-- branches weighs more than H; where every edge is below H, a part weighs at most 2 H - 2. A bunch is below H before the piece that fills it,
+-- and that piece is below H or would be a part alone; a part alone is one edge and what was left below it. With threshold 0 there are no parts.
 -- Assumes nothing.
-use Prim.Native.Nat.{ℕ, _+_, _*_, _≤_, _<_}
+use Prim.Native.Nat.{ℕ, _+_, _-_, _*_, _≤_, _<_}
 use mathlib.Core.Path.{_≡_, refl}
 use mathlib.Core.Bool.{Bool, true, false, _&&_, false≢true}
-use mathlib.Core.List.{List, [], _∷_, _++_, List·Memᴰ·head}
+use mathlib.Core.List.{List, [], _∷_, _++_}
 use native.Mathlib.Omega.{arith}
 use lib.Dec.{leb, ltb}
 use borrow.Author.Tests.{ltb-true, lt-ltb, leb-true, leb-false}
 use Rattle.lists.specs.Lists.{sumOf, flat}
 use Rattle.lists.specs.Member.{_∈_}
+use Rattle.lists.proofs.Member.{empty-list}
 use Rattle.lists.proofs.Sums.{sum-append}
 use Rattle.lists.proofs.Times.{times, times-append}
 use Rattle.graph.specs.Graph.{Graph, weightOf}
@@ -21,7 +22,7 @@ use Rattle.rules.specs.Split.{reaches, partAt, splitAt}
 use Rattle.rules.specs.CoverBytes.{entryEdges}
 use Rattle.forest_laws.proofs.Thinning.{rise-weight}
 use Rattle.split_laws.proofs.Along.{along-edges}
-use Rattle.split_laws.proofs.Rules.{Rules, split-holds}
+use Rattle.split_laws.proofs.Rules.{Rules, PiecesHold, split-holds}
 use Rattle.split_laws.proofs.Exact.{split-exact}
 
 module _ (g : Graph) where
@@ -65,9 +66,9 @@ module _ (g : Graph) where
     more = λ _ _ _ _. tt;
   }
 
-  -- Bunches stay below H, and parts below 2 H.
-  light-rules : (H : ℕ) → 1 ≤ H → Rules g H (λ u e child. weightOf g e ≤ H) (λ t. treeWeight g t < 2 * H) (λ v bunch. totalWeight g bunch < H)
-  light-rules H h = record {
+  -- Where no edge weighs more than M, which is at least H - 1, bunches stay below H, and parts below H + M.
+  light-rules : (H M : ℕ) → 1 ≤ H → H ≤ M + 1 → Rules g H (λ u e child. weightOf g e ≤ M) (λ t. treeWeight g t < H + M) (λ v bunch. totalWeight g bunch < H)
+  light-rules H M h m = record {
     empty = λ v. omega (arith, weight-none);
     alone = λ {v} {e} {child} {below} r q a. rw part-weight (omega (arith, weight-cons e below));
     full = λ {v} {e} {child} {bunch} {below} r q s a b. rw part-weight (omega (arith, weight-append bunch (e ∷ below), reaches-false H (e ∷ below) h a));
@@ -82,18 +83,24 @@ module _ (g : Graph) (H v : ℕ) (bunch : List ℕ) (b : Branches) where
   pub part-heavy : {t : Tree} → t ∈ splitAt g H v bunch b .parts → H ≤ treeWeight g t
   part-heavy {t} m = heavy t m .1
 
-  module _ (above : 1 ≤ H) (each : (e : ℕ) → e ∈ branchEdges b → weightOf g e ≤ H) (start : totalWeight g bunch < H) where
-    -- Where H is not 0, no edge of the branches is above H and the bunch is below H: each part weighs less than 2 H,
-    pub part-light : {t : Tree} → t ∈ splitAt g H v bunch b .parts → treeWeight g t < 2 * H
-    part-light {t} m = split-holds (light-rules g H above) (along-edges (λ e. weightOf g e ≤ H) v b each) start .of-parts t m
+  module _ (above : 1 ≤ H) (start : totalWeight g bunch < H) where
+    -- What holds of parts and leftover where no edge of the branches weighs more than M.
+    light : (M : ℕ) → H ≤ M + 1 → ((e : ℕ) → e ∈ branchEdges b → weightOf g e ≤ M)
+        → PiecesHold (λ t. treeWeight g t < H + M) (λ left. totalWeight g left < H) (splitAt g H v bunch b)
+    light M m each = split-holds (light-rules g H M above m) (along-edges (λ e. weightOf g e ≤ M) v b each) start
 
-    -- and what is left weighs less than H.
-    pub left-light : totalWeight g (splitAt g H v bunch b .left) < H
-    left-light = split-holds (light-rules g H above) (along-edges (λ e. weightOf g e ≤ H) v b each) start .of-left
+    module _ (each : (e : ℕ) → e ∈ branchEdges b → weightOf g e ≤ H) where
+      -- Where H is not 0, no edge of the branches is above H and the bunch is below H: each part weighs less than 2 H,
+      pub part-light : {t : Tree} → t ∈ splitAt g H v bunch b .parts → treeWeight g t < 2 * H
+      part-light {t} m = omega (arith, light H (omega arith) each .of-parts t m)
 
-empty-list : (xs : List Tree) → ((t : Tree) → t ∈ xs → ⊥) → xs ≡ []
-empty-list [] out = refl
-empty-list (t ∷ xs) out = absurd (out t (List·Memᴰ·head refl))
+      -- and what is left weighs less than H.
+      pub left-light : totalWeight g (splitAt g H v bunch b .left) < H
+      left-light = light H (omega arith) each .of-left
+
+    -- Where every edge is below H, each part weighs at most 2 H - 2.
+    pub part-sharp : ((e : ℕ) → e ∈ branchEdges b → weightOf g e < H) → {t : Tree} → t ∈ splitAt g H v bunch b .parts → treeWeight g t + 2 ≤ 2 * H
+    part-sharp each {t} m = omega (arith, light (H - 1) (omega arith) (λ e i. omega (arith, each e i)) .of-parts t m)
 
 -- With threshold 0 there are no parts,
 pub no-parts : (g : Graph) (v : ℕ) (bunch : List ℕ) (b : Branches) → splitAt g 0 v bunch b .parts ≡ []

@@ -4,32 +4,28 @@
 -- Assumes nothing.
 use Prim.Native.Nat.{ℕ, _+_, _≤_, _<_}
 use mathlib.Core.Path.{_≡_, ap, _∙_}
-use mathlib.Core.Bool.{not}
-use mathlib.Core.List.{List, map, headD}
+use mathlib.Core.List.{List, map}
 use mathlib.Core.Logic.{_⊎_, inl, inr}
 use mathlib.Core.Option.{none}
 use native.Mathlib.Omega.{arith}
 use lib.ListN.{length}
-use borrow.Author.Tests.{eqb-true, not-false}
-use Rattle.lists.specs.Count.{below}
 use Rattle.lists.specs.Member.{_∈_}
 use Rattle.lists.specs.Sort.{rise}
-use Rattle.lists.proofs.Below.{in-below}
-use Rattle.lists.proofs.First.{first-none}
 use Rattle.lists.proofs.Sorting.{in-rise, of-rise}
 use Rattle.lists.proofs.Times.{times, times-rise, in-times, once-times}
 use Rattle.graph.specs.Graph.{Graph, edgeCount, oneEnd, otherEnd}
 use Rattle.graph.specs.Valid.{Valid}
 use Rattle.rules.specs.Walk.{Joins, Linked}
 use Rattle.rules.specs.Cover.{Tree}
-use Rattle.rules.specs.Labels.{Labels, apart, together, joined}
-use Rattle.rules.specs.Forest.{forest, labelsAt, unjoined, lowest}
+use Rattle.rules.specs.Labels.{Labels, apart, together}
+use Rattle.rules.specs.Forest.{forest, labelsAt, lowest}
 use Rattle.rules.specs.Grow.{Rooted, grow}
 use Rattle.rules.specs.Split.{Pieces, split, allParts}
 use Rattle.rules.specs.RootedTrial.{unjoinedAt}
 use Rattle.rules.specs.CoverBytes.{entryEdges}
 use Rattle.rules.proofs.Linked.{linked-more}
 use Rattle.forest_laws.proofs.Roots.{Reached, some-head, together-joins}
+use Rattle.forest_laws.proofs.Unjoined.{unjoined-none}
 use Rattle.forest_laws.proofs.Forest.{forest-light, forest-once, forest-apart, root-label-is-reached}
 use Rattle.split_laws.proofs.Along.{child-branch}
 use Rattle.split_laws.proofs.Deep.{Inside}
@@ -121,11 +117,9 @@ module _ {g : Graph} (ends : EndsInside g) (limit : ℕ) where
   module _ (roots : List ℕ) (within : (r : ℕ) → r ∈ roots → r < g .vertices) (some-root : 1 ≤ length roots) (all-joined : unjoinedAt g roots limit ≡ none) where
     -- Where no vertex is unjoined, the forest links each to a root.
     joined-reached : (v : ℕ) → v < g .vertices → Reached g roots (forest g (together roots) limit) v
-    unfolding unjoinedAt unjoined joined
+    unfolding unjoinedAt
     joined-reached v h =
-        let label = labelsAt g (together roots) limit in
-        let t = first-none (λ u. not (joined label (headD roots 0) u)) (below (g .vertices)) all-joined v (in-below (g .vertices) h) in
-        root-label-is-reached g limit roots (some-head roots some-root) v .0 (eqb-true (label (headD roots 0)) (label v) (not-false (joined label (headD roots 0) v) t))
+        root-label-is-reached g limit roots (some-head roots some-root) v .0 (unjoined-none g roots (labelsAt g (together roots) limit) .0 all-joined v h)
 
     -- The forest of a rooted trial, where every vertex is joined to a root.
     pub rooted-forest : ForestFrom g roots (rise (forest g (together roots) limit))
