@@ -1,36 +1,24 @@
 -- How large trees and covers are: a tree has fewer edges than there are vertices, so at most 32 trees have at most 255 edges each, and their
 -- bytes are at most 32,708.
 -- Assumes nothing.
-use Prim.Native.Nat.{ℕ, _*_, _≤_, _<_}
-use mathlib.Core.Path.{_≡_, refl, ap}
-use mathlib.Core.Bool.{_||_}
-use mathlib.Core.List.{List, [], _∷_, map, List·Memᴰ·head, List·Memᴰ·tail}
+use Prim.Native.Nat.{_*_, _≤_, _<_}
+use mathlib.Core.Path.{_≡_, ap}
+use mathlib.Core.List.{List}
 use mathlib.Core.Option.{none}
 use native.Mathlib.Omega.{arith}
-use lib.Dec.{ltb}
-use lib.ListN.{length, length-append, length-map}
-use borrow.Author.Tests.{ltb-false}
-use Rattle.lists.specs.Lists.{flat}
+use lib.ListN.{length, length-map}
 use Rattle.lists.specs.Member.{_∈_}
-use Rattle.lists.proofs.Every.{first-false, second-false}
+use Rattle.lists.proofs.Bounds.{sum-most}
 use Rattle.lists.proofs.InOrder.{rising-once}
+use Rattle.lists.proofs.SumsAlike.{length-flat-map}
 use Rattle.graph.specs.Graph.{Graph}
 use Rattle.graph.specs.Valid.{Valid}
 use Rattle.rules.specs.Cover.{Tree, IsTree, Crews, rooted, unrooted, Starts, IsCover}
 use Rattle.rules.specs.CoverBytes.{entryEdges, encode}
-use Rattle.rules.specs.Questions.{crewCount, tooManyRoots, crewFault}
-use Rattle.graph.proofs.Faults.{quiet-if}
+use Rattle.rules.specs.Questions.{crewCount, crewFault}
+use Rattle.rules.proofs.CrewsRight.{quiet-crews}
 use Rattle.forest_laws.proofs.FewForest.{loopless-few}
 use Rattle.cover_laws.proofs.Writing.{Fits, length-encode}
-
--- There are at most 32 crews, where their number is not refused.
-pub crews-few : (crews : Crews) (n : ℕ) → crewFault crews n ≡ none → (1 ≤ crewCount crews) × (crewCount crews ≤ 32)
-unfolding crewFault
-crews-few crews n e =
-    let few = ltb (crewCount crews) 1 in
-    let many = ltb 32 (crewCount crews) in
-    let quiet = quiet-if (few || (many || tooManyRoots crews n)) 21 e in
-    (ltb-false _ _ (first-false few _ quiet), ltb-false _ _ (first-false many (tooManyRoots crews n) (second-false few _ quiet)))
 
 -- A cover has no more trees than there are crews.
 pub trees-few : (crews : Crews) (trees : List Tree) → Starts crews trees → length trees ≤ crewCount crews
@@ -40,15 +28,8 @@ trees-few (unrooted k) trees s = s .1
 
 -- Trees of at most 255 edges each have at most so many entries together,
 pub entries-few : (trees : List Tree) → ((t : Tree) → t ∈ trees → length (t .edges) ≤ 255) → length (entryEdges trees) ≤ 255 * length trees
-unfolding entryEdges flat
-entries-few [] each = omega arith
-entries-few (t ∷ ts) each =
-    omega (
-      arith,
-      length-append (t .edges) (flat (map (λ (s : Tree). s .edges) ts)),
-      each t (List·Memᴰ·head refl),
-      entries-few ts (λ s m. each s (List·Memᴰ·tail m)),
-    )
+unfolding entryEdges
+entries-few trees each = omega (arith, length-flat-map (λ (t : Tree). t .edges) trees, sum-most (λ (t : Tree). length (t .edges)) 255 trees each)
 
 -- and the bytes of at most 32 of them are at most 32,708.
 pub bytes-few : (trees : List Tree) → length trees ≤ 32 → ((t : Tree) → t ∈ trees → length (t .edges) ≤ 255) → length (encode trees) ≤ 32708
@@ -79,7 +60,7 @@ module _ (g : Graph) (valid : Valid g) where
   -- So for a cover.
   module _ (crews : Crews) (sound : crewFault crews (g .vertices) ≡ none) (trees : List Tree) (cover : IsCover g crews trees) where
     pub cover-few : length trees ≤ 32
-    cover-few = omega (arith, trees-few crews trees (cover .starts), crews-few crews (g .vertices) sound .1)
+    cover-few = omega (arith, trees-few crews trees (cover .starts), quiet-crews crews (g .vertices) sound .1)
 
     pub cover-fits : Fits trees
     cover-fits = trees-fit trees cover-few (cover .all-covered .are-trees)

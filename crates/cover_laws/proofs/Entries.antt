@@ -33,14 +33,10 @@ entriesOf j (t ∷ ts) = named j (t .edges) ++ entriesOf (suc j) ts
 unfoldable pub edgesOf : ℕ → List Entry → List ℕ
 edgesOf j es = map (λ (x : Entry). x .edge) (filter (λ (x : Entry). eqb (x .tree) j) es)
 
--- An entry of tree j adds its edge, another adds none.
+-- An entry of tree j adds its edge.
 pub edgesOf-same : (j : ℕ) (x : Entry) (es : List Entry) → x .tree ≡ j → edgesOf j (x ∷ es) ≡ x .edge ∷ edgesOf j es
 unfolding edgesOf filter
 edgesOf-same j x es e = rw (eq-eqb (x .tree) j e)
-
-pub edgesOf-other : (j : ℕ) (x : Entry) (es : List Entry) → (x .tree ≡ j → ⊥) → edgesOf j (x ∷ es) ≡ edgesOf j es
-unfolding edgesOf filter
-edgesOf-other j x es e = rw (ne-eqb (x .tree) j e)
 
 -- Entries after entries give edges after edges.
 pub edgesOf-append : (j : ℕ) (xs ys : List Entry) → edgesOf j (xs ++ ys) ≡ edgesOf j xs ++ edgesOf j ys

@@ -3,16 +3,14 @@
 use Prim.Native.Nat.{ℕ}
 use mathlib.Core.Path.{_≡_, refl}
 use mathlib.Core.Bool.{true, _&&_}
-use mathlib.Core.List.{List, [], _∷_, List·Memᴰ·head, List·Memᴰ·tail}
+use mathlib.Core.List.{List, List·Memᴰ·head, List·Memᴰ·tail}
 use mathlib.Core.Option.{none}
 use native.Mathlib.Omega.{arith}
 use lib.Dec.{leb, eqb}
 use lib.ListN.{length}
 use borrow.Author.Tests.{eqb-true, le-leb, eq-eqb}
-use Rattle.lists.specs.Member.{_∈_}
 use Rattle.lists.proofs.Every.{both-true, first-true, second-true}
 use Rattle.graph.specs.Graph.{Graph, edgeCount}
-use Rattle.graph.specs.Fault.{Fault, faultUnless}
 use Rattle.rules.specs.Cover.{Crews}
 use Rattle.rules.specs.CoverBytes.{coverLength, decode}
 use Rattle.rules.specs.CheckCover.{startsRight, startsBelow, entriesRight, treesRight, verticesCovered, coverFault}
@@ -32,32 +30,16 @@ module _ (g : Graph) (crews : Crews) (b : List ℕ) where
   pub quiet-passed : coverFault g crews b ≡ none → Passed g crews b
   unfolding coverFault
   quiet-passed e =
+      let t31 = quiet-unless (leb 4 (length b) && eqb (length b) (coverLength b)) 31 (quiet-each _ e (List·Memᴰ·head refl)) in
+      let t32 = quiet-unless (startsRight crews b && startsBelow (g .vertices) b) 32 (quiet-each _ e (List·Memᴰ·tail (List·Memᴰ·head refl))) in
       record {
         sized = eqb-true _ _ (second-true (leb 4 (length b)) (eqb (length b) (coverLength b)) t31);
         starts = first-true (startsRight crews b) (startsBelow (g .vertices) b) t32;
         inside = second-true (startsRight crews b) (startsBelow (g .vertices) b) t32;
-        entries = quiet-unless (entriesRight (edgeCount g) b) 33 (each (List·Memᴰ·tail (List·Memᴰ·tail (List·Memᴰ·head refl))));
-        trees = quiet-unless (treesRight g (decode b)) 34 (each (List·Memᴰ·tail (List·Memᴰ·tail (List·Memᴰ·tail (List·Memᴰ·head refl)))));
-        covered = quiet-unless (verticesCovered g (decode b)) 35 (each (List·Memᴰ·tail (List·Memᴰ·tail (List·Memᴰ·tail (List·Memᴰ·tail (List·Memᴰ·head refl))))));
+        entries = quiet-unless (entriesRight (edgeCount g) b) 33 (quiet-each _ e (List·Memᴰ·tail (List·Memᴰ·tail (List·Memᴰ·head refl))));
+        trees = quiet-unless (treesRight g (decode b)) 34 (quiet-each _ e (List·Memᴰ·tail (List·Memᴰ·tail (List·Memᴰ·tail (List·Memᴰ·head refl)))));
+        covered = quiet-unless (verticesCovered g (decode b)) 35 (quiet-each _ e (List·Memᴰ·tail (List·Memᴰ·tail (List·Memᴰ·tail (List·Memᴰ·tail (List·Memᴰ·head refl))))));
       }
-    where
-      tests : List Fault
-      tests =
-          faultUnless (leb 4 (length b) && eqb (length b) (coverLength b)) 31
-          ∷ faultUnless (startsRight crews b && startsBelow (g .vertices) b) 32
-          ∷ faultUnless (entriesRight (edgeCount g) b) 33
-          ∷ faultUnless (treesRight g (decode b)) 34
-          ∷ faultUnless (verticesCovered g (decode b)) 35
-          ∷ []
-
-      each : {f : Fault} → f ∈ tests → f ≡ none
-      each m = quiet-each tests e m
-
-      t31 : (leb 4 (length b) && eqb (length b) (coverLength b)) ≡ true
-      t31 = quiet-unless (leb 4 (length b) && eqb (length b) (coverLength b)) 31 (each (List·Memᴰ·head refl))
-
-      t32 : (startsRight crews b && startsBelow (g .vertices) b) ≡ true
-      t32 = quiet-unless (startsRight crews b && startsBelow (g .vertices) b) 32 (each (List·Memᴰ·tail (List·Memᴰ·head refl)))
 
   -- Where all tests say yes, nothing is refused.
   pub passed-quiet : Passed g crews b → coverFault g crews b ≡ none

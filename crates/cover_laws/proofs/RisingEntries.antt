@@ -2,6 +2,7 @@
 -- Assumes nothing.
 use Prim.Native.Nat.{ℕ, zero, suc, _+_, _≤_, _<_}
 use mathlib.Core.Path.{_≡_, refl, sym, ap, ap₂, subst, _∙_}
+use mathlib.Core.Bool.{Bool}
 use mathlib.Core.List.{List, [], _∷_, _++_, map, List·Memᴰ·head, List·Memᴰ·tail, List·Memᴰ·not-nil, Memᴰ·append-right}
 use mathlib.Core.Logic.{_⊎_, inl, inr}
 use native.Mathlib.Decide.{ℕ-discrete}
@@ -10,13 +11,14 @@ use lib.Dec.{eqb}
 use borrow.Author.Tests.{eqb-true}
 use Rattle.lists.specs.Count.{from}
 use Rattle.lists.specs.Lists.{filter}
-use Rattle.lists.specs.Member.{_∈_, Rising}
-use Rattle.lists.proofs.Member.{of-map, of-filter}
-use Rattle.lists.proofs.InOrder.{InOrder, none, next, append-in-order}
+use Rattle.lists.specs.Member.{_∈_}
+use Rattle.lists.proofs.Member.{empty-list, of-map, of-filter}
+use Rattle.lists.proofs.InOrder.{InOrder, none, next, Rising, filter-in-order, append-in-order, in-order-within, in-order-weaken}
+use Rattle.lists.proofs.Images.{images-in-order}
 use Rattle.lists.proofs.Below.{of-from}
 use Rattle.lists.proofs.Runs.{map-same}
 use Rattle.rules.specs.Cover.{Tree}
-use Rattle.cover_laws.proofs.Entries.{Entry, named, entriesOf, edgesOf, edgesOf-same, edgesOf-other, edgesOf-append, edgesOf-none, of-named, of-entries}
+use Rattle.cover_laws.proofs.Entries.{Entry, named, entriesOf, edgesOf, edgesOf-same, edgesOf-append, edgesOf-none, of-named, of-entries}
 
 -- One entry comes before another: by tree, then by edge.
 abbrev pub Before : Entry → Entry → Type 0
@@ -29,8 +31,7 @@ Rises es = InOrder Before es
 -- Rising edges are rising entries of one tree.
 pub rises-named : {es : List ℕ} (j : ℕ) → Rising es → Rises (named j es)
 unfolding named
-rises-named j Rising.none = none
-rises-named j (Rising.next {x = e} {xs = es} b r) = next (λ y m. inr (let q = of-named j es m in (sym (q .0), b (y .edge) (q .1)))) (rises-named j r)
+rises-named j r = images-in-order (λ e. record { tree = j; edge = e }) (in-order-weaken (λ e f h. inr (refl, h)) r)
 
 -- The entries of trees whose edges rise, rise.
 pub rises-entries : (a : ℕ) (ts : List Tree) → ((t : Tree) → t ∈ ts → Rising (t .edges)) → Rises (entriesOf a ts)
@@ -50,18 +51,15 @@ of-edges j es m =
 
 -- The edges that the entries give to tree j rise.
 pub edges-rise : {es : List Entry} (j : ℕ) → Rises es → Rising (edgesOf j es)
-unfolding edgesOf filter
-edges-rise j none = Rising.none
-edges-rise j (next {x = x} {xs = xs} b r) = go (ℕ-discrete (x .tree) j) (edges-rise j r)
+unfolding edgesOf
+edges-rise {es} j r =
+    images-in-order (λ (x : Entry). x .edge) (in-order-within (filter-in-order of-tree r) (λ x y m n. elim [ inl l ↦ absurd (omega (arith, at x m, at y n)) | inr l ↦ l .1 ]))
   where
-    later : (e : ℕ) → x .tree ≡ j → e ∈ edgesOf j xs → x .edge < e
-    later e q m =
-        let y = of-edges j xs m in
-        elim (b (y .0) (y .1)) [ inl l ↦ absurd (omega (arith, y .2)) | inr l ↦ omega (arith, y .3, l .1) ]
+    of-tree : Entry → Bool
+    of-tree x = eqb (x .tree) j
 
-    go : Dec (x .tree ≡ j) → Rising (edgesOf j xs) → Rising (edgesOf j (x ∷ xs))
-    go (yes q) ih = rw (edgesOf-same j x xs q) (Rising.next (λ e m. later e q m) ih)
-    go (no q) ih = rw (edgesOf-other j x xs q) ih
+    at : (x : Entry) → x ∈ filter of-tree es → x .tree ≡ j
+    at x m = eqb-true (x .tree) j (of-filter of-tree es m .1)
 
 -- Rising entries from tree a on: those of tree a, and then entries past it.
 record Parted (a : ℕ) (es : List Entry) : Type 0 where
@@ -99,15 +97,11 @@ parted a (next {x = x} {xs = xs} b r) h = go (ℕ-discrete (x .tree) a) (parted 
 unfoldable pub grouped : (ℕ → ℕ) → List Entry → ℕ → Tree
 grouped start es j = record { start = start j; edges = edgesOf j es }
 
-nothing : (es : List Entry) → ((x : Entry) → x ∈ es → ⊥) → [] ≡ es
-nothing [] h = refl
-nothing (x ∷ xs) h = absurd (h x (List·Memᴰ·head refl))
-
 -- Rising entries that name trees from a on, m of them, are the entries of the trees that they group into.
 pub entries-again : (start : ℕ → ℕ) {es : List Entry} (a m : ℕ) → Rises es
     → ((x : Entry) → x ∈ es → a ≤ x .tree) → ((x : Entry) → x ∈ es → x .tree < a + m) → entriesOf a (map (grouped start es) (from a m)) ≡ es
 unfolding grouped from entriesOf
-entries-again start {es} a zero r low high = nothing es (λ x m. omega (arith, low x m, high x m))
+entries-again start {es} a zero r low high = sym (empty-list es (λ x m. omega (arith, low x m, high x m)))
 entries-again start {es} a (suc m) r low high =
     ap (λ l. named a (edgesOf a es) ++ entriesOf (suc a) l)
     (map-same (from (suc a) m) (λ j n. (λ i. record { start = start j; edges = same j (of-from (suc a) m n .0) i })))
