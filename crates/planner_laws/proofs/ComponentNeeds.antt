@@ -3,13 +3,13 @@
 -- Assumes nothing.
 use Prim.Native.Nat.{ℕ, _+_, _*_, _/_}
 use mathlib.Core.Path.{_≡_, sym, ap, _∙_}
-use Rattle.lists.specs.Lists.{filter, sumOf}
+use Rattle.lists.specs.Lists.{sumOf}
 use Rattle.lists.specs.Member.{_∈_}
 use Rattle.lists.proofs.SumsAlike.{sum-same, sum-of-map}
-use Rattle.graph.specs.Graph.{Graph, oneEnd}
+use Rattle.graph.specs.Graph.{Graph}
 use Rattle.rules.specs.Walk.{totalWeight}
-use Rattle.rules.specs.Labels.{apart, joined}
-use Rattle.rules.specs.Forest.{forest, labelsAt, lowest}
+use Rattle.rules.specs.Labels.{apart}
+use Rattle.rules.specs.Forest.{labelsAt, lowest}
 use Rattle.rules.specs.Grow.{Rooted}
 use Rattle.rules.specs.UnrootedTrial.{components, needs, needed}
 use Rattle.split_laws.proofs.Whole.{EndsInside}
@@ -27,8 +27,7 @@ module _ (g : Graph) (limit : ℕ) where
     component-needs m = ap (λ w. 1 + w / (2 * limit)) (component-weight g limit ends m)
 
     -- The sum of what the components need, by the lowest vertices.
-    pub needed-by-labels : needed g limit
-        ≡ sumOf (λ r. 1 + totalWeight g (filter (λ e. joined (labelsAt g apart limit) r (oneEnd g e)) (forest g apart limit)) / (2 * limit)) (lowest g (labelsAt g apart limit))
+    pub needed-by-labels : needed g limit ≡ sumOf (needsAt g limit) (lowest g (labelsAt g apart limit))
     unfolding needed
     needed-by-labels =
         sum-same (needs g limit) (λ t. needsAt g limit (t .root)) (components g limit) (λ t m. component-needs m)

@@ -16,7 +16,7 @@ pub mod RootedAssigned
 pub mod RootedUnion
 -- an accepted limit: the trees are a cover, the heaviest at most 4 B - 2
 pub mod RootedCover
--- one forest serves all limits: where every vertex is joined, the forest is the whole one; and when that is so
+-- one forest serves all limits: where every vertex is joined, the forest is the whole one
 pub mod RootedPrepared
 -- how many edges and parts there are
 pub mod RootedSize

@@ -5,17 +5,14 @@ use Prim.Native.Nat.{ℕ, _≤_, _<_}
 use mathlib.Core.Path.{_≡_, refl, sym, _∙_}
 use mathlib.Core.Bool.{Bool, true, false, not, true≢false, false≢true}
 use mathlib.Core.Logic.{_↔_}
-use mathlib.Core.List.{List, map, headD, Memᴰ·cast}
+use mathlib.Core.List.{List, map, Memᴰ·cast}
 use mathlib.Core.Option.{Option, some, none}
 use native.Mathlib.Omega.{arith}
 use lib.ListN.{length, length-map}
-use borrow.Author.Tests.{eqb-true, eq-eqb, ltb-true, ltb-false, not-true, not-false}
-use Rattle.lists.specs.Count.{below}
+use borrow.Author.Tests.{ltb-true, ltb-false}
 use Rattle.lists.specs.Member.{_∈_}
 use Rattle.lists.proofs.Member.{in-map, of-map}
 use Rattle.lists.proofs.InOrder.{rising-once}
-use Rattle.lists.proofs.Below.{of-below, in-below}
-use Rattle.lists.proofs.First.{first-none, first-some}
 use Rattle.lists.proofs.Images.{images-once}
 use Rattle.lists.proofs.Lengths.{length-within, some-member}
 use Rattle.graph.specs.Graph.{Graph}
@@ -23,17 +20,19 @@ use Rattle.graph.specs.Valid.{Valid}
 use Rattle.rules.specs.Walk.{Linked}
 use Rattle.rules.specs.Cover.{Tree, Crews, rooted, unrooted, IsCover}
 use Rattle.rules.specs.Order.{ordered}
-use Rattle.rules.specs.Labels.{Labels, apart, together, joined, mergeAll}
+use Rattle.rules.specs.Labels.{Labels, apart, together, mergeAll}
 use Rattle.rules.specs.Forest.{unjoined, lowest}
-use Rattle.rules.specs.Search.{nobody, noCover}
+use Rattle.rules.specs.Search.{noVertex, noCover}
 use Rattle.rules.specs.Fit.{CrewsFit}
 use Rattle.planner_laws.specs.Meaning.{NoneAtAll}
 use Rattle.rules.proofs.Linked.{linked-more}
 use Rattle.forest_laws.proofs.Ordering.{in-ordered}
 use Rattle.forest_laws.proofs.Walks.{merged-linked, linked-merged}
 use Rattle.forest_laws.proofs.Roots.{Reached, some-head, head-in, root-is-reached}
+use Rattle.forest_laws.proofs.Unjoined.{unjoined-none, unjoined-some}
 use Rattle.distance_laws.proofs.Covered.{covered-linked}
 use Rattle.split_laws.proofs.Lowest.{lowest-inside, lowest-rising, lowest-alike, lowest-of}
+use Rattle.planner_laws.proofs.RootedWithin.{tree-starts}
 use Rattle.planner_laws.proofs.WholeTrees.{whole, wholeTrees, whole-starts, whole-count, whole-covers}
 
 module _ {g : Graph} {crews : Crews} {trees : List Tree} (cover : IsCover g crews trees) where
@@ -52,21 +51,16 @@ module _ (g : Graph) (roots : List ℕ) where
   fromRoots = mergeAll g (together roots) (ordered g)
 
   -- a vertex that is joined to no root by any edge is in no cover
-  unjoined-none : (v : ℕ) → unjoined g roots fromRoots ≡ some v → NoneAtAll g (rooted roots)
-  unfolding unjoined joined
-  unjoined-none v q trees cover =
-      let (m, t) = first-some (λ u. not (joined fromRoots (headD roots 0) u)) (below (g .vertices)) q in
-      let (tree, n, l) = cover-links cover v (of-below (g .vertices) m) in
-      let root : tree .start ∈ roots = rw (cover .starts) at (in-map (λ (t : Tree). t .start) n) in
-      let same : fromRoots (headD roots 0) ≡ fromRoots v = root-is-reached g roots (ordered g) (head-in root) v .1 (tree .start, root, l) in
-      true≢false (sym (eq-eqb (fromRoots (headD roots 0)) (fromRoots v) same) ∙ not-true (joined fromRoots (headD roots 0) v) t)
+  unjoined-uncovered : (v : ℕ) → unjoined g roots fromRoots ≡ some v → NoneAtAll g (rooted roots)
+  unjoined-uncovered v q trees cover =
+      let (h, differ) = unjoined-some g roots fromRoots q in
+      let (tree, n, l) = cover-links cover v h in
+      let root = tree-starts cover n in
+      differ (root-is-reached g roots (ordered g) (head-in root) v .1 (tree .start, root, l))
 
   -- where there is no such vertex each is linked to a root
   joined-reached : 1 ≤ length roots → unjoined g roots fromRoots ≡ none → (v : ℕ) → v < g .vertices → Reached g roots (ordered g) v
-  unfolding unjoined joined
-  joined-reached some-root q v h =
-      let t = first-none (λ u. not (joined fromRoots (headD roots 0) u)) (below (g .vertices)) q v (in-below (g .vertices) h) in
-      root-is-reached g roots (ordered g) (some-head roots some-root) v .0 (eqb-true (fromRoots (headD roots 0)) (fromRoots v) (not-false (joined fromRoots (headD roots 0) v) t))
+  joined-reached some-root q v h = root-is-reached g roots (ordered g) (some-head roots some-root) v .0 (unjoined-none g roots fromRoots .0 q v h)
 
   rooted-cover : CrewsFit g (rooted roots) → unjoined g roots fromRoots ≡ none → IsCover g (rooted roots) (wholeTrees g roots)
   rooted-cover (some-root, inside) q = record { starts = whole-starts g roots; all-covered = whole-covers g roots inside (joined-reached some-root q) }
@@ -105,20 +99,20 @@ module _ (g : Graph) (k : ℕ) where
 
 -- "No cover" is said only where there is none.
 pub no-cover-none : (g : Graph) (crews : Crews) → noCover g crews ≡ true → NoneAtAll g crews
-unfolding noCover nobody
+unfolding noCover noVertex
 no-cover-none g (rooted roots) t = go (unjoined g roots (fromRoots g roots)) refl t
   where
-    go : (o : Option ℕ) → unjoined g roots (fromRoots g roots) ≡ o → not (nobody o) ≡ true → NoneAtAll g (rooted roots)
+    go : (o : Option ℕ) → unjoined g roots (fromRoots g roots) ≡ o → not (noVertex o) ≡ true → NoneAtAll g (rooted roots)
     go none q t = absurd (false≢true t)
-    go (some v) q t = unjoined-none g roots v q
+    go (some v) q t = unjoined-uncovered g roots v q
 no-cover-none g (unrooted k) t = λ trees cover. omega (arith, ltb-true k (length (lowest g (whole g))) t, components-few g k cover)
 
 -- Where it is not said there is one.
 pub some-cover : {g : Graph} → Valid g → (crews : Crews) → CrewsFit g crews → noCover g crews ≡ false → (trees : List Tree) × IsCover g crews trees
-unfolding noCover nobody
+unfolding noCover noVertex
 some-cover {g} valid (rooted roots) fit t = go (unjoined g roots (fromRoots g roots)) refl t
   where
-    go : (o : Option ℕ) → unjoined g roots (fromRoots g roots) ≡ o → not (nobody o) ≡ false → (trees : List Tree) × IsCover g (rooted roots) trees
+    go : (o : Option ℕ) → unjoined g roots (fromRoots g roots) ≡ o → not (noVertex o) ≡ false → (trees : List Tree) × IsCover g (rooted roots) trees
     go none q t = (wholeTrees g roots, rooted-cover g roots fit q)
     go (some v) q t = absurd (true≢false t)
 some-cover {g} valid (unrooted k) fit t = (wholeTrees g (lowest g (whole g)), unrooted-cover g k valid (ltb-false k (length (lowest g (whole g))) t))

@@ -14,7 +14,7 @@ use Rattle.rules.specs.Cover.{Tree, heaviest, Crews, rooted, unrooted, IsCover}
 use Rattle.rules.specs.Reply.{Reply, covered, too-low-parts, too-low-needs, no-cover}
 use Rattle.rules.specs.RootedTrial.{Choices, stopOr, unjoinedAt, isAssignable, rootedTrial}
 use Rattle.rules.specs.UnrootedTrial.{needed, unrootedTrial}
-use Rattle.rules.specs.Search.{nobody, accepts, trial, noCover, bestLimit, best}
+use Rattle.rules.specs.Search.{noVertex, accepts, trial, noCover, bestLimit, best}
 use Rattle.rules.specs.Fit.{GoodFor, CrewsFit}
 use Rattle.planner_laws.specs.Meaning.{NoneWithin, TrialMeans, BestMeans}
 use Rattle.planner_laws.proofs.NoCover.{no-cover-none, some-cover}
@@ -26,10 +26,10 @@ use Rattle.planner_laws.proofs.BestLimit.{best-accepted, best-cover, be
 -- An accepted trial replies with its trees.
 pub accepted-covered : (g : Graph) (crews : Crews) (limit : ℕ) (c : Choices) → accepts g crews limit ≡ true
     → trial g crews limit c ≡ covered limit (heaviest g (trialTrees g crews limit c)) (trialTrees g crews limit c)
-unfolding accepts trial rootedTrial unrootedTrial stopOr nobody
+unfolding accepts trial rootedTrial unrootedTrial stopOr noVertex
 accepted-covered g (rooted roots) limit c t = go (unjoinedAt g roots limit) (isAssignable g roots limit) _ _ t
   where
-    go : (o : Option ℕ) (a : Bool) (x y : Reply) → (nobody o && a) ≡ true → stopOr o (cond a x y) ≡ x
+    go : (o : Option ℕ) (a : Bool) (x y : Reply) → (noVertex o && a) ≡ true → stopOr o (cond a x y) ≡ x
     go (some v) a x y t = absurd (false≢true t)
     go none true x y t = refl
     go none false x y t = absurd (false≢true t)
@@ -38,10 +38,10 @@ accepted-covered g (unrooted k) limit c t = rw t
 -- A trial that replies with trees was accepted.
 pub covered-accepted : (g : Graph) (crews : Crews) (limit : ℕ) (c : Choices) {replied h : ℕ} {trees : List Tree} → trial g crews limit c ≡ covered replied h trees
     → accepts g crews limit ≡ true
-unfolding accepts trial rootedTrial unrootedTrial stopOr nobody
+unfolding accepts trial rootedTrial unrootedTrial stopOr noVertex
 covered-accepted g (rooted roots) limit c {replied} {h} {trees} q = go (unjoinedAt g roots limit) (isAssignable g roots limit) _ _ _ _ q
   where
-    go : (o : Option ℕ) (a : Bool) (x : Reply) (T D : ℕ) (parts : List Tree) → stopOr o (cond a x (too-low-parts T D parts)) ≡ covered replied h trees → (nobody o && a) ≡ true
+    go : (o : Option ℕ) (a : Bool) (x : Reply) (T D : ℕ) (parts : List Tree) → stopOr o (cond a x (too-low-parts T D parts)) ≡ covered replied h trees → (noVertex o && a) ≡ true
     go (some v) a x T D parts q = let z : _≡_ {A = ℕ} 0 1 = cc in absurd (omega arith)
     go none true x T D parts q = refl
     go none false x T D parts q = let z : _≡_ {A = ℕ} 0 1 = cc in absurd (omega arith)
@@ -62,12 +62,12 @@ accepted-means w = record { at-limit = refl; carries = record { cover = w .cover
 
 -- A trial's reply means what document 01 says of it.
 pub trial-means : {g : Graph} (crews : Crews) → TrialBounds g crews → (limit : ℕ) (c : Choices) → GoodFor g crews limit c → TrialMeans g crews limit (trial g crews limit c)
-unfolding accepts trial rootedTrial unrootedTrial stopOr nobody
+unfolding accepts trial rootedTrial unrootedTrial stopOr noVertex
 trial-means {g} (rooted roots) bounds limit c good =
     go (unjoinedAt g roots limit) (isAssignable g roots limit) _ _ _ _ (λ t. bounds .accepted-covers limit c t good) (bounds .refused-below limit) (λ t. good .deficient t .fewer)
   where
-    go : (o : Option ℕ) (a : Bool) (trees : List Tree) (T D : ℕ) (parts : List Tree) → ((nobody o && a) ≡ true → CoverWithin g (rooted roots) limit trees)
-        → ((nobody o && a) ≡ false → NoneWithin g (rooted roots) limit) → (a ≡ false → D < T)
+    go : (o : Option ℕ) (a : Bool) (trees : List Tree) (T D : ℕ) (parts : List Tree) → ((noVertex o && a) ≡ true → CoverWithin g (rooted roots) limit trees)
+        → ((noVertex o && a) ≡ false → NoneWithin g (rooted roots) limit) → (a ≡ false → D < T)
         → TrialMeans g (rooted roots) limit (stopOr o (cond a (covered limit (heaviest g trees) trees) (too-low-parts T D parts)))
     go (some v) a trees T D parts covers below fewer = below refl
     go none true trees T D parts covers below fewer = accepted-means (covers refl)

@@ -23,11 +23,10 @@ use Rattle.rules.specs.Cover.{Tree, treeWeight}
 use Rattle.rules.specs.Distance.{IsShortestPath}
 use Rattle.rules.specs.RootedTrial.{Choices, GoodChoices, unjoinedAt, rootedParts, partOf, mayGo, isAssignable}
 use Rattle.rules.proofs.Linked.{linked-on, linked-back, linked-more}
-use Rattle.rules.proofs.Joined.{walk-linked, walk-joined, joined-covers}
+use Rattle.rules.proofs.Joined.{JoinedTo, walk-linked, walk-joined, joined-covers}
 use Rattle.rules.proofs.TreeVertices.{stands-covered}
 use Rattle.distance_laws.proofs.Shortest.{reaches-shortest}
 use Rattle.split_laws.proofs.Weights.{weight-append}
-use Rattle.split_laws.proofs.Connected.{JoinedTo}
 use Rattle.planner_laws.proofs.RootedPieces.{IsPart, part-at}
 
 -- A rooted question's limit is accepted: no vertex is unjoined and an assignment exists.

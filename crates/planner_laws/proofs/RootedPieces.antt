@@ -21,9 +21,9 @@ use Rattle.rules.specs.Grow.{none, Rooted, branchEdges, grow}
 use Rattle.rules.specs.Split.{Pieces, splitAt, split}
 use Rattle.rules.specs.CoverBytes.{entryEdges}
 use Rattle.rules.specs.RootedTrial.{rootedPieces, rootedParts, partOf, leftAt}
+use Rattle.rules.proofs.Joined.{JoinedTo}
 use Rattle.forest_laws.proofs.Forest.{forest-light}
 use Rattle.split_laws.proofs.Weights.{no-parts}
-use Rattle.split_laws.proofs.Connected.{JoinedTo}
 use Rattle.split_laws.proofs.Trees.{grow-roots, tree-hangs, tree-edge-known}
 use Rattle.split_laws.proofs.SplitTree.{IsSplit, tree-split}
 use Rattle.split_laws.proofs.SplitForest.{allLeft, of-all-parts, of-all-left, forest-split-once}

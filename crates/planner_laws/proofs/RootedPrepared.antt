@@ -1,11 +1,9 @@
 -- A rooted question is prepared once for all limits: where the edges within a limit join every vertex to a root, the forest is the whole
--- graph's, for an edge above the limit would close a loop. So that is the case exactly where the whole graph joins every vertex to a root and
--- no edge of the whole forest is above the limit; and the forest's edges alone show which vertex is joined to no root.
+-- graph's, for an edge above the limit would close a loop. The forest's edges alone show which vertex is joined to no root.
 -- Assumes nothing.
 use Prim.Native.Nat.{ℕ, _≤_, _<_}
 use mathlib.Core.Path.{_≡_, sym, ap, _∙_}
 use mathlib.Core.List.{List, map}
-use mathlib.Core.Logic.{_↔_}
 use mathlib.Core.Option.{none}
 use native.Mathlib.Omega.{arith}
 use lib.Dec.{leb}
@@ -24,7 +22,7 @@ use Rattle.rules.specs.Grow.{grow}
 use Rattle.rules.specs.Split.{split}
 use Rattle.rules.specs.RootedTrial.{unjoinedAt, rootedPieces}
 use Rattle.forest_laws.proofs.Merging.{JoinsEnds, merged-monotone}
-use Rattle.forest_laws.proofs.Keeping.{kept-subset, kept-merges}
+use Rattle.forest_laws.proofs.Keeping.{kept-subset}
 use Rattle.forest_laws.proofs.Loops.{kept-apart}
 use Rattle.forest_laws.proofs.Ordering.{of-ordered}
 use Rattle.forest_laws.proofs.Limit.{forest-within}
@@ -68,7 +66,7 @@ module _ (g : Graph) (roots : List ℕ) (limit : ℕ) where
   light-whole light = forest-within g (together roots) limit ∙ filter-all (λ e. leb (weightOf g e) limit) whole (λ e m. le-leb (weightOf g e) limit (light e m))
 
   -- Where every vertex is joined to a root, every edge of the whole forest is within the limit,
-  pub whole-light : Valid g → unjoinedAt g roots limit ≡ none → (e : ℕ) → e ∈ whole → weightOf g e ≤ limit
+  whole-light : Valid g → unjoinedAt g roots limit ≡ none → (e : ℕ) → e ∈ whole → weightOf g e ≤ limit
   unfolding unjoinedAt
   whole-light valid q e m =
       let same = unjoined-none g roots labels .0 q in
@@ -84,17 +82,3 @@ module _ (g : Graph) (roots : List ℕ) (limit : ℕ) where
       → rootedPieces g roots limit ≡ map (split g limit) (grow g (rise (keep g (together roots) (ordered g))) roots)
   unfolding rootedPieces
   pieces-of-whole valid q = ap (λ edges. map (split g limit) (grow g (rise edges) roots)) (forest-is-whole valid q)
-
-  -- The labels are the whole graph's.
-  whole-labels : forest g (together roots) limit ≡ whole → labels ≡ mergeAll g (together roots) (ordered g)
-  whole-labels q = sym (forest-merges g (together roots) limit) ∙ ap (mergeAll g (together roots)) q ∙ kept-merges g (together roots) (ordered g)
-
-  -- Every vertex is joined to a root exactly where the whole graph joins every vertex to one and the whole forest is within the limit.
-  pub joined-exactly : Valid g
-      → (unjoinedAt g roots limit ≡ none)
-      ↔ ((unjoined g roots (mergeAll g (together roots) (ordered g)) ≡ none) × ((e : ℕ) → e ∈ keep g (together roots) (ordered g) → weightOf g e ≤ limit))
-  unfolding unjoinedAt
-  joined-exactly valid = (
-    λ q. (sym (ap (unjoined g roots) (whole-labels (forest-is-whole valid q))) ∙ q, whole-light valid q),
-    λ (q, light). ap (unjoined g roots) (whole-labels (light-whole light)) ∙ q,
-  )

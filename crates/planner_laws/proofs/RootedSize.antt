@@ -2,7 +2,7 @@
 -- one at least, so there are fewer parts than vertices; and each tree of the answer has fewer edges than there are vertices.
 -- Assumes nothing.
 use Prim.Native.Nat.{ℕ, _+_, _≤_, _<_}
-use mathlib.Core.List.{List, _∷_, _++_, List·Memᴰ·append-cases}
+use mathlib.Core.List.{List, _++_, List·Memᴰ·append-cases}
 use mathlib.Core.Logic.{_⊎_, inl, inr}
 use native.Mathlib.Omega.{arith}
 use lib.ListN.{length, length-append}
@@ -10,6 +10,7 @@ use Rattle.lists.specs.Count.{below}
 use Rattle.lists.specs.Member.{_∈_}
 use Rattle.lists.proofs.FlatMap.{flat-map-some}
 use Rattle.lists.proofs.InOrder.{Once, rising-once}
+use Rattle.lists.proofs.Lengths.{some-member}
 use Rattle.lists.proofs.Member.{of-map}
 use Rattle.lists.proofs.Times.{times-once, times-append}
 use Rattle.graph.specs.Graph.{Graph}
@@ -24,10 +25,6 @@ use Rattle.forest_laws.proofs.Thinning.{thinned-spans}
 use Rattle.split_laws.proofs.Exact.{of-part-edges}
 use Rattle.split_laws.proofs.SplitForest.{allLeft}
 use Rattle.planner_laws.proofs.RootedPieces.{rooted-part, pieces-once, left-in-forest}
-
--- A list with an element is not empty.
-some-length : {e : ℕ} {xs : List ℕ} → e ∈ xs → 1 ≤ length xs
-some-length {xs = x ∷ xs} m = omega arith
 
 -- A tree made of a union has fewer edges than there are vertices.
 union-few : {g : Graph} → Valid g → (root : ℕ) (union : List ℕ) → length (unionTree g root union .edges) < g .vertices
@@ -53,7 +50,7 @@ module _ (g : Graph) (roots : List ℕ) (limit : ℕ) where
   -- Each part has an edge, so there are no more parts than edges of parts.
   parts-some : length (rootedParts g roots limit) ≤ length (entryEdges (rootedParts g roots limit))
   unfolding entryEdges
-  parts-some = flat-map-some (λ (t : Tree). t .edges) (rootedParts g roots limit) (λ t m. some-length (rooted-part g roots limit m .some-edge .1))
+  parts-some = flat-map-some (λ (t : Tree). t .edges) (rootedParts g roots limit) (λ t m. some-member (rooted-part g roots limit m .some-edge .1))
 
   module _ (valid : Valid g) where
     -- The parts and the leftovers together have fewer edges than there are vertices,

@@ -18,8 +18,8 @@ use Rattle.rules.specs.Walk.{Linked, totalWeight}
 use Rattle.rules.specs.Cover.{Tree}
 use Rattle.rules.specs.RootedTrial.{Choices, rootedPieces, rootedParts, partOf, assignedEdges, leftAt}
 use Rattle.rules.proofs.Linked.{linked-more}
+use Rattle.rules.proofs.Joined.{JoinedTo}
 use Rattle.split_laws.proofs.Weights.{weight-append}
-use Rattle.split_laws.proofs.Connected.{JoinedTo}
 use Rattle.planner_laws.proofs.RootedPieces.{rooted-left}
 use Rattle.planner_laws.proofs.RootedAssigned.{AcceptedAt, partWithPath, goesTo, part-hangs, part-path-light, part-alone}
 

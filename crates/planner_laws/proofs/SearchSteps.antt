@@ -7,6 +7,7 @@ use mathlib.Core.Bool.{Bool, true, false, cond}
 use native.Mathlib.Nat.{two-pow-succ}
 use native.Mathlib.Omega.{arith}
 use lib.Dec.{leb, ltb}
+use lib.Pow.{pow-pos}
 use borrow.Author.Tests.{ltb-true, ltb-false, le-ltb, lt-ltb, leb-true, leb-false}
 use Rattle.rules.specs.Search.{Bounds, narrowed, searched}
 
@@ -112,8 +113,4 @@ module _ (accepted : ℕ → Bool) where
 -- As many steps as the bounds are wide are enough.
 pub steps-enough : (n : ℕ) → n ≤ 2 ^ n
 steps-enough zero = omega arith
-steps-enough (suc n) = omega (arith, two-pow-succ n, steps-enough n, one-step n)
-  where
-    one-step : (n : ℕ) → 1 ≤ 2 ^ n
-    one-step zero = omega arith
-    one-step (suc n) = omega (arith, two-pow-succ n, one-step n)
+steps-enough (suc n) = omega (arith, two-pow-succ n, steps-enough n, pow-pos n)

@@ -14,7 +14,7 @@ use Rattle.matching.proofs.Hall.{unassignable-deficient}
 use Rattle.rules.specs.Cover.{Tree, heaviest, Crews, rooted, unrooted, IsCover}
 use Rattle.rules.specs.RootedTrial.{Choices, GoodChoices, unjoinedAt, rootedParts, mayGo, isAssignable, rootedCover}
 use Rattle.rules.specs.UnrootedTrial.{needed, unrootedTrees}
-use Rattle.rules.specs.Search.{nobody, accepts}
+use Rattle.rules.specs.Search.{noVertex, accepts}
 use Rattle.rules.specs.Fit.{GoodFor}
 use Rattle.planner_laws.specs.Meaning.{NoneWithin}
 
@@ -41,20 +41,20 @@ pub record RootedBounds (g : Graph) (roots : List ℕ) : Type 0 where
       → CoverWithin g (rooted roots) limit (rootedCover g roots limit c)
 
 pub rooted-bounds : {g : Graph} {roots : List ℕ} → RootedBounds g roots → TrialBounds g (rooted roots)
-unfolding accepts nobody isAssignable
+unfolding accepts noVertex isAssignable
 rooted-bounds {g} {roots} b =
     record {
       refused-below = λ limit t. below limit (unjoinedAt g roots limit) refl t;
       accepted-covers = λ limit c t good. covers limit c good (unjoinedAt g roots limit) refl t;
     }
   where
-    below : (limit : ℕ) (o : Option ℕ) → unjoinedAt g roots limit ≡ o → (nobody o && isAssignable g roots limit) ≡ false → NoneWithin g (rooted roots) limit
+    below : (limit : ℕ) (o : Option ℕ) → unjoinedAt g roots limit ≡ o → (noVertex o && isAssignable g roots limit) ≡ false → NoneWithin g (rooted roots) limit
     below limit (some v) q t = b .stop-too-low limit v q
     below limit none q t =
         let (marks, d) = unassignable-deficient (length (rootedParts g roots limit)) (length roots) (mayGo g roots limit) t in
         b .parts-too-low limit marks d
 
-    covers : (limit : ℕ) (c : Choices) → GoodChoices g roots limit c → (o : Option ℕ) → unjoinedAt g roots limit ≡ o → (nobody o && isAssignable g roots limit) ≡ true
+    covers : (limit : ℕ) (c : Choices) → GoodChoices g roots limit c → (o : Option ℕ) → unjoinedAt g roots limit ≡ o → (noVertex o && isAssignable g roots limit) ≡ true
         → CoverWithin g (rooted roots) limit (rootedCover g roots limit c)
     covers limit c good (some v) q t = absurd (false≢true t)
     covers limit c good none q t = b .accepted-covers limit c q t good

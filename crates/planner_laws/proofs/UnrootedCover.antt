@@ -13,14 +13,15 @@ use Rattle.lists.proofs.SumsAlike.{length-removed}
 use Rattle.lists.proofs.Sorting.{in-rise}
 use Rattle.graph.specs.Graph.{Graph}
 use Rattle.graph.specs.Valid.{Valid}
-use Rattle.rules.specs.Walk.{Joins, onward, back}
-use Rattle.rules.specs.Cover.{Tree, Covers, at-start, at-one-end, at-other-end, treeWeight, heaviest, IsCover, unrooted}
+use Rattle.rules.specs.Walk.{Joins}
+use Rattle.rules.specs.Cover.{Tree, Covers, at-start, treeWeight, heaviest, IsCover, unrooted}
 use Rattle.rules.specs.Labels.{apart}
 use Rattle.rules.specs.Forest.{labelsAt, lowest}
 use Rattle.rules.specs.Grow.{Rooted}
 use Rattle.rules.specs.Split.{split}
 use Rattle.rules.specs.UnrootedTrial.{components, needed, fromLowest, componentTrees, unrootedTrees}
 use Rattle.rules.proofs.Linked.{joins-back}
+use Rattle.rules.proofs.Joined.{joins-covers}
 use Rattle.split_laws.proofs.SplitForest.{of-all-parts}
 use Rattle.split_laws.proofs.RootHeld.{root-in-part}
 use Rattle.split_laws.proofs.Whole.{EndsInside, valid-ends, Held, at-root, at-part, at-left, unrooted-whole}
@@ -29,11 +30,6 @@ use Rattle.planner_laws.proofs.ComponentTrees.{componentParts, componen
 use Rattle.planner_laws.proofs.UnrootedNumber.{in-unrooted, unrooted-few}
 use Rattle.planner_laws.proofs.UnrootedStart.{lowest-covers}
 use Rattle.planner_laws.proofs.UnrootedTrees.{part-is-tree, leftover-is-tree, unrooted-is-tree, unrooted-weight}
-
--- A tree covers what one of its edges joins.
-joins-covers : {g : Graph} {t : Tree} {e far v : ℕ} → e ∈ t .edges → Joins g e far v → Covers g t v
-joins-covers {e = e} m (onward p q) = at-other-end e m q
-joins-covers {e = e} m (back p q) = at-one-end e m q
 
 module _ (g : Graph) (ends : EndsInside g) (limit : ℕ) where
   -- A tree of the answer covers v.

@@ -8,8 +8,7 @@ use mathlib.Core.List.{List}
 use native.Mathlib.Omega.{arith}
 use lib.ListN.{length}
 use borrow.Author.Tests.{eqb-true}
-use Rattle.lists.proofs.InOrder.{InOrder, rising-in-order}
-use Rattle.lists.proofs.InOrderWithin.{in-order-within}
+use Rattle.lists.proofs.InOrder.{InOrder, in-order-within}
 use Rattle.lists.proofs.Largest.{in-largest}
 use Rattle.lists.proofs.SumsAlike.{sum-no-more}
 use Rattle.lists.proofs.Shares.{shares}
@@ -28,7 +27,7 @@ one-component-each : (g : Graph) (limit : ℕ) (t : Tree)
     → InOrder (λ (r s : ℕ). joined (labelsAt g apart limit) r (t .start) ≡ true → joined (labelsAt g apart limit) s (t .start) ≡ true → ⊥) (lowest g (labelsAt g apart limit))
 unfolding joined
 one-component-each g limit t =
-    in-order-within (rising-in-order (lowest-rising g (labelsAt g apart limit)))
+    in-order-within (lowest-rising g (labelsAt g apart limit))
     (λ r s m n h p q. lowest-first g (labelsAt g apart limit) n h (eqb-true _ _ p ∙ sym (eqb-true _ _ q)))
 
 -- A cover with every tree within the limit has at least as many trees as the components need.

@@ -9,7 +9,8 @@ use mathlib.Core.Logic.{_⊎_, inl, inr}
 use native.Mathlib.Omega.{arith}
 use lib.Dec.{eqb}
 use Rattle.lists.specs.Lists.{sumOf}
-use Rattle.lists.specs.Member.{_∈_, Rising}
+use Rattle.lists.specs.Member.{_∈_}
+use Rattle.lists.specs.InOrder.{Rising}
 use Rattle.lists.specs.Sort.{rise}
 use Rattle.lists.proofs.Below.{equal-or-not}
 use Rattle.lists.proofs.Bounds.{sum-each}
@@ -18,7 +19,7 @@ use Rattle.lists.proofs.SumsAlike.{sum-zero, sum-flat-map}
 use Rattle.lists.proofs.Sorting.{of-rise}
 use Rattle.lists.proofs.Times.{times, times-rise}
 use Rattle.graph.specs.Graph.{Graph, weightOf}
-use Rattle.rules.specs.Walk.{Joins, onward, back, totalWeight}
+use Rattle.rules.specs.Walk.{totalWeight}
 use Rattle.rules.specs.Cover.{Tree, IsTree, treeWeight}
 use Rattle.rules.specs.Labels.{apart}
 use Rattle.rules.specs.Forest.{forest, labelsAt}
@@ -26,13 +27,13 @@ use Rattle.rules.specs.Grow.{Rooted}
 use Rattle.rules.specs.Split.{split}
 use Rattle.rules.specs.UnrootedTrial.{components, fromLowest, unrootedTrees}
 use Rattle.rules.specs.CoverBytes.{entryEdges}
-use Rattle.rules.proofs.Linked.{linked-more}
+use Rattle.rules.proofs.Linked.{joins-back, linked-more}
+use Rattle.rules.proofs.Joined.{JoinedTo, joins-below}
 use Rattle.forest_laws.proofs.Forest.{forest-light, forest-no-loop}
 use Rattle.forest_laws.proofs.Thinning.{rise-weight}
-use Rattle.split_laws.proofs.Connected.{JoinedTo, rise-joined}
+use Rattle.split_laws.proofs.Connected.{rise-joined}
 use Rattle.split_laws.proofs.Lowest.{lowest-inside}
 use Rattle.split_laws.proofs.SplitTree.{IsSplit, tree-split}
-use Rattle.split_laws.proofs.SharpParts.{part-sharp}
 use Rattle.split_laws.proofs.PartsRise.{part-rising, sorted-rising}
 use Rattle.split_laws.proofs.Whole.{EndsInside}
 use Rattle.planner_laws.proofs.ComponentEdges.{component-hangs, component-root, component-edge, component-once}
@@ -87,12 +88,11 @@ module _ (g : Graph) (limit : ℕ) {t : Rooted} (m : t ∈ components g limit) w
   pub part-is-tree : EndsInside g → {p : Tree} → p ∈ componentParts g limit t → IsTree g p
   part-is-tree ends {p} n = forest-tree g limit p start (part-known n) (part-rising g (2 * limit) t n (part-once n)) (pieces .connected n .joined)
     where
-      at : {e far : ℕ} → e ∈ p .edges → Joins g e (p .start) far → p .start < g .vertices
-      at {e} i (onward q r) = rw q (ends e (forest-light g apart limit e (part-known n e i) .0) .0)
-      at {e} i (back q r) = rw q (ends e (forest-light g apart limit e (part-known n e i) .0) .1)
-
       start : p .start < g .vertices
-      start = let (e, far, i, j) = pieces .connected n .at-edge in at i j
+      start =
+          let (e, far, i, j) = pieces .connected n .at-edge in
+          let (one, other) = ends e (forest-light g apart limit e (part-known n e i) .0) in
+          joins-below one other (joins-back j)
 
   -- so is what is left.
   pub leftover-is-tree : IsTree g (componentLeftover g limit t)
@@ -109,7 +109,7 @@ module _ (g : Graph) (limit : ℕ) {t : Rooted} (m : t ∈ components g limit) w
       go (inl q) = omega (arith, weightless g limit q (p .edges) (part-known n))
       go (inr d) =
           let above : 1 ≤ 2 * limit = omega arith in
-          omega (arith, part-sharp g (2 * limit) above t (λ e i. omega (arith, forest-light g apart limit e (component-edge g limit m i) .1)) n)
+          omega (arith, pieces .sharp above (λ e i. omega (arith, forest-light g apart limit e (component-edge g limit m i) .1)) n)
 
   -- and so does what is left.
   leftover-bound : treeWeight g (componentLeftover g limit t) ≤ 4 * limit - 2
