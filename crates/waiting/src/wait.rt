@@ -4,7 +4,7 @@
 ghost use mathlib.Core.Path.{_≡_};
 ghost use Prim.Native.Nat.{_+_, _<_, _≤_};
 ghost use lib.ListN.{length};
-ghost use Rattle.waiting.specs.Waiting.{keyOf, vertexOf, Lower, LeastFrom, Blocks, KeyGiven, KeyPut};
+ghost use Rattle.waiting.specs.Waiting.{keyOf, vertexOf, nobody, Lower, LeastFrom, Blocks, KeyGiven, KeyPut};
 
 // What stands for a vertex that does not wait. Every key is below it.
 pub const NOBODY: u64 = 18446744073709551615;
@@ -60,7 +60,7 @@ pub fn put_key(v: usize, key: u64, wait: &mut [u64], low: &mut [u64])
 // Vertex v waits no longer.
 pub fn take_key(v: usize, wait: &mut [u64], low: &mut [u64])
     requires { ⌜ (v < 256) × Blocks (now wait) (now low) ⌝ }
-    ensures { λ _. ⌜ KeyPut v 18446744073709551615 (now (wait .entry)) (now (wait .exit)) (now (low .exit)) ⌝ }
+    ensures { λ _. ⌜ KeyPut v nobody (now (wait .entry)) (now (wait .exit)) (now (low .exit)) ⌝ }
 {
     wait[v] = NOBODY;
     low[v / 16] = least_from(wait, v / 16 * 16);
