@@ -18,7 +18,7 @@ use Rattle.rules.specs.Labels.{Labels, joined, endsJoined, mergeEdge, mergeAll}
 use Rattle.rules.specs.Forest.{keep}
 use Rattle.forest_laws.proofs.Merging.{JoinsEnds, edge-joined}
 use Rattle.forest_laws.proofs.Keeping.{keep-joined, keep-apart}
-use Rattle.forest_laws.proofs.FewEdges.{kept-few-from}
+use Rattle.forest_laws.proofs.FewForest.{kept-few}
 use Rattle.forest.specs.Arrays.{Agrees}
 use Rattle.forest.specs.Labelled.{Merged, Joined}
 use Rattle.forest.specs.Keeping.{KeptWritten}
@@ -157,7 +157,7 @@ module _ {g : Graph} {edges : List ℕ} where
       taking-few =
           let own : Labels = λ v. getD label₀ v 0 in
           let f = t .going own (λ v l. refl) in
-          omega (arith, so-far-behind (f .so-far), kept-few-from valid own edges)
+          omega (arith, so-far-behind (f .so-far), kept-few valid own edges)
 
       pub taking-all : length edges ≤ i → i ≤ length edges → KeptWritten g edges label₀ label₁ kept₀ kept₁ r
       unfolding keep mergeAll

@@ -6,7 +6,7 @@ use mathlib.Core.Path.{_≡_, refl, sym, _∙_}
 use mathlib.Core.Bool.{true, false, cond, false≢true}
 use mathlib.Core.List.{List, [], _∷_, headD}
 use native.Mathlib.Omega.{arith}
-use lib.ListN.{length, getD, drop, set, length-set}
+use lib.ListN.{length, getD, set, length-set}
 use lib.Seq.{getD-set-same, getD-set-other}
 use lib.Dec.{eqb}
 use borrow.Author.Count.{below-none, below-more}
@@ -14,7 +14,6 @@ use borrow.Author.Tests.{eq-eqb, ne-eqb}
 use Rattle.lists.specs.Lists.{any, member}
 use Rattle.lists.specs.Put.{OnlyFirst}
 use Rattle.lists.proofs.OnlyFirst.{only-first-none, only-first-store}
-use Rattle.lists.proofs.NextPlace.{rest-next, rest-none}
 use Rattle.graph.specs.Graph.{Graph}
 use Rattle.graph.specs.Valid.{Valid}
 use Rattle.rules.specs.Labels.{Labels, joined, merge, together, mergeAll}
@@ -22,20 +21,6 @@ use Rattle.forest_laws.proofs.Roots.{together-none}
 use Rattle.forest_laws.proofs.VertexLabels.{VertexLabels, apart-vertices, merged-vertices}
 use Rattle.forest.specs.Arrays.{Agrees}
 use Rattle.forest.specs.Labelled.{Started, Merged}
-
--- Whether v stands in a list, from a place on.
-module _ (v : ℕ) (list : List ℕ) (i : ℕ) where
-  pub stands-here : i < length list → getD list i 0 ≡ v → member v (drop i list) ≡ true
-  unfolding member any
-  stands-here h q = rw (rest-next list i h, eq-eqb v (getD list i 0) (sym q))
-
-  pub stands-later : i < length list → (getD list i 0 ≡ v → ⊥) → member v (drop i list) ≡ member v (drop (i + 1) list)
-  unfolding member any
-  stands-later h d = rw (rest-next list i h, ne-eqb v (getD list i 0) (λ q. d (sym q)))
-
-  pub stands-nowhere : length list ≤ i → member v (drop i list) ≡ false
-  unfolding member any
-  stands-nowhere h = rw (rest-none list i h)
 
 -- The label of a root at the start is the first root, and that of another vertex its own.
 pub root-some : (v : ℕ) (roots : List ℕ) → member v roots ≡ true → 0 < length roots

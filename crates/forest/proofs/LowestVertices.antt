@@ -8,11 +8,10 @@ use mathlib.Core.List.{List}
 use mathlib.Core.Option.{Option}
 use native.Mathlib.Omega.{arith}
 use lib.ListN.{length, getD, set, length-set, replicate, length-replicate}
-use lib.Seq.{getD-set-same}
 use borrow.Author.Count.{below-more}
 use Rattle.lists.specs.Count.{anyBelow}
 use Rattle.lists.specs.Lists.{filter, firstThat}
-use Rattle.lists.proofs.AfterStore.{after-store}
+use Rattle.lists.proofs.AfterStore.{marked-more, only-marked-more}
 use Rattle.lists.proofs.AnyBelow.{found-any-below, none-any-below}
 use Rattle.lists.proofs.NextPlace.{belowFrom, numbers-all, numbers-next, numbers-none, filter-taken, filter-passed}
 use Rattle.lists.proofs.PutOneByOne.{PutSoFar, so-far-none, so-far-same, so-far-more, so-far-all}
@@ -108,14 +107,8 @@ module _ {array : List ℕ} where
         let inside : x < length met = omega (arith, w .size) in
         record {
           size = length-set met x 1 ∙ w .size;
-          each =
-              below-more (λ u. getD (set met x 1) (getD array u 0) 0 ≡ 1) v
-              (λ u l. after-store (λ _ y. y ≡ 1) met x 1 (getD array u 0) inside refl (λ away. w .each u l))
-              (ap (λ k. getD (set met x 1) k 0) (sym label-is) ∙ getD-set-same met x 1 0 inside);
-          only =
-              λ y.
-              after-store (λ k z. z ≡ 1 → (u : ℕ) × (u < v + 1) × (getD array u 0 ≡ k)) met x 1 y inside (λ _. (v, omega arith, sym label-is))
-              (λ away p. let (u, l, q) = w .only y p in (u, omega arith, q));
+          each = marked-more array met v label-is inside (w .each);
+          only = λ y. only-marked-more array met v label-is inside y (w .only y);
         }
 
 -- v is joined to no lower vertex.

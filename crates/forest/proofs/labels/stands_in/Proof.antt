@@ -3,10 +3,12 @@
 use Prim.Native.Nat.{_-_}
 use mathlib.Core.Path.{_≡_, refl, sym, _∙_}
 use native.Mathlib.Omega.{arith}
-use lib.ListN.{length, drop}
+use lib.ListN.{length, getD, drop}
+use lib.Dec.{eqb}
 use borrow.Author.Needs.{needs}
+use borrow.Author.Tests.{eq-eqb, ne-eqb}
 use Rattle.lists.specs.Lists.{member}
-use Rattle.forest.proofs.Labelling.{stands-here, stands-later, stands-nowhere}
+use Rattle.lists.proofs.NextPlace.{any-here, any-later, any-nowhere}
 use Rattle.forest.proofs.labels.stands_in.Statement.{statement}
 use Rattle.forest.proofs.labels.stands_in.Tie as tie
 
@@ -36,11 +38,12 @@ wide-requires : tie.Need-wide-requires Inv-loop μ-loop
 wide-requires c κs = search needs
 
 returns : tie.Need-returns Inv-loop μ-loop
+unfolding member
 returns c =
     let t = turn (c .before) in
     let a = start t .args in
     let at = t .loop in
-    sym (at .inv ∙ stands-here (a .v) (a .list .now) (at .i) (omega arith) (omega arith))
+    sym (at .inv ∙ any-here (eqb (a .v)) (a .list .now) (at .i) (omega arith) (eq-eqb (a .v) (getD (a .list .now) (at .i) 0) (omega arith)))
 
 add-i : tie.Need-add-i Inv-loop μ-loop
 add-i c = search needs
@@ -49,17 +52,19 @@ loop-less : tie.Need-loop-less Inv-loop μ-loop
 loop-less c = search needs
 
 loop-again : tie.Need-loop-again Inv-loop μ-loop
+unfolding member
 loop-again c =
     let t = turn (c .before) in
     let a = start t .args in
     let at = t .loop in
-    at .inv ∙ stands-later (a .v) (a .list .now) (at .i) (omega arith) (omega arith)
+    at .inv ∙ any-later (eqb (a .v)) (a .list .now) (at .i) (omega arith) (ne-eqb (a .v) (getD (a .list .now) (at .i) 0) (omega arith))
 
 returns-2 : tie.Need-returns-2 Inv-loop μ-loop
+unfolding member
 returns-2 c =
     let a = start (c .before) .args in
     let at = c .before .loop in
-    sym (at .inv ∙ stands-nowhere (a .v) (a .list .now) (at .i) (omega arith))
+    sym (at .inv ∙ any-nowhere (eqb (a .v)) (a .list .now) (at .i) (omega arith))
 
 pub stands-in-spec : {M : Type 1} → statement M
 stands-in-spec =
