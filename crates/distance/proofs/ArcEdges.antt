@@ -2,50 +2,23 @@
 -- Assumes nothing.
 use Prim.Native.Nat.{ℕ, _+_, _<_}
 use mathlib.Core.Path.{_≡_, sym, ap, _∙_}
-use mathlib.Core.Bool.{true, false, cond}
+use mathlib.Core.Bool.{true}
 use mathlib.Core.List.{List}
-use mathlib.Core.Logic.{_⊎_, inl, inr}
 use native.Mathlib.Omega.{arith}
 use lib.ListN.{getD}
-use lib.Dec.{eqb}
-use borrow.Author.Tests.{eqb-true, eqb-false, eq-eqb, ne-eqb}
 use Rattle.lists.specs.Count.{below}
 use Rattle.lists.specs.Lists.{filter}
 use Rattle.lists.specs.Member.{_∈_}
 use Rattle.lists.specs.Segments.{segment}
 use Rattle.lists.proofs.Below.{of-below, in-below}
-use Rattle.lists.proofs.Every.{one-true, left-true, right-true}
-use Rattle.lists.proofs.Member.{either, in-filter, of-filter, in-map, of-map}
+use Rattle.lists.proofs.Member.{in-filter, of-filter, in-map, of-map}
 use Rattle.lists.proofs.SlicePlaces.{in-slice, of-slice}
-use Rattle.graph.specs.Graph.{Graph, edgeCount, oneEnd, otherEnd, weightOf}
-use Rattle.graph.specs.Valid.{Valid}
-use Rattle.rules.specs.Grow.{farEnd}
-use Rattle.rules.specs.Walk.{Joins, onward, back}
+use Rattle.graph.specs.Graph.{Graph, edgeCount, weightOf}
+use Rattle.rules.specs.Walk.{Joins}
+use Rattle.rules.proofs.FarEnd.{far-end, joins-far, end-test}
 use Rattle.edges.specs.Around.{arcOf, arcEdge, arcHead, arcWeight, touches, arcsAt, Around}
 use Rattle.distance.specs.Relaxing.{ArcAt}
 use Rattle.edges.proofs.Arcs.{arc-edge, valid-arc-head, valid-arc-weight}
-
--- An edge that touches u joins it to its far end.
-touches-joins : (g : Graph) (u e : ℕ) → touches g u e ≡ true → Joins g e u (farEnd g e u)
-unfolding touches farEnd
-touches-joins g u e t = go (either (eqb (oneEnd g e) u)) (one-true (eqb (oneEnd g e) u) (eqb (otherEnd g e) u) t)
-  where
-    go : (eqb (oneEnd g e) u ≡ true) ⊎ (eqb (oneEnd g e) u ≡ false) → (eqb (oneEnd g e) u ≡ true) ⊎ (eqb (otherEnd g e) u ≡ true)
-        → Joins g e u (cond (eqb (oneEnd g e) u) (otherEnd g e) (oneEnd g e))
-    go (inl p) q = onward (sym (eqb-true (oneEnd g e) u p)) (rw p)
-    go (inr p) (inl q) = absurd (eqb-false (oneEnd g e) u p (eqb-true (oneEnd g e) u q))
-    go (inr p) (inr q) = back (sym (eqb-true (otherEnd g e) u q)) (rw p)
-
--- An edge that joins u to v touches u, and v is its far end.
-joins-touches : {g : Graph} {e u v : ℕ} → Joins g e u v → touches g u e ≡ true
-unfolding touches
-joins-touches {g} {e} {u} (onward p q) = left-true (eqb (otherEnd g e) u) (eq-eqb (oneEnd g e) u (sym p))
-joins-touches {g} {e} {u} (back p q) = right-true (eqb (oneEnd g e) u) (eq-eqb (otherEnd g e) u (sym p))
-
-joins-far : {g : Graph} → Valid g → {e u v : ℕ} → e < edgeCount g → Joins g e u v → farEnd g e u ≡ v
-unfolding farEnd
-joins-far {g} valid {e} {u} h (onward p q) = rw (eq-eqb (oneEnd g e) u (sym p)) (sym q)
-joins-far {g} valid {e} {u} h (back p q) = rw (ne-eqb (oneEnd g e) u (λ x. valid .each-edge e h .no-loop (x ∙ p))) (sym q)
 
 -- What an arc of u says of the graph.
 pub record IsEdge (g : Graph) (u a : ℕ) : Type 0 where
@@ -63,12 +36,13 @@ pub record HasArc (g : Graph) (bounds arcs : List ℕ) (e u v : ℕ) : Type 0 wh
 module _ {g : Graph} {bounds arcs : List ℕ} (around : Around g (below (edgeCount g)) bounds arcs) {u : ℕ} (vertex : u < g .vertices) where
   -- The arc of an edge that touches u.
   arc-is-edge : {e a : ℕ} → e < edgeCount g → touches g u e ≡ true → a ≡ arcOf g u e → IsEdge g u a
+  unfolding touches
   arc-is-edge {e} h t q =
       let fits : e < 65536 = omega (arith, around .valid .edges-most) in
       let edge = ap arcEdge q ∙ arc-edge g u e fits in
       let head = ap arcHead q ∙ valid-arc-head (around .valid) u e fits in
       let weight = ap arcWeight q ∙ valid-arc-weight (around .valid) u e fits in
-      record { inside = rw edge h; joins = rw (edge, head) (touches-joins g u e t); weighs = rw edge weight }
+      record { inside = rw edge h; joins = rw (edge, head) (joins-far e u t); weighs = rw edge weight }
 
   -- Each arc of u is an edge.
   pub arc-edges : {a : ℕ} → ArcAt bounds arcs u a → IsEdge g u a
@@ -81,15 +55,15 @@ module _ {g : Graph} {bounds arcs : List ℕ} (around : Around g (below (edgeCou
 
   -- Each edge from u is an arc of u.
   pub edge-arcs : {e v : ℕ} → e < edgeCount g → Joins g e u v → HasArc g bounds arcs e u v
-  unfolding segment arcsAt
+  unfolding segment arcsAt touches
   edge-arcs {e} h j =
       let fits : e < 65536 = omega (arith, around .valid .edges-most) in
-      let stands : arcOf g u e ∈ arcsAt g (below (edgeCount g)) u = in-map (arcOf g u) (in-filter (touches g u) (in-below (edgeCount g) h) (joins-touches j)) in
+      let stands : arcOf g u e ∈ arcsAt g (below (edgeCount g)) u = in-map (arcOf g u) (in-filter (touches g u) (in-below (edgeCount g) h) (end-test j)) in
       let there : arcOf g u e ∈ segment bounds arcs u = rw (around .are u vertex) stands in
       let (i, from, to, q) = of-slice arcs 0 (getD bounds u 0) (getD bounds (u + 1) 0) (around .sound .within (u + 1) (omega arith)) there in
       record {
         arc = arcOf g u e;
         at = record { place = i; from = from; to = to; is = sym q };
-        head = valid-arc-head (around .valid) u e fits ∙ joins-far (around .valid) h j;
+        head = valid-arc-head (around .valid) u e fits ∙ far-end j;
         weighs = valid-arc-weight (around .valid) u e fits;
       }

@@ -4,7 +4,7 @@ use Prim.Native.Nat.{ℕ, _+_, _≤_, _<_}
 use mathlib.Core.Path.{_≡_, refl, sym, ap, _∙_}
 use mathlib.Core.List.{List, [], _∷_, List·Memᴰ·head, List·Memᴰ·tail, List·Memᴰ·not-nil}
 use mathlib.Core.Logic.{dite}
-use mathlib.Core.Option.{some, none}
+use mathlib.Core.Option.{some, none, Option·none-ne-some}
 use native.Mathlib.Decide.{ℕ-discrete}
 use native.Mathlib.Omega.{arith}
 use lib.ListN.{length, getD}
@@ -15,7 +15,7 @@ use Rattle.graph.specs.Graph.{Graph, edgeCount, weightOf}
 use Rattle.rules.specs.Walk.{Walk, stay, step, totalWeight}
 use Rattle.rules.specs.Distance.{Distance}
 use Rattle.rules.proofs.Linked.{joins-back, walk-back}
-use Rattle.distance_laws.proofs.Nearer.{AtMost, none-some}
+use Rattle.distance_laws.proofs.Nearer.{AtMost}
 use Rattle.distance_laws.proofs.Shortening.{shortened}
 use Rattle.distance_laws.proofs.Bounding.{joins-inside}
 use Rattle.distance_laws.proofs.Least.{distanceTo, distance-reached, distance-most}
@@ -96,7 +96,7 @@ module _ {g : Graph} {bounds arcs : List ℕ} (around : Around g (below (edgeCou
         let arc = edge-arcs around h e-inside j in
         let near = s .relaxed _ (arc .arc) h (omega arith) (arc .at) in
         let near-head : getD dist w 0 ≤ c + weightOf g e = omega (arith, near, arc .weighs, ap (λ x. getD dist x 0) (arc .head)) in
-        omega (arith, along {c = c + weightOf g e} (joins-inside (around .valid) e-inside j) walk (λ f m. inside f (List·Memᴰ·tail m)) near-head (omega arith))
+        omega (arith, along {c = c + weightOf g e} (joins-inside (around .valid) j) walk (λ f m. inside f (List·Memᴰ·tail m)) near-head (omega arith))
 
     module _ (start : root < g .vertices) where
       -- Where a walk leads, the vertex is reached, at no more than the walk's weight.
@@ -125,7 +125,7 @@ module _ {g : Graph} {bounds arcs : List ℕ} (around : Around g (below (edgeCou
           go : (x : Distance) → distanceTo g root v ≡ x → SaysDistance (getD dist v 0) (distanceTo g root v)
           go none q =
               dite (ℕ-discrete (getD dist v 0) unreached) (λ e. nowhere e q)
-              (λ low. none-some (sym q ∙ reached-most v h (omega (arith, s .bounded v h)) .is))
+              (λ low. absurd (Option·none-ne-some _ (sym q ∙ reached-most v h (omega (arith, s .bounded v h)) .is)))
           go (some d) q =
               let w = distance-reached g root v q in
               let b = walk-bounds (w .leads) in

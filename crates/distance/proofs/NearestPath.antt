@@ -3,7 +3,7 @@
 use Prim.Native.Nat.{ℕ, _≤_, _<_}
 use mathlib.Core.Path.{_≡_, sym, _∙_}
 use mathlib.Core.List.{List}
-use mathlib.Core.Option.{some}
+use mathlib.Core.Option.{some, Option·none-ne-some}
 use native.Mathlib.Omega.{arith}
 use lib.ListN.{length, getD}
 use Rattle.lists.specs.Member.{_∈_}
@@ -12,7 +12,6 @@ use Rattle.graph.specs.Valid.{Valid}
 use Rattle.rules.specs.Cover.{Tree}
 use Rattle.rules.specs.Distance.{Distance, treeVertices, IsShortestPath}
 use Rattle.rules.proofs.Linked.{turned, of-turned, walk-back}
-use Rattle.distance_laws.proofs.Nearer.{none-some}
 use Rattle.distance_laws.proofs.PathWeights.{turned-weight}
 use Rattle.distance_laws.proofs.NearestVertex.{nearest-shortest}
 use Rattle.distance.specs.Trail.{trailOf, CanGoBack}
@@ -20,7 +19,7 @@ use Rattle.distance.specs.Shortest.{unreached, SaysDistance, nowhere, th
 
 -- What stands in the array is the distance, where there is one.
 says-some : {x d : ℕ} {y : Distance} → SaysDistance x y → y ≡ some d → x ≡ d
-says-some (nowhere p q) t = none-some (sym q ∙ t)
+says-some (nowhere p q) t = absurd (Option·none-ne-some _ (sym q ∙ t))
 says-some (there p q) t = cc
 
 module _ {g : Graph} {root : ℕ} {dist last : List ℕ} (s : Shortest g root dist last) where

@@ -1,7 +1,7 @@
 -- The search, turn by turn: who waits, the invariant of those settled, and what stands beyond the vertices.
 -- Assumes nothing.
 use Prim.Native.Nat.{ℕ, suc, _+_, _-_, _≤_, _<_}
-use mathlib.Core.Path.{_≡_, refl, sym, _∙_, subst}
+use mathlib.Core.Path.{_≡_, sym, _∙_, subst}
 use mathlib.Core.Bool.{true, false}
 use mathlib.Core.List.{List}
 use mathlib.Core.Logic.{_⊎_, inl, inr}
@@ -10,8 +10,10 @@ use lib.ListN.{length, getD, drop, length-drop}
 use lib.Seq.{getD-drop, ext-getD, getD-set-other}
 use lib.Dec.{ltb}
 use borrow.Author.Tests.{ltb-true, ltb-false}
+use Rattle.lists.specs.Put.{OnlyFirst}
 use Rattle.lists.proofs.Member.{either}
-use Rattle.lists.proofs.Put.{only-first, only-first-length, only-first-rest}
+use Rattle.lists.proofs.OnlyFirst.{is-only-first, only-first-none, only-first-on}
+use Rattle.lists.proofs.Put.{only-first-length}
 use Rattle.edges.specs.Around.{arcHead, Arcs}
 use Rattle.waiting.specs.Waiting.{keyOf, vertexOf, nobody, LeastFrom, Blocks, KeyPut}
 use Rattle.distance.specs.Shortest.{unreached, Searchable, Searched}
@@ -28,40 +30,38 @@ pub record Searching (n : ℕ) (bounds arcs : List ℕ) (root : ℕ) (dist₀ la
   pub keyed : Keyed n dist wait
   pub state : Settling n bounds arcs root (Open n dist wait) (settledCount n dist wait) dist last
   pub nearest : LeastFrom low 0 16 least
-  pub dist-size : length dist ≡ length dist₀
-  pub last-size : length last ≡ length last₀
-  pub dist-rest : drop n dist ≡ drop n dist₀
-  pub last-rest : drop n last ≡ drop n last₀
+  pub dist-rest : OnlyFirst n dist₀ dist
+  pub last-rest : OnlyFirst n last₀ last
 
 module _ {n : ℕ} {bounds arcs : List ℕ} {root : ℕ} where
   -- The start.
   pub searching-start : {dist₀ last₀ dist none wait low : List ℕ} {least key : ℕ} → Searchable n bounds arcs root dist₀ last₀ → Started n root dist₀ dist
-      → length dist ≡ length dist₀ → length none ≡ 256 → ((v : ℕ) → v < 256 → getD none v 0 ≡ nobody) → key ≡ keyOf 0 root
+      → length none ≡ 256 → ((v : ℕ) → v < 256 → getD none v 0 ≡ nobody) → key ≡ keyOf 0 root
       → KeyPut root key none wait low → LeastFrom low 0 16 least → Searching n bounds arcs root dist last₀ least dist last₀ wait low
-  searching-start {dist = dist} {none = none} p s dist-size size all is put near = record {
-    ready = record { sound = p .sound; root-inside = p .root-inside; dist-room = omega (arith, p .dist-room); last-room = p .last-room };
+  searching-start {last₀ = last₀} {dist = dist} {none = none} p s size all is put near = record {
+    ready = record { sound = p .sound; root-inside = p .root-inside; dist-room = omega (arith, p .dist-room, only-first-length (s .rest)); last-room = p .last-room };
     blocks = put .blocks;
     keyed = rw (put .stored, is) (keyed-start dist none (p .sound .few) size (p .root-inside) all (s .root-zero));
     state = settling-none (rw (put .stored, is) (open-start dist none (p .sound .few) size (p .root-inside) (s .others))) (s .root-zero) (s .others);
     nearest = near;
-    dist-size = refl;
-    last-size = refl;
-    dist-rest = refl;
-    last-rest = refl;
+    dist-rest = only-first-none n dist;
+    last-rest = only-first-none n last₀;
   }
 
   -- What was searched since the start was searched since before it.
-  pub searched-since : {dist₀ last₀ dist d l : List ℕ} → n ≤ length dist₀ → Started n root dist₀ dist → length dist ≡ length dist₀
-      → Searched n bounds arcs root dist last₀ d l → Searched n bounds arcs root dist₀ last₀ d l
-  searched-since h s size r = record {
-    of-graph = r .of-graph;
-    dist-rest = only-first n h (only-first-length (r .dist-rest) ∙ size) (only-first-rest (r .dist-rest) (omega arith) ∙ s .rest);
-    last-rest = r .last-rest;
-  }
+  pub searched-since : {dist₀ last₀ dist d l : List ℕ} → Started n root dist₀ dist → Searched n bounds arcs root dist last₀ d l → Searched n bounds arcs root dist₀ last₀ d l
+  searched-since s r = record { of-graph = r .of-graph; dist-rest = only-first-on (s .rest) (r .dist-rest); last-rest = r .last-rest }
 
 -- The arcs of a vertex lead to vertices.
 arc-inside : {n : ℕ} {bounds arcs : List ℕ} → Arcs n bounds arcs → {u : ℕ} → u < n → (a : ℕ) → ArcAt bounds arcs u a → arcHead a < n
 arc-inside sound {u} h a i = rw (i .is) (sound .heads u (i .place) h (i .from) (i .to))
+
+-- An array that keeps its length and what stands from n on changed among the first n alone.
+kept-beyond : (n : ℕ) (a b : List ℕ) → length b ≡ length a → ((v : ℕ) → n ≤ v → getD b v 0 ≡ getD a v 0) → OnlyFirst n a b
+kept-beyond n a b size kept =
+    is-only-first n size
+    (ext-getD 0 (drop n b) (drop n a) (omega (arith, length-drop n b, length-drop n a))
+    (λ i h. getD-drop n b i 0 ∙ kept (n + i) (omega arith) ∙ sym (getD-drop n a i 0)))
 
 -- What stands beyond the vertices is kept.
 module _ {n : ℕ} {bounds arcs : List ℕ} (sound : Arcs n bounds arcs) {u : ℕ} {d l e m : List ℕ} (vertex : u < n)
@@ -73,16 +73,6 @@ module _ {n : ℕ} {bounds arcs : List ℕ} (sound : Arcs n bounds arcs) {u : �
         go : Becomes arcs (getD bounds u 0) (getD bounds (u + 1) 0) u v d l e m → (getD e v 0 ≡ getD d v 0) × (getD m v 0 ≡ getD l v 0)
         go (same x y) = (x, y)
         go (nearer {a = a} at head x less y) = absurd (omega (arith, arc-inside sound vertex a at))
-
-    dist-beyond : length e ≡ length d → drop n e ≡ drop n d
-    dist-beyond q =
-        ext-getD 0 (drop n e) (drop n d) (omega (arith, length-drop n e, length-drop n d))
-        (λ i h. getD-drop n e i 0 ∙ kept-outside (n + i) (omega arith) .0 ∙ sym (getD-drop n d i 0))
-
-    last-beyond : length m ≡ length l → drop n m ≡ drop n l
-    last-beyond q =
-        ext-getD 0 (drop n m) (drop n l) (omega (arith, length-drop n m, length-drop n l))
-        (λ i h. getD-drop n m i 0 ∙ kept-outside (n + i) (omega arith) .1 ∙ sym (getD-drop n l i 0))
 
 module _ {n : ℕ} {bounds arcs : List ℕ} {root : ℕ} {dist₀ last₀ : List ℕ} {least : ℕ} {dist last wait low : List ℕ}
     (k : Searching n bounds arcs root dist₀ last₀ least dist last wait low)
@@ -101,8 +91,8 @@ module _ {n : ℕ} {bounds arcs : List ℕ} {root : ℕ} {dist₀ last₀ : List
               λ g around q.
               traced-all around (omega (arith, k .ready .last-room)) (subst (λ x. Settled x bounds arcs root dist last) (sym q) settled)
               (omega (arith, k .ready .root-inside));
-          dist-rest = only-first n (omega (arith, k .dist-size, k .ready .dist-room)) (k .dist-size) (k .dist-rest);
-          last-rest = only-first n (omega (arith, k .last-size, k .ready .last-room)) (k .last-size) (k .last-rest);
+          dist-rest = k .dist-rest;
+          last-rest = k .last-rest;
         }
 
     -- The nearest that waits, u, waits no longer, and its arcs are relaxed.
@@ -222,8 +212,6 @@ module _ {n : ℕ} {bounds arcs : List ℕ} {root : ℕ} {dist₀ last₀ : List
                 keyed = keyed-after;
                 state = settling-more (k .state) (near .inside) open-now (near .reached) (near .lowest) was-open still-open not-open (x .relaxed) (omega (arith, settled-more));
                 nearest = nearest-now;
-                dist-size = dist-same ∙ k .dist-size;
-                last-size = last-same ∙ k .last-size;
-                dist-rest = dist-beyond (p .sound) (near .inside) (x .relaxed) dist-same ∙ k .dist-rest;
-                last-rest = last-beyond (p .sound) (near .inside) (x .relaxed) last-same ∙ k .last-rest;
+                dist-rest = only-first-on (k .dist-rest) (kept-beyond n dist e dist-same (λ v h. kept-outside (p .sound) (near .inside) (x .relaxed) v h .0));
+                last-rest = only-first-on (k .last-rest) (kept-beyond n last m last-same (λ v h. kept-outside (p .sound) (near .inside) (x .relaxed) v h .1));
               }

@@ -13,8 +13,9 @@ use lib.Dec.{ltb, eqb}
 use borrow.Author.Tests.{ltb-true, ltb-false, lt-ltb, le-ltb, eqb-true, eq-eqb}
 use Rattle.lists.specs.Count.{count}
 use Rattle.lists.proofs.AfterStore.{at-or-not, after-store}
+use Rattle.lists.proofs.Fewer.{count-bounded}
 use Rattle.lists.proofs.Member.{either}
-use Rattle.lists.proofs.Pigeonhole.{but, but-other, but-at, count-same, count-but, count-all, count-into}
+use Rattle.lists.proofs.Pigeonhole.{but, but-other, but-at, count-same, count-but}
 use Rattle.waiting.specs.Waiting.{keyOf, vertexOf, nobody, LeastFrom, Blocks}
 use Rattle.distance.specs.Shortest.{unreached}
 
@@ -178,8 +179,7 @@ settledCount n dist wait = count n (settledAt dist wait)
 -- No more are settled than there are vertices.
 pub count-most : (n : ℕ) (dist wait : List ℕ) → settledCount n dist wait ≤ n
 unfolding settledCount
-count-most n dist wait =
-    omega (arith, count-all n, count-into (settledAt dist wait) (λ i. i) n n (λ _. true) (λ i h p. (h, refl)) (λ i j h k p q e. e))
+count-most n dist wait = count-bounded n (settledAt dist wait)
 
 -- One more is settled: u, which was not, and of the others the same.
 pub count-more : {n u : ℕ} (dist wait dist-after wait-after : List ℕ) → u < n → settledAt dist wait u ≡ false → settledAt dist-after wait-after u ≡ true

@@ -3,7 +3,8 @@
 use Prim.Native.Nat.{ℕ, _≤_, _<_}
 use mathlib.Core.Path.{_≡_}
 use mathlib.Core.List.{List}
-use lib.ListN.{length, getD, drop}
+use lib.ListN.{length, getD}
+use Rattle.lists.specs.Put.{OnlyFirst}
 use Rattle.distance.specs.Shortest.{unreached}
 
 -- What the start of a search asks.
@@ -15,4 +16,4 @@ pub record Startable (n root : ℕ) (dist : List ℕ) : Type 0 where
 pub record Started (n root : ℕ) (dist dist-after : List ℕ) : Type 0 where
   pub root-zero : getD dist-after root 0 ≡ 0
   pub others : (v : ℕ) → v < n → (v ≡ root → ⊥) → getD dist-after v 0 ≡ unreached
-  pub rest : drop n dist-after ≡ drop n dist
+  pub rest : OnlyFirst n dist dist-after

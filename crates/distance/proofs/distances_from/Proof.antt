@@ -1,9 +1,11 @@
 -- `distance::distances_from` meets its contract. The loop's invariant: some vertices are settled, others wait, and `least` is the nearest's key.
 -- The measure is how many vertices are not settled. Assumes nothing.
 use Prim.Native.Nat.{_-_}
+use mathlib.Core.Path.{_∙_}
 use native.Mathlib.Omega.{arith}
 use lib.ListN.{length-replicate, getD-replicate}
 use borrow.Author.Needs.{needs}
+use Rattle.lists.proofs.Put.{only-first-length}
 use Rattle.waiting.specs.Waiting.{nobody}
 use Rattle.waiting.proofs.KeyBlocks.{blocks-none}
 use Rattle.distance.proofs.WhoWaits.{settledCount, key-low}
@@ -83,7 +85,7 @@ loop-holds c =
     let k = keyed c in
     let j = root-key k in
     let s = started j in
-    searching-start (entered s .pre) (s .start .ensures) (search needs) (length-replicate 256 nobody) (λ v h. getD-replicate 256 v nobody 0 h)
+    searching-start (entered s .pre) (s .start .ensures) (length-replicate 256 nobody) (λ v h. getD-replicate 256 v nobody 0 h)
     (j .key-of .ensures) (k .put-key .ensures) (c .least-from .ensures)
 
 vertex-of-requires : tie.Need-vertex-of-requires Inv-loop μ-loop
@@ -134,16 +136,19 @@ loop-again c =
     searching-more (v .before .before .loop .inv) (v .before .loop-test .taken) (v .vertex-of .ensures) (taken r .take-key .ensures) (r .relax-arcs .ensures)
     (search needs) (search needs) (c .least-from2 .ensures)
 
+-- The call that starts the search, from the loop.
+abbrev search-start : tie.At-loop Inv-loop μ-loop → tie.After-start Inv-loop μ-loop
+search-start c = started (root-key (keyed (c .before)))
+
 same-length : tie.Need-same-length Inv-loop μ-loop
-same-length c = search needs
+same-length c = only-first-length (c .before .loop .inv .dist-rest) ∙ only-first-length (search-start (c .before) .start .ensures .rest)
 
 same-length-2 : tie.Need-same-length-2 Inv-loop μ-loop
-same-length-2 c = search needs
+same-length-2 c = only-first-length (c .before .loop .inv .last-rest)
 
 returns : tie.Need-returns Inv-loop μ-loop
 returns c =
-    let k = started (root-key (keyed (c .before .before))) in
-    searched-since (entered k .pre .dist-room) (k .start .ensures) (search needs) (searched-all (c .before .loop .inv) (search needs))
+    searched-since (search-start (c .before) .start .ensures) (searched-all (c .before .loop .inv) (search needs))
 
 pub distances-from-spec : {M : Type 1} → statement M
 distances-from-spec =
