@@ -6,7 +6,7 @@ use mathlib.Core.Bool.{true, false}
 use mathlib.Core.List.{List, [], _∷_, _++_}
 use native.Mathlib.Omega.{arith}
 use lib.Seq.{slice, slice-empty}
-use Rattle.lists.proofs.Stores.{slice-join}
+use Rattle.lists.proofs.Slices.{slice-join}
 use Rattle.rules.specs.Split.{reachesWeight, partAt}
 use Rattle.bunches.specs.Store.{Store}
 use Rattle.bunches.specs.PiecePut.{Puttable, PiecePut}
@@ -40,7 +40,7 @@ module _ {v : ℕ} {b : Bunch} {stack : List ℕ} {s : Store} {p : Progress} (m 
           parts = partAt v (slice (b .end) (p .top) stack) ∷ [];
           settles = rw (put .top-is, put .weight-is) (alone test);
           added = put .added;
-          filled = omega (arith, put .added .pieces-more, put .used-is, m .piece-next);
+          edge-each = omega (arith, put .added .pieces-more, put .used-is, m .piece-next);
           fits = omega (arith, put .used-is, put .top-is);
           above = omega (arith, put .top-is, m .bunch-first);
           light = omega (arith, put .top-is, put .weight-is, m .bunch-light);
@@ -54,7 +54,7 @@ module _ {v : ℕ} {b : Bunch} {stack : List ℕ} {s : Store} {p : Progress} (m 
             parts = partAt v (slice (b .base) (b .end) stack ++ slice (b .end) (p .top) stack) ∷ [];
             settles = rw (put .top-is, put .weight-is, slice-empty (b .base) stack) (full small test);
             added = rw together at (put .added);
-            filled = omega (arith, put .added .pieces-more, put .used-is, m .piece-next, m .bunch-first);
+            edge-each = omega (arith, put .added .pieces-more, put .used-is, m .piece-next, m .bunch-first);
             fits = omega (arith, put .used-is, put .top-is);
             above = omega (arith, put .top-is);
             light = omega (arith, put .weight-is);
@@ -68,7 +68,7 @@ module _ {v : ℕ} {b : Bunch} {stack : List ℕ} {s : Store} {p : Progress} (m 
             parts = [];
             settles = rw (top-is, weight-is, together) (joins small test);
             added = rw same (added-none (m .sound));
-            filled = rw same (omega arith);
+            edge-each = rw same (omega arith);
             fits = omega (arith, ap (λ (x : Store). x .used) same, top-is);
             above = omega (arith, top-is, m .piece-next, m .bunch-first);
             light = omega (arith, top-is, weight-is, m .bunch-light, m .piece-light, m .piece-next, m .bunch-first);

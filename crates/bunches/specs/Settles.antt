@@ -8,7 +8,7 @@ use lib.ListN.{length}
 use lib.Seq.{slice}
 use Rattle.rules.specs.Cover.{Tree}
 use Rattle.rules.specs.Split.{reachesWeight, partAt}
-use Rattle.bunches.specs.Store.{Store, Sound, Filled, Added}
+use Rattle.bunches.specs.Store.{Store, Sound, EdgeEach, Added}
 use Rattle.bunches.specs.declared.Progress.{Progress}
 use Rattle.bunches.specs.declared.bunch.Bunch.{Bunch}
 
@@ -55,7 +55,7 @@ pub record ChildSettled (H v : ℕ) (b : Bunch) (stack : List ℕ) (s t : Store)
   pub settles : Settles H v (stacked stack (b .base) (b .end) (b .weight)) (stacked stack (b .end) (p .top) (p .weight))
       parts (stacked stack (b .base) (r .top) (r .weight))
   pub added : Added (length stack) parts s t
-  pub filled : Filled s t
+  pub edge-each : EdgeEach s t
   pub fits : t .used + r .top ≤ s .used + p .top
   pub above : b .base ≤ r .top
   pub light : WithinEdges (r .weight) (r .top - b .base)

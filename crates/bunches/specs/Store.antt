@@ -40,8 +40,8 @@ pub record Sound (n : ℕ) (s : Store) : Type 0 where
   pub bounded : Bounded (s .cuts) (s .pieces) (s .used)
 
 -- From s to t no more pieces were added than edges in them: each has an edge.
-abbrev pub Filled : Store → Store → Type 0
-Filled s t = t .pieces + s .used ≤ s .pieces + t .used
+abbrev pub EdgeEach : Store → Store → Type 0
+EdgeEach s t = t .pieces + s .used ≤ s .pieces + t .used
 
 -- From s to t these trees were added behind those that were held, and what the arrays have beyond them is as it was.
 pub record Added (n : ℕ) (trees : List Tree) (s t : Store) : Type 0 where

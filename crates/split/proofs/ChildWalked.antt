@@ -1,15 +1,15 @@
 -- The walk of a child list: at its end, past an arc whose head has a mark, and at a child. What is known before each call of the code,
 -- and what the walk has done after it.
 -- Assumes nothing.
-use Prim.Native.Nat.{ℕ, suc, _+_, _≤_, _<_}
+use Prim.Native.Nat.{ℕ, _+_, _≤_, _<_}
 use mathlib.Core.Path.{_≡_, refl, sym, ap, _∙_}
 use mathlib.Core.Bool.{true, false}
 use mathlib.Core.List.{List, [], _∷_, _++_}
-use native.Mathlib.Numerals.{add-one}
 use native.Mathlib.Omega.{arith}
 use lib.ListN.{length, take, drop, getD, set, length-set}
-use lib.Seq.{slice, slice-empty, slice-cons, take-take, take-set-le, getD-take, getD-set-same}
+use lib.Seq.{slice, slice-empty, take-take, take-set-le, getD-take, getD-set-same}
 use Rattle.lists.specs.Segments.{segment}
+use Rattle.lists.proofs.NextPlace.{slice-next}
 use Rattle.edges.specs.Around.{arcEdge, arcHead, arcWeight, Arcs}
 use Rattle.bunches.specs.Store.{Store, Added}
 use Rattle.bunches.specs.Settles.{Load, load, Settles, stacked, Settleable, ChildSettled}
@@ -51,7 +51,7 @@ module _ {n : ℕ} {bounds arcs : List ℕ} {H v base : ℕ} {s : State} {w : �
         parts = [];
         below = done;
         added = added-none (b .room .sound);
-        filled = omega arith;
+        edge-each = omega arith;
         kept = refl;
         bunched = b;
         fits = omega arith;
@@ -66,7 +66,7 @@ module _ {n : ℕ} {bounds arcs : List ℕ} {H v base : ℕ} {s : State} {w : �
         parts = x .parts;
         below = past q (x .below);
         added = x .added;
-        filled = x .filled;
+        edge-each = x .edge-each;
         kept = x .kept;
         bunched = x .bunched;
         fits = x .fits;
@@ -132,9 +132,8 @@ module _ {n base : ℕ} {s : State} {w : ℕ} (b : Bunched n base s w) {arc head
     -- the child's edge, and what is left below the child
     piece-is : slice (s .top) (t .top) (t .stack) ≡ edge ∷ slice (s .top + 1) (t .top) (t .stack)
     piece-is =
-        slice-cons (s .top) (t .top) (t .stack) 0 (omega (arith, inner .bunched .above)) (omega (arith, room .fits, room .stack-length))
-        ∙ ap (λ (x : ℕ). x ∷ slice (suc (s .top)) (t .top) (t .stack)) edge-kept
-        ∙ ap (λ (k : ℕ). edge ∷ slice k (t .top) (t .stack)) (sym (add-one (s .top)))
+        slice-next (t .stack) (s .top) (t .top) (omega (arith, inner .bunched .above)) (omega (arith, room .fits, room .stack-length))
+        ∙ ap (λ (x : ℕ). x ∷ slice (s .top + 1) (t .top) (t .stack)) edge-kept
 
     -- the piece can meet the bunch
     pub child-settleable : {v : ℕ} → v < n → arcWeight arc ≤ 1000000 → {p : Progress} → p .top ≡ t .top → p .weight ≡ arcWeight arc + y
@@ -193,7 +192,7 @@ module _ {n base : ℕ} {s : State} {w : ℕ} (b : Bunched n base s w) {arc head
             parts = inner .parts ++ (settled .parts ++ later .parts);
             below = child (rw head-is at (c .new)) (rw head-is at first) met (later .below);
             added = added-on (inner .added) (added-on own-added (later .added));
-            filled = omega (arith, inner .filled, settled .filled, later .filled);
+            edge-each = omega (arith, inner .edge-each, settled .edge-each, later .edge-each);
             kept =
                 later .kept
                 ∙ sym (take-take base (s .top) (t .stack) (b .above))

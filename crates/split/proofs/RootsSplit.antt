@@ -1,16 +1,16 @@
 -- The trees of the roots, one after the other: what is known before each root, and at the end.
 -- Assumes nothing.
-use Prim.Native.Nat.{ℕ, suc, _+_, _-_, _≤_, _<_}
+use Prim.Native.Nat.{ℕ, _+_, _-_, _≤_, _<_}
 use mathlib.Core.Path.{_≡_, sym, ap, _∙_}
 use mathlib.Core.List.{List, [], _∷_, _++_, map}
 use mathlib.Core.Logic.{_⊎_, inr, ⊎-elim}
-use native.Mathlib.Numerals.{add-one}
 use native.Mathlib.Omega.{arith}
 use lib.ListN.{length, drop, getD, set, length-set}
-use lib.Seq.{slice, slice-empty, drop-cons, append-snoc}
+use lib.Seq.{slice, slice-empty, append-snoc}
 use Rattle.lists.specs.Put.{PutTo}
 use Rattle.lists.specs.Segments.{segment}
 use Rattle.lists.proofs.Put.{put-more, only-first-length}
+use Rattle.lists.proofs.NextPlace.{rest-next}
 use Rattle.graph.specs.Graph.{Graph}
 use Rattle.rules.specs.Cover.{Tree}
 use Rattle.rules.specs.Grow.{Rooted, Grown, growNode, growFrom, grow}
@@ -112,13 +112,13 @@ module _ {n : ℕ} {bounds arcs roots : List ℕ} {H : ℕ} {a : Lent} {j : ℕ}
           on-stack = omega arith;
           fits = omega (arith, room .fits);
           sound = rw n-is (room .sound);
-          starts-room = omega (arith, starts-same, k .starts-spare, walked .filled);
-          cuts-room = omega (arith, cuts-same, k .cuts-spare, walked .filled);
+          starts-room = omega (arith, starts-same, k .starts-spare, walked .edge-each);
+          cuts-room = omega (arith, cuts-same, k .cuts-spare, walked .edge-each);
         }
 
     -- the number of its leftover is in range
     pub left-number : length roots ≤ 256 → t .store .pieces < 65536
-    left-number h = omega (arith, k .few, walked .filled, room .fits, room .sound .few)
+    left-number h = omega (arith, k .few, walked .edge-each, room .fits, room .sound .few)
 
     -- the walk split its tree, with what is left from the stack's first place on
     tree-below : SplitBelow bounds arcs H r (segment bounds arcs r) (passing r (s .marks)) (load [] 0) (walked .parts) (stacked (t .stack) 0 (t .top) z) (t .marks)
@@ -147,9 +147,7 @@ module _ {n : ℕ} {bounds arcs roots : List ℕ} {H : ℕ} {a : Lent} {j : ℕ}
           let tree : Rooted = record { root = r; branches = grown .branches } in
           let pieces : split g H tree ≡ record { parts = walked .parts; left = slice 0 (t .top) (t .stack) } = unfold split in x .splits in
           let with-left : withLeft tree (split g H tree) ≡ walked .parts ++ (left ∷ []) = with-left-are tree (split g H tree) pieces in
-          let next : drop j roots ≡ r ∷ drop (j + 1) roots =
-          drop-cons roots j 0 more ∙ ap (λ (i : ℕ). i ∷ drop (suc j) roots) (sym r-is) ∙ ap (λ (i : ℕ). r ∷ drop i roots) (sym (add-one j))
-          in
+          let next : drop j roots ≡ r ∷ drop (j + 1) roots = rest-next roots j more ∙ ap (λ (i : ℕ). i ∷ drop (j + 1) roots) (sym r-is) in
           let rest : growFrom g edges (drop j roots) (b .passed) ≡ tree ∷ growFrom g edges (drop (j + 1) roots) (grown .passed) = grow-next g edges next (b .passed) in
           let number : t .store .pieces ≡ 0 + (length (piecesFor g H (b .trees)) + length (split g H tree .parts)) =
           omega (arith, walked .added .pieces-more, k .added .pieces-more, ap length (b .pieces), ap (λ (y : Pieces). length (y .parts)) pieces)
@@ -187,9 +185,9 @@ module _ {n : ℕ} {bounds arcs roots : List ℕ} {H : ℕ} {a : Lent} {j : ℕ}
                   fits = omega (arith, room .fits);
                   sound = tree-added .sound;
                 };
-            starts-spare = omega (arith, only-first-length (tree-added .starts-rest), k .starts-spare, walked .filled, put .top-is);
-            cuts-spare = omega (arith, only-first-length (tree-added .cuts-rest), k .cuts-spare, walked .filled, put .top-is);
-            few = omega (arith, k .few, walked .filled, put .top-is);
+            starts-spare = omega (arith, only-first-length (tree-added .starts-rest), k .starts-spare, walked .edge-each, put .top-is);
+            cuts-spare = omega (arith, only-first-length (tree-added .cuts-rest), k .cuts-spare, walked .edge-each, put .top-is);
+            few = omega (arith, k .few, walked .edge-each, put .top-is);
             used-few =
                 inr
                 (⊎-elim

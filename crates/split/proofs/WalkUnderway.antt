@@ -1,14 +1,14 @@
 -- The child-list walk under way: what is known each time before the next arc is looked at.
 -- Assumes nothing.
 use Prim.Native.Nat.{ℕ, _+_, _≤_, _<_}
-use mathlib.Core.Path.{_≡_, sym, ap, _∙_}
+use mathlib.Core.Path.{_≡_}
 use mathlib.Core.Bool.{false}
-use mathlib.Core.List.{List, _∷_}
-use native.Mathlib.Numerals.{add-one}
+use mathlib.Core.List.{List}
 use native.Mathlib.Omega.{arith}
 use lib.ListN.{length, getD}
-use lib.Seq.{slice, slice-cons, slice-empty}
+use lib.Seq.{slice, slice-empty}
 use Rattle.lists.specs.Segments.{segment}
+use Rattle.lists.proofs.NextPlace.{slice-next}
 use Rattle.edges.specs.Around.{arcHead, arcWeight}
 use Rattle.bunches.specs.Store.{Store}
 use Rattle.bunches.specs.Settles.{ChildSettled}
@@ -26,10 +26,6 @@ pub record Underway (n : ℕ) (bounds arcs : List ℕ) (H v base : ℕ) (first :
   pub fewer : unvisited n (s .marks) ≤ unvisited n (first .marks)
   pub rest : (t : State) (z : ℕ) → ChildrenWalked n bounds arcs H v base (slice i to arcs) s w t z
       → ChildrenWalked n bounds arcs H v base (segment bounds arcs v) first 0 t z
-
--- The next arc, and those after it.
-pub next-arc : (arcs : List ℕ) (i to : ℕ) → i < to → to ≤ length arcs → slice i to arcs ≡ getD arcs i 0 ∷ slice (i + 1) to arcs
-next-arc arcs i to more all = slice-cons i to arcs 0 more all ∙ ap (λ (k : ℕ). getD arcs i 0 ∷ slice k to arcs) (sym (add-one i))
 
 -- It begins with all arcs.
 pub underway-first : {n : ℕ} {bounds arcs : List ℕ} {H v : ℕ} {first : State} → HasRoom n first → getD bounds v 0 ≤ getD bounds (v + 1) 0
@@ -62,7 +58,7 @@ module _ {n : ℕ} {bounds arcs : List ℕ} {H v base : ℕ} {first : State} {i 
           onward = omega (arith, u .onward);
           within = omega arith;
           fewer = u .fewer;
-          rest = λ t z x. u .rest t z (rw (next-arc arcs i to more all) (walk-past (rw head-is at old) x));
+          rest = λ t z x. u .rest t z (rw (slice-next arcs i to more all) (walk-past (rw head-is at old) x));
         }
 
     -- and behind a child that was walked and settled.
@@ -77,5 +73,5 @@ module _ {n : ℕ} {bounds arcs : List ℕ} {H v base : ℕ} {first : State} {i 
           onward = omega (arith, u .onward);
           within = omega arith;
           fewer = omega (arith, u .fewer, after-fewer (u .bunched) c inner top-is weight-is settled);
-          rest = λ last z x. u .rest last z (rw (next-arc arcs i to more all) (walk-child (u .bunched) c inner top-is weight-is settled x));
+          rest = λ last z x. u .rest last z (rw (slice-next arcs i to more all) (walk-child (u .bunched) c inner top-is weight-is settled x));
         }

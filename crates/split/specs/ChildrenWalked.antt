@@ -7,7 +7,7 @@ use lib.ListN.{length, take}
 use Rattle.lists.specs.Segments.{segment}
 use Rattle.rules.specs.Cover.{Tree}
 use Rattle.edges.specs.Around.{Arcs}
-use Rattle.bunches.specs.Store.{Store, storeOf, Sound, Filled, Added}
+use Rattle.bunches.specs.Store.{Store, storeOf, Sound, EdgeEach, Added}
 use Rattle.bunches.specs.Settles.{stacked, WithinEdges}
 use Rattle.bunches.specs.declared.Progress.{Progress}
 use Rattle.split.specs.SplitBelow.{unvisited, SplitBelow}
@@ -50,7 +50,7 @@ pub record ChildrenWalked (n : ℕ) (bounds arcs : List ℕ) (H v base : ℕ) (r
   pub below : SplitBelow bounds arcs H v rest (s .marks) (stacked (s .stack) base (s .top) w)
       parts (stacked (t .stack) base (t .top) z) (t .marks)
   pub added : Added n parts (s .store) (t .store)
-  pub filled : Filled (s .store) (t .store)
+  pub edge-each : EdgeEach (s .store) (t .store)
   pub kept : take base (t .stack) ≡ take base (s .stack)
   pub bunched : Bunched n base t z
   pub fits : t .store .used + t .top + unvisited n (t .marks) ≤ s .store .used + s .top + unvisited n (s .marks)

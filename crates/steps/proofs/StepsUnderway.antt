@@ -10,6 +10,7 @@ use lib.Seq.{slice, slice-empty, append-snoc}
 use Rattle.lists.specs.Put.{PutTo}
 use Rattle.lists.specs.Segments.{segment}
 use Rattle.lists.proofs.Put.{put-length, put-behind, put-more, put-to-none}
+use Rattle.lists.proofs.NextPlace.{slice-next}
 use Rattle.edges.specs.Around.{arcEdge, arcHead, arcWeight}
 use Rattle.split.specs.SplitBelow.{unmarked, unvisited, passing}
 use Rattle.steps.specs.Steps.{stepOf}
@@ -17,7 +18,6 @@ use Rattle.steps.specs.StepsBelow.{StepsBelow, steps-done, steps-past, s
 use Rattle.steps.specs.WalkPut.{StepsAsked, StepsPut}
 use Rattle.split.proofs.Unvisited.{unvisited-less}
 use Rattle.split.proofs.ChildWalked.{IsChild}
-use Rattle.split.proofs.WalkUnderway.{next-arc}
 
 -- The writing began with the marks `first` at the place `at`, and has come to the place `next`: whatever steps the arcs from i up to `to` give,
 -- they stand behind those that are written.
@@ -73,7 +73,7 @@ module _ {bounds arcs : List ℕ} {v at : ℕ} {first walk₀ : List ℕ} {i to 
           steps = u .steps;
           put = u .put;
           fits = u .fits;
-          rest = λ later last x. u .rest later last (rw (next-arc arcs i to more all) (steps-past (rw head-is at old) x));
+          rest = λ later last x. u .rest later last (rw (slice-next arcs i to more all) (steps-past (rw head-is at old) x));
         }
 
     -- and at a child first its own steps are written.
@@ -124,6 +124,6 @@ module _ {bounds arcs : List ℕ} {v at : ℕ} {first walk₀ : List ℕ} {i to 
                   let h : head < length marks = omega (arith, u .size, c .inside) in
                   rw (append-snoc (u .steps ++ below .steps) step later, append-assoc (u .steps) (below .steps))
                   (u .rest (below .steps ++ (step ∷ later)) last
-                  (rw (next-arc arcs i to more all, step-is, head-is)
+                  (rw (slice-next arcs i to more all, step-is, head-is)
                   (steps-child (rw head-is at (c .new)) (rw head-is at h) (rw head-is at (below .below)) x)));
             }

@@ -10,7 +10,7 @@ use lib.ListN.{length, getD, set}
 use lib.Seq.{slice, slice-cons, slice-empty}
 use Rattle.lists.specs.Put.{PutTo}
 use Rattle.lists.proofs.Put.{put-length, put-to-none, put-more}
-use Rattle.lists.proofs.Stores.{slice-join}
+use Rattle.lists.proofs.Slices.{slice-join}
 use Rattle.bunches.proofs.piece.copy_edges.Statement.{statement}
 use Rattle.bunches.proofs.piece.copy_edges.Tie as tie
 
