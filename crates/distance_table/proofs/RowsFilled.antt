@@ -11,7 +11,7 @@ use Rattle.lists.specs.Count.{below}
 use Rattle.lists.proofs.AfterStore.{at-or-not}
 use Rattle.lists.proofs.Put.{only-first-length}
 use Rattle.lists.proofs.SegmentSizes.{slice-taken}
-use Rattle.lists.proofs.Stores.{slice-same}
+use Rattle.lists.proofs.Slices.{slice-same}
 use Rattle.graph.specs.Graph.{Graph, edgeCount}
 use Rattle.rules.specs.Distance.{distances}
 use Rattle.edges.specs.Around.{Around}

@@ -10,8 +10,7 @@ use Rattle.lists.specs.Count as Count
 use Rattle.lists.specs.Lists.{all}
 use Rattle.lists.proofs.AfterStore.{at-or-not}
 use Rattle.lists.proofs.Below.{of-from, in-from, of-below, in-below}
-use Rattle.lists.proofs.Every.{each-all}
-use Rattle.lists.proofs.AllBelow.{no-and, one-fails}
+use Rattle.lists.proofs.Every.{no-and, each-all, one-fails}
 use Rattle.lists.proofs.Member.{in-map, of-map}
 use Rattle.graph.specs.Graph.{Graph, oneEnd}
 use Rattle.rules.specs.Cover.{Tree}

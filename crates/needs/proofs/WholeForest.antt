@@ -13,7 +13,7 @@ use Rattle.rules.specs.Forest.{keep, forest}
 use Rattle.rules.specs.UnrootedTrial.{needed}
 use Rattle.forest_laws.proofs.Roots.{together-none}
 use Rattle.forest_laws.proofs.Loops.{AllKept, whole-all-kept, kept-whole}
-use Rattle.forest_laws.proofs.FewEdges.{kept-few}
+use Rattle.forest_laws.proofs.FewForest.{kept-few}
 use Rattle.pieces.specs.Whole.{WholeKept, LightForest}
 use Rattle.needs.specs.Given.{ForestKept}
 use Rattle.needs.specs.History.{neededBy, HistoryKept, ReadAsked}
@@ -34,7 +34,7 @@ module _ {b kept : List ℕ} (f : ForestKept b kept) where
       whole-all-kept apart kept (ap (keep g apart) is ∙ kept-whole g apart (ordered g) ∙ sym is)
 
   pub kept-fewer : length kept < graphOf b .vertices
-  kept-fewer = let is : kept ≡ keep (graphOf b) apart (ordered (graphOf b)) = kept-apart in rw is (kept-few (f .graph .valid) (ordered (graphOf b)))
+  kept-fewer = let is : kept ≡ keep (graphOf b) apart (ordered (graphOf b)) = kept-apart in rw is (kept-few (f .graph .valid) apart (ordered (graphOf b)))
 
   -- The front within the limit is the forest there,
   module _ {limit r : ℕ} (l : LightForest (graphOf b) kept limit r) where

@@ -4,7 +4,7 @@ use Prim.Native.Nat.{ℕ, _≤_, _<_}
 use mathlib.Core.Path.{_≡_, refl, sym, _∙_}
 use mathlib.Core.Bool.{Bool, true}
 use mathlib.Core.List.{List, [], _∷_, List·Memᴰ·head, List·Memᴰ·tail}
-use mathlib.Core.Option.{some, none}
+use mathlib.Core.Option.{some, none, Option·some-ne-none}
 use native.Mathlib.Omega.{arith}
 use lib.ListN.{length}
 use lib.Dec.{leb}
@@ -13,7 +13,7 @@ use Rattle.graph.specs.Graph.{Graph}
 use Rattle.graph.specs.Bytes.{graphOf}
 use Rattle.graph.specs.Fault.{Fault, faultIf, firstFault, refusedOr}
 use Rattle.graph.specs.Valid.{Valid}
-use Rattle.graph.proofs.Faults.{refuses, quiet-each}
+use Rattle.graph.proofs.Faults.{quiet-each}
 use Rattle.graph_check.specs.Check as sheet
 use Rattle.rules.specs.Cover as cover
 use Rattle.rules.specs.Reply as rules
@@ -74,7 +74,7 @@ module _ (asked : Asked) (kind : Kind) (k : ℕ) (b : List ℕ) where
       record {
         choices = record { assignment = []; paths = []; marks = [] };
         rule = rw q (record { same = s; buffer = refl });
-        good = λ e. absurd (refuses n (sym q ∙ e));
+        good = λ e. absurd (Option·some-ne-none n (sym q ∙ e));
       }
 
   -- The graph's bytes, 11 to 16,

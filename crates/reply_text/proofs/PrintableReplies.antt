@@ -4,14 +4,14 @@ use Prim.Native.Nat.{ℕ, _≤_}
 use mathlib.Core.Path.{_≡_, refl, sym, subst, _∙_}
 use mathlib.Core.Bool.{Bool, true, false}
 use mathlib.Core.List.{List, [], _∷_, map, List·Memᴰ·head, List·Memᴰ·tail}
-use mathlib.Core.Option.{some, none}
+use mathlib.Core.Option.{some, none, Option·none-ne-some}
 use native.Mathlib.Omega.{arith}
 use Rattle.graph.specs.Graph.{Edge}
 use Rattle.graph.specs.Bytes.{graphOf}
 use Rattle.graph.specs.Fault.{Fault, faultIf, firstFault, refusedOr}
 use Rattle.graph_check.specs.Check.{yes, number, edgeFault, edgesFault, headFault, checkOf}
 use Rattle.graph.specs.Valid.{IsGraph}
-use Rattle.graph.proofs.Faults.{refuses, quiet-each}
+use Rattle.graph.proofs.Faults.{quiet-each}
 use Rattle.rules.specs.Cover.{Crews}
 use Rattle.rules.specs.Reply.{Reply, refused}
 use Rattle.rules.specs.RootedTrial.{Choices}
@@ -28,12 +28,12 @@ Numbered f = (k : ℕ) → f ≡ some k → 11 ≤ k
 if-numbered : (test : Bool) (n : ℕ) → 11 ≤ n → Numbered (faultIf test n)
 unfolding faultIf
 if-numbered true n h k q = let e : n ≡ k = cc in omega arith
-if-numbered false n h k q = absurd (refuses k (sym q))
+if-numbered false n h k q = absurd (Option·none-ne-some k q)
 
 -- The first of none, and of one more.
 first-none : Numbered (firstFault [])
 unfolding firstFault
-first-none k q = absurd (refuses k (sym q))
+first-none k q = absurd (Option·none-ne-some k q)
 
 first-next : (f : Fault) (fs : List Fault) → Numbered f → Numbered (firstFault fs) → Numbered (firstFault (f ∷ fs))
 unfolding firstFault

@@ -11,8 +11,8 @@ use Rattle.lists.specs.Put.{PutTo}
 use Rattle.graph.specs.Graph.{Graph}
 use Rattle.graph.specs.Bytes.{graphOf}
 use Rattle.graph_check.specs.Check.{numberOf}
-use Rattle.graph_check.specs.declared.Fault.{Fault}
-use Rattle.graph_check.specs.declared.Fault.the-variants as fault
+use Rattle.graph_check.specs.declared.Cause.{Cause}
+use Rattle.graph_check.specs.declared.Cause.the-variants as cause
 use Rattle.rules.specs.Cover.{Tree}
 use Rattle.rules.specs.Reply as rules
 use Rattle.pieces.specs.declared.reply.Reply.{Reply}
@@ -61,11 +61,11 @@ reply-written b q text p =
     record { text = λ ruled earlier e h. rw (said-text b e h ∙ ap (λ y. textSaid (graphOf b) (treesOf ruled) (says y)) q ∙ text (treesOf ruled)) p }
 
 -- The number of a fault in the graph's bytes is a refusal's.
-pub fault-refused : (g : Graph) (trees : List Tree) (f : Fault) → textSaid g trees (said (numberOf f) []) ≡ textOf g (rules.refused (numberOf f))
+pub fault-refused : (g : Graph) (trees : List Tree) (f : Cause) → textSaid g trees (said (numberOf f) []) ≡ textOf g (rules.refused (numberOf f))
 unfolding textOf textSaid
-fault-refused g trees fault.Length = refl
-fault-refused g trees fault.Vertices = refl
-fault-refused g trees fault.Edges = refl
-fault-refused g trees fault.End = refl
-fault-refused g trees fault.Loop = refl
-fault-refused g trees fault.Weight = refl
+fault-refused g trees cause.Length = refl
+fault-refused g trees cause.Vertices = refl
+fault-refused g trees cause.Edges = refl
+fault-refused g trees cause.End = refl
+fault-refused g trees cause.Loop = refl
+fault-refused g trees cause.Weight = refl

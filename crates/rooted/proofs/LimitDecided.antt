@@ -19,7 +19,7 @@ use Rattle.rules.specs.Order.{ordered}
 use Rattle.rules.specs.Labels.{together, mergeAll}
 use Rattle.rules.specs.Forest.{keep, forest, unjoined}
 use Rattle.rules.specs.RootedTrial.{unjoinedAt, isAssignable}
-use Rattle.rules.specs.Search.{nobody, accepts, noCover}
+use Rattle.rules.specs.Search.{noVertex, accepts, noCover}
 use Rattle.forest_laws.proofs.Keeping.{kept-merges}
 use Rattle.planner_laws.proofs.RootedPrepared.{forest-unjoined, forest-is-whole}
 use Rattle.forest.specs.Lowest.{vertexIn}
@@ -41,11 +41,11 @@ stop-asked graph inside some-root =
       roots-inside = inside-each inside;
     }
 
--- Where there is nobody, there is none.
-nobody-none : (o : Option ℕ) → not (nobody o) ≡ false → o ≡ none
-unfolding nobody
-nobody-none none q = refl
-nobody-none (some v) q = absurd (true≢false q)
+-- Where there is no such vertex, there is none.
+no-vertex-none : (o : Option ℕ) → not (noVertex o) ≡ false → o ≡ none
+unfolding noVertex
+no-vertex-none none q = refl
+no-vertex-none (some v) q = absurd (true≢false q)
 
 module _ (g : Graph) (roots : List ℕ) {kept : List ℕ} (whole : kept ≡ keep g (together roots) (ordered g)) where
   -- The whole forest leaves the same vertex joined to no root as all edges do.
@@ -53,18 +53,18 @@ module _ (g : Graph) (roots : List ℕ) {kept : List ℕ} (whole : kept ≡ keep
   same-unjoined = ap (λ edges. unjoined g roots (mergeAll g (together roots) edges)) whole ∙ ap (unjoined g roots) (kept-merges g (together roots) (ordered g))
 
   module _ {before after : List ℕ} {r : Found} (s : StopFound g roots kept before after r) where
-    is-found : not (nobody (vertexIn r)) ≡ noCover g (rooted roots)
+    is-found : not (noVertex (vertexIn r)) ≡ noCover g (rooted roots)
     unfolding noCover
-    is-found = ap (λ o. not (nobody o)) (s .is ∙ same-unjoined)
+    is-found = ap (λ o. not (noVertex o)) (s .is ∙ same-unjoined)
 
     -- There is no cover where a vertex was found,
     pub found-no-cover : {v : ℕ} → r ≡ At v → true ≡ noCover g (rooted roots)
-    unfolding nobody
+    unfolding noVertex
     found-no-cover q = rw q at is-found
 
     -- and some where none was.
     pub nothing-some-cover : r ≡ Nothing → false ≡ noCover g (rooted roots)
-    unfolding nobody
+    unfolding noVertex
     nothing-some-cover q = rw q at is-found
 
   module _ {limit r : ℕ} (light : LightForest g kept limit r) where
@@ -86,7 +86,7 @@ module _ (g : Graph) (roots : List ℕ) {kept : List ℕ} (whole : kept ≡ keep
         sym light-unjoined
         ∙ ap (λ edges. unjoined g roots (mergeAll g (together roots) edges)) (take-all r kept all)
         ∙ same-unjoined
-        ∙ nobody-none (unjoined g roots (mergeAll g (together roots) (ordered g))) some-cover
+        ∙ no-vertex-none (unjoined g roots (mergeAll g (together roots) (ordered g))) some-cover
 
     -- Where every vertex is joined to a root, no edge of the whole forest is above the limit.
     joined-light : Valid g → unjoinedAt g roots limit ≡ none → length kept ≤ r
@@ -96,14 +96,14 @@ module _ (g : Graph) (roots : List ℕ) {kept : List ℕ} (whole : kept ≡ keep
 
     -- So a limit below an edge of the whole forest is not accepted.
     pub heavy-refused : Valid g → r < length kept → false ≡ accepts g (rooted roots) limit
-    unfolding accepts nobody
+    unfolding accepts noVertex
     heavy-refused valid above = go (unjoinedAt g roots limit) refl
       where
-        go : (o : Option ℕ) → unjoinedAt g roots limit ≡ o → false ≡ nobody (unjoinedAt g roots limit) && isAssignable g roots limit
+        go : (o : Option ℕ) → unjoinedAt g roots limit ≡ o → false ≡ noVertex (unjoinedAt g roots limit) && isAssignable g roots limit
         go none q = absurd (omega (arith, joined-light valid q))
         go (some v) q = rw q refl
 
 -- Where every vertex is joined to a root, the limit is accepted exactly where the parts can be assigned.
 pub joined-accepts : (g : Graph) (roots : List ℕ) (limit : ℕ) → unjoinedAt g roots limit ≡ none → isAssignable g roots limit ≡ accepts g (rooted roots) limit
-unfolding accepts nobody
+unfolding accepts noVertex
 joined-accepts g roots limit q = rw q refl

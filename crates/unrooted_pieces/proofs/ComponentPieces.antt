@@ -18,7 +18,7 @@ use Rattle.lists.proofs.FlatMap.{flat-map-next}
 use Rattle.lists.proofs.Put.{put-head, put-rest, put-length}
 use Rattle.lists.proofs.SegmentSizes.{slice-taken, segment-length}
 use Rattle.lists.proofs.Sorting.{rise-length}
-use Rattle.lists.proofs.Stores.{slice-same}
+use Rattle.lists.proofs.Slices.{slice-same}
 use Rattle.graph.specs.Graph.{Graph, oneEnd, otherEnd}
 use Rattle.rules.specs.Split.{smallestEdge}
 use Rattle.rules.specs.Distance.{treeVertices}
