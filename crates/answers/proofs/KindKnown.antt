@@ -5,9 +5,9 @@ use mathlib.Core.Path.{_≡_}
 use mathlib.Core.List.{List}
 use Rattle.cover.specs.declared.crews.Kind.{Kind}
 use Rattle.cover.specs.declared.crews.Kind.the-variants.{Rooted, Unrooted}
-use Rattle.rooted.specs.Answer as rooted-answer
+use Rattle.rooted_answer.specs.Answer.{RootedAnswerAsked}
 use Rattle.unrooted.specs.Answer as unrooted
-use Rattle.search.specs.Crews.{CrewsReady}
+use Rattle.prepare.specs.Crews.{CrewsReady}
 use Rattle.answers.specs.Answers.{ForestReady, LimitAsked}
 
 -- Whether no cover exists.
@@ -22,7 +22,7 @@ forest-ready r =
 -- An answer at a limit.
 module _ {kind : Kind} {k limit room : ℕ} {b roots order kept bounds arcs table lasts total until : List ℕ}
     (a : LimitAsked kind k b roots limit order kept bounds arcs table lasts total until room) where
-  pub rooted-answer-asked : kind ≡ Rooted → rooted-answer.AnswerAsked b roots limit order kept bounds arcs table lasts room
+  pub rooted-answer-asked : kind ≡ Rooted → RootedAnswerAsked b roots limit order kept bounds arcs table lasts room
   rooted-answer-asked q =
       record {
         prepared =

@@ -8,10 +8,10 @@ use Rattle.rules.specs.Order.{ordered}
 use Rattle.cover.specs.declared.crews.Kind.{Kind}
 use Rattle.cover.specs.declared.crews.Kind.the-variants.{Rooted, Unrooted}
 use Rattle.distance_table.specs.Tabled.{LastsTabled}
-use Rattle.rooted.specs.Prepared.{WholeAround}
-use Rattle.rooted.specs.Decide.{NoCoverAsked}
+use Rattle.rooted_state.specs.Prepared.{WholeAround}
+use Rattle.rooted_decide.specs.Decide.{NoCoverAsked}
 use Rattle.needs.specs.Given.{ForestKept}
-use Rattle.search.specs.Crews.{CrewsReady}
+use Rattle.prepare.specs.Crews.{CrewsReady}
 
 -- The whole forest, for crews of each kind from where they begin.
 pub record ForestReady (kind : Kind) (b roots kept : List ℕ) : Type 0 where

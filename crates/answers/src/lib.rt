@@ -1,8 +1,8 @@
 // Whether there is no cover at all, and the answer at a limit, by crews of either kind.
 use cover::crews::Kind;
 use pieces::reply::Reply;
-use rooted::answer::answer_rooted;
-use rooted::decide::no_cover_rooted;
+use rooted_answer::answer_rooted;
+use rooted_decide::no_cover_rooted;
 use unrooted::answer::answer_unrooted;
 use unrooted::answer::no_cover_unrooted;
 ghost use mathlib.Core.Path.{_≡_};
@@ -10,7 +10,7 @@ ghost use lib.ListN.{length};
 ghost use Rattle.graph.specs.Bytes.{graphOf};
 ghost use Rattle.rules.specs.Search.{noCover};
 ghost use Rattle.pieces.specs.Replies.{Answers};
-ghost use Rattle.search.specs.Crews.{crewsWith};
+ghost use Rattle.prepare.specs.Crews.{crewsWith};
 ghost use Rattle.answers.specs.Answers.{ForestReady, LimitAsked};
 
 // Whether no cover by the crews exists at all.

@@ -33,7 +33,7 @@ use Rattle.pieces.specs.declared.reply.Reply.the-variants.{NoCover}
 use Rattle.pieces.specs.Replies.{Answers}
 use Rattle.asking.specs.declared.ask.Asked.{Asked}
 use Rattle.asking.specs.declared.ask.Asked.the-variants.{At, Best}
-use Rattle.search.specs.Crews.{crewsWith}
+use Rattle.prepare.specs.Crews.{crewsWith}
 use Rattle.asking.specs.Asking.{Answered, RootedAsked, UnrootedAsked, CrewsAsked}
 
 -- Good choices exist for crews of either kind.

@@ -6,7 +6,7 @@ use mathlib.Core.List.{List, []}
 use Rattle.graph.specs.Bytes.{graphOf}
 use Rattle.rules.specs.Order.{ordered}
 use Rattle.cover.specs.declared.crews.Kind.the-variants.{Rooted, Unrooted}
-use Rattle.rooted.specs.Prepared.{Prepared}
+use Rattle.rooted_state.specs.Prepared.{Prepared}
 use Rattle.unrooted.specs.Answer as unrooted
 use Rattle.search.proofs.KindDecides.{one-kind}
 use Rattle.prepare.specs.Preparing.{RootsGiven}

@@ -11,7 +11,7 @@ ghost use lib.ListN.{length};
 ghost use Rattle.graph.specs.Bytes.{graphOf};
 ghost use Rattle.cover.specs.Crews.{crewsOf};
 ghost use Rattle.asking.specs.declared.ask.Asked.the-variants.{Best};
-ghost use Rattle.search.specs.Crews.{crewsWith};
+ghost use Rattle.prepare.specs.Crews.{crewsWith};
 ghost use Rattle.answers.specs.Answers.{AnswerAsked};
 ghost use Rattle.asking.specs.Asking.{Answered, AskedReady, CrewsAsked};
 

@@ -12,7 +12,7 @@ use Rattle.rules.specs.Order.{ordered}
 use Rattle.rules.specs.Labels.{together}
 use Rattle.rules.specs.Forest.{keep}
 use Rattle.order.specs.Order.{RoomForOrder}
-use Rattle.rooted.specs.Prepared.{Prepared}
+use Rattle.rooted_state.specs.Prepared.{Prepared}
 use Rattle.unrooted.specs.Answer.{HistoryReady}
 use Rattle.prepare.specs.declared.Ready.{Ready}
 

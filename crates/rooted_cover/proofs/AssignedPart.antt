@@ -33,9 +33,9 @@ use Rattle.distance.specs.Shortest.{unreached, Shortest}
 use Rattle.pieces.specs.Pieces.{treeOf}
 use Rattle.distance_table.specs.Nearest.{Nearest}
 use Rattle.distance_table.specs.Tabled.{distanceIn, DistancesTabled, LastsTabled, rowOf}
-use Rattle.rooted_parts.specs.Placed.{TrialArrays, PartsPlaced}
+use Rattle.rooted_state.specs.Placed.{TrialArrays, PartsPlaced}
 use Rattle.rooted_cover.specs.Tree.{BackGiven}
-use Rattle.rooted_parts.proofs.NearMeansMayGo.{says-within, tree-reaches, reaches-risen, more-edges, around-inside}
+use Rattle.rooted_state.proofs.NearMeansMayGo.{says-within, tree-reaches, reaches-risen, more-edges, around-inside}
 use Rattle.distance_table.proofs.RootPath.{nearest-back, nearest-shortest-path}
 use Rattle.distance_table.proofs.RowPlaces as rows
 

@@ -27,7 +27,7 @@ use Rattle.planner_laws.proofs.RootedSize.{cover-tree-few}
 use Rattle.cover.specs.Chosen.{AllHeld, HeaviestChosen, Writable}
 use Rattle.cover.proofs.ChosenFit.{bounded-held}
 use Rattle.pieces.proofs.LaidLists.{laid-none}
-use Rattle.rooted_parts.specs.Placed.{trialArrays, PartsPlaced}
+use Rattle.rooted_state.specs.Placed.{trialArrays, PartsPlaced}
 use Rattle.rooted_cover.specs.CoverTrees.{RootTree, TreePut, TreesLaid, CoverAsked, CoverAtLimits}
 use Rattle.rooted_cover.proofs.PartPaths.{paths-for}
 use Rattle.rooted_cover.proofs.RootedChoices.{choicesOf, choices-good, tree-of-cover}

@@ -15,7 +15,7 @@ use Rattle.rules.proofs.Linked.{turned}
 use Rattle.distance.specs.Trail.{trailOf}
 use Rattle.distance_table.specs.Nearest.{Nearest}
 use Rattle.distance_table.specs.Tabled.{rowOf}
-use Rattle.rooted_parts.specs.Placed.{TrialArrays, PartsPlaced}
+use Rattle.rooted_state.specs.Placed.{TrialArrays, PartsPlaced}
 use Rattle.rooted_cover.specs.Tree.{AssignedAre, none, part}
 use Rattle.rooted_cover.specs.CoverTrees.{RootTree}
 use Rattle.rooted_cover.proofs.AssignedPart.{pieceAt, byte-is-root, bytes-apart, places-many}

@@ -26,10 +26,10 @@ use Rattle.rules.proofs.Linked.{turned, of-turned}
 use Rattle.distance.specs.Trail.{trailOf}
 use Rattle.distance.specs.Shortest.{unreached}
 use Rattle.distance_table.specs.Tabled.{DistancesTabled, LastsTabled, rowOf}
-use Rattle.rooted_parts.specs.Placed.{TrialArrays, PartsPlaced}
+use Rattle.rooted_state.specs.Placed.{TrialArrays, PartsPlaced}
 use Rattle.rooted_cover.specs.Tree.{AssignedAre, none, part}
 use Rattle.rooted_cover.specs.CoverTrees.{RootTree}
-use Rattle.rooted_parts.proofs.NearMeansMayGo.{any-alike}
+use Rattle.rooted_state.proofs.NearMeansMayGo.{any-alike}
 use Rattle.unions.proofs.UnionEdges.{union-same}
 use Rattle.rooted_cover.proofs.AssignedPart.{given, byte, byte-is-root, bytes-apart, places-many, placed-part, part-path}
 use Rattle.rooted_cover.proofs.PartPaths.{PathFor}

@@ -15,7 +15,7 @@ use Rattle.rules.specs.CoverBytes.{encode}
 use Rattle.rules.specs.Order.{ordered}
 use Rattle.rules.specs.RootedTrial.{Choices, GoodChoices, unionTree, rootedCover}
 use Rattle.distance_table.specs.Tabled.{DistancesTabled, LastsTabled, rowOf}
-use Rattle.rooted_parts.specs.Placed.{trialArrays, PartsPlaced}
+use Rattle.rooted_state.specs.Placed.{trialArrays, PartsPlaced}
 use Rattle.rooted_cover.specs.Tree.{AssignedAre, RootGiven}
 
 -- The edges are those of root j's tree: of the union of its part, a path back from one of the part's nearest vertices, and what is left at the

@@ -15,7 +15,7 @@ use Rattle.graph.specs.Valid.{Valid}
 use Rattle.graph.specs.Bytes.{graphOf}
 use Rattle.planner_laws.proofs.RootedSize.{rooted-parts-few}
 use Rattle.near.specs.Held.{TreeHeld}
-use Rattle.rooted_parts.specs.Placed.{trialArrays, PartsPlaced}
+use Rattle.rooted_state.specs.Placed.{trialArrays, PartsPlaced}
 use Rattle.rooted_parts.specs.Parts.{PieceArrays, arraysOf, PiecesPlaced, PartsAsked, PartsHeld, RowsAssigned}
 
 -- Where the pieces are placed, the parts are held.

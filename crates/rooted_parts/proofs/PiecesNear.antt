@@ -18,7 +18,7 @@ use Rattle.near.specs.Bits.{bitAt}
 use Rattle.near.specs.Held.{PiecesAsked, NearPieces}
 use Rattle.rooted_parts.specs.Near.{WithinAsked, VerticesNear, PartsNear}
 use Rattle.rooted_parts.specs.Parts.{WordsAsked}
-use Rattle.rooted_parts.proofs.NearMeansMayGo.{tree-reaches, reaches-risen}
+use Rattle.rooted_state.proofs.NearMeansMayGo.{tree-reaches, reaches-risen}
 use Rattle.rooted_parts.proofs.PartsAssembled.{many}
 
 module _ {b roots : List ℕ} {limit : ℕ} {table starts cuts flat places : List ℕ} {p : ℕ} {words : List ℕ}

@@ -19,7 +19,7 @@ use Rattle.near.proofs.BitsMade.{bit-says, bit-small}
 use Rattle.distance_table.proofs.RowPlaces.{place-within, every-place}
 use Rattle.rooted_parts.specs.Near.{PartsNear}
 use Rattle.rooted_parts.specs.Parts.{AssignAsked, AssignDone, RowsAssigned}
-use Rattle.rooted_parts.proofs.AssignmentsAlike.{assignment-same, deficient-same, assignable-same}
+use Rattle.rooted_state.proofs.AssignmentsAlike.{assignment-same, deficient-same, assignable-same}
 
 module _ {g : Graph} {roots : List ℕ} {limit p : ℕ} {words : List ℕ} (near : PartsNear g roots limit words p) {rows rows′ : List ℕ}
     (put : RowsPut (length roots) (take p words) rows rows′) (room : p * length roots ≤ length rows) where

@@ -13,7 +13,7 @@ use Rattle.distance_table.specs.Tabled.{distanceIn}
 use Rattle.near.specs.Bits.{bitAt}
 use Rattle.near.specs.Vertices.{NearAsked, NearVertices}
 use Rattle.rooted_parts.specs.Near.{WithinAsked, VerticesNear}
-use Rattle.rooted_parts.proofs.NearMeansMayGo.{says-within}
+use Rattle.rooted_state.proofs.NearMeansMayGo.{says-within}
 
 module _ {b roots : List ℕ} {limit : ℕ} {table words : List ℕ} (a : WithinAsked b roots limit table words) where
   abbrev g : Graph

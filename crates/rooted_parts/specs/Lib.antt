@@ -1,9 +1,5 @@
 -- What the contracts of `rooted_parts` say, in reading order.
--- the parts of a rooted trial, placed
-pub mod Placed
 -- the roots near each vertex and each part, as bits
 pub mod Near
 -- what placing the parts asks, step by step
 pub mod Parts
--- the parts of a deficient set, written
-pub mod TooLowParts

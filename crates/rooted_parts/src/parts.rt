@@ -10,7 +10,7 @@ use unions::places::part_places;
 ghost use Rattle.graph.specs.Bytes.{graphOf};
 ghost use Rattle.rooted_parts.specs.Near.{PartsNear};
 ghost use Rattle.rooted_parts.specs.Parts.{arraysOf, PiecesAsked, PiecesPlaced, AssignAsked, AssignDone, WordsAsked, RowsAsked, RowsAssigned, PartsAsked};
-ghost use Rattle.rooted_parts.specs.Placed.{trialArrays, PartsPlaced};
+ghost use Rattle.rooted_state.specs.Placed.{trialArrays, PartsPlaced};
 
 // How many parts there are, and whether each has a root of its own.
 pub struct Placed {

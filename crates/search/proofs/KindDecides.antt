@@ -6,8 +6,8 @@ use mathlib.Core.List.{List}
 use native.Mathlib.Omega.{arith}
 use Rattle.cover.specs.declared.crews.Kind.{Kind}
 use Rattle.cover.specs.declared.crews.Kind.the-variants.{Rooted, Unrooted}
-use Rattle.rooted.specs.Decide as rooted
-use Rattle.search.specs.Crews.{DecisionAsked}
+use Rattle.rooted_decide.specs.Decide.{RootedDecisionAsked}
+use Rattle.search.specs.Decision.{DecisionAsked}
 
 -- Crews are of one kind only.
 pub one-kind : {kind : Kind} → kind ≡ Rooted → kind ≡ Unrooted → ⊥
@@ -15,7 +15,7 @@ one-kind {kind} p q = let z : _≡_ {A = ℕ} 0 1 = cc in omega arith
 
 -- What a decision by crews with roots asks.
 pub rooted-decision : {kind : Kind} {k limit : ℕ} {b roots kept table total until walk : List ℕ}
-    → DecisionAsked kind k b roots limit kept table total until walk → kind ≡ Rooted → rooted.DecisionAsked b roots limit kept table walk
+    → DecisionAsked kind k b roots limit kept table total until walk → kind ≡ Rooted → RootedDecisionAsked b roots limit kept table walk
 rooted-decision {kind} a q =
     let same : kind ≡ Rooted = q in
     record {

@@ -9,7 +9,7 @@ use Rattle.lists.proofs.Put.{put-taken, put-fits, put-length}
 use Rattle.graph.specs.Bytes.{graphOf}
 use Rattle.edges.specs.Around.{Arcs}
 use Rattle.steps.specs.WalkPut.{WalkAsked, WalkPut}
-use Rattle.rooted.specs.Prepared.{Decidable, WholeAround, WholeWalked}
+use Rattle.rooted_state.specs.Prepared.{Decidable, WholeAround, WholeWalked}
 
 module _ {b roots kept bounds arcs table : List ℕ} (d : Decidable b roots kept table) (around : WholeAround b roots bounds arcs) {n : ℕ}
     (n-is : n ≡ graphOf b .vertices) where

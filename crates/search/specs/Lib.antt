@@ -1,5 +1,5 @@
 -- What the contracts of `search` say, in reading order.
--- the crews, and what a decision at a limit takes
-pub mod Crews
+-- what a decision at a limit takes
+pub mod Decision
 -- the search for the best limit
 pub mod Searching

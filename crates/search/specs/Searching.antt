@@ -11,8 +11,8 @@ use Rattle.rules.specs.Order.{ordered}
 use Rattle.rules.specs.Search.{accepts, Bounds, searched}
 use Rattle.cover.specs.declared.crews.Kind.{Kind}
 use Rattle.cover.specs.declared.crews.Kind.the-variants.{Rooted}
-use Rattle.rooted.specs.Prepared.{Decidable, WholeAround, WholeWalked}
-use Rattle.search.specs.Crews.{CrewsPrepared}
+use Rattle.rooted_state.specs.Prepared.{Decidable, WholeAround, WholeWalked}
+use Rattle.search.specs.Decision.{CrewsPrepared}
 
 -- Where the search stands.
 abbrev pub between : ℕ → ℕ → Bounds

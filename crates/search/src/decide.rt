@@ -1,11 +1,12 @@
 // Whether a limit is accepted, by crews of either kind: all that a trial inside the search does.
 use cover::crews::Kind;
-use rooted::decide::accepts_rooted;
+use rooted_decide::accepts_rooted;
 use unrooted::answer::accepts_unrooted;
 ghost use mathlib.Core.Path.{_≡_};
 ghost use Rattle.graph.specs.Bytes.{graphOf};
 ghost use Rattle.rules.specs.Search.{accepts};
-ghost use Rattle.search.specs.Crews.{crewsWith, DecisionAsked};
+ghost use Rattle.prepare.specs.Crews.{crewsWith};
+ghost use Rattle.search.specs.Decision.{DecisionAsked};
 
 // Whether the crews' trial at the limit accepts.
 pub(crate) fn accepts_at(

@@ -9,7 +9,7 @@ ghost use lib.ListN.{length};
 ghost use Rattle.graph.specs.Bytes.{graphOf};
 ghost use Rattle.rules.specs.Walk.{totalWeight};
 ghost use Rattle.rules.specs.Search.{bestLimit};
-ghost use Rattle.search.specs.Crews.{crewsWith};
+ghost use Rattle.prepare.specs.Crews.{crewsWith};
 ghost use Rattle.search.specs.Searching.{searchEnd, SearchAsked, BestAsked, WalkedAsked, WalkGiven, WalkFor};
 
 // The weight of the edges together.

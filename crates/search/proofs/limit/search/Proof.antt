@@ -3,7 +3,7 @@
 use mathlib.Core.Path.{sym, _∙_}
 use native.Mathlib.Omega.{arith}
 use Rattle.graph.specs.Bytes.{graphOf}
-use Rattle.search.specs.Crews.{crewsWith}
+use Rattle.prepare.specs.Crews.{crewsWith}
 use Rattle.search.proofs.SearchLoop.{SearchUnderway, search-begins, high-moves, low-moves, ends-near, ends-spent}
 use borrow.Author.Needs.{needs}
 use Rattle.search.proofs.limit.search.Statement.{statement}

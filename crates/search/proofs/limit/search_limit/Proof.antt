@@ -8,7 +8,7 @@ use Rattle.graph.specs.Valid.{Valid}
 use Rattle.rules.specs.Cover.{Crews}
 use Rattle.rules.specs.Walk.{totalWeight}
 use Rattle.planner_laws.proofs.BestLimit.{allWeights, sum-bounded}
-use Rattle.search.specs.Crews.{crewsWith}
+use Rattle.prepare.specs.Crews.{crewsWith}
 use Rattle.search.proofs.SearchLoop.{best-at-zero, best-searched, order-few}
 use borrow.Author.Needs.{needs}
 use Rattle.search.proofs.limit.search_limit.Statement.{statement}

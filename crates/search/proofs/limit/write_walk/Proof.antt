@@ -2,7 +2,7 @@
 use mathlib.Core.Path.{_≡_}
 use native.Mathlib.Omega.{arith}
 use Rattle.graph.specs.Bytes.{graphOf}
-use Rattle.rooted.specs.Prepared.{Decidable, WholeAround}
+use Rattle.rooted_state.specs.Prepared.{Decidable, WholeAround}
 use borrow.Author.Needs.{needs}
 use Rattle.search.proofs.WalkWritten.{walk-asked, walk-written, walk-fits}
 use Rattle.search.proofs.KindDecides.{one-kind}

@@ -1,0 +1,76 @@
+-- The parts of a set that admits no assignment, laid out and written (document 01, step 5: "too low, parts T, yards D").
+-- Assumes nothing.
+use Prim.Native.Nat.{ℕ, _+_, _*_, _≤_, _<_}
+use mathlib.Core.Path.{_≡_}
+use mathlib.Core.List.{List, map, headD}
+use lib.ListN.{length, getD, take}
+use Rattle.lists.specs.Lists.{sumOf}
+use Rattle.lists.specs.Put.{PutTo}
+use Rattle.lists.specs.Segments.{segment}
+use Rattle.graph.specs.Graph.{Graph}
+use Rattle.matching.specs.Assignment.{markedParts, allowedRoots}
+use Rattle.matching.specs.Input.{allowedAt}
+use Rattle.rules.specs.CoverBytes.{encode}
+use Rattle.rules.specs.Held.{treesAt, risen}
+use Rattle.rules.specs.RootedTrial.{rootedParts, mayGo, chosenParts}
+use Rattle.cover.specs.Chosen.{AllHeld}
+use Rattle.pieces.specs.declared.reply.Reply.{Reply}
+use Rattle.pieces.specs.declared.reply.Reply.the-variants.{Parts}
+use Rattle.deficient.specs.declared.Deficient.{Deficient}
+
+-- How many edges pieces of these numbers have together.
+abbrev pub edgesOf : List ℕ → List ℕ → List ℕ → ℕ
+edgesOf cuts flat chosen = sumOf (λ c. length (segment cuts flat c)) chosen
+
+-- What laying out the edges of chosen pieces asks: each is held, and there is room for their bounds and their edges.
+pub record LayGiven (cuts flat chosen : List ℕ) (bounds-room edges-room : ℕ) : Type 0 where
+  pub held : AllHeld cuts flat chosen
+  pub bounds-fit : length chosen < bounds-room
+  pub edges-fit : edgesOf cuts flat chosen ≤ edges-room
+  pub small : edges-room < 65536
+
+-- What taking the keys of t trees asks: no bound past the edges, and room for the keys.
+pub record KeysGiven (bounds edges : List ℕ) (t room : ℕ) : Type 0 where
+  pub inside : (i : ℕ) → i < t → getD bounds (i + 1) 0 ≤ length edges
+  pub fits : t ≤ room
+
+-- At the number of each tree stands its first edge.
+pub record Keyed (bounds edges : List ℕ) (t : ℕ) (keys : List ℕ) : Type 0 where
+  pub are : (i : ℕ) → i < t → getD keys i 0 ≡ headD (segment bounds edges i) 0
+
+-- What writing chosen pieces asks: each is held, they are fewer than 256 and have fewer than 256 edges, and the buffer is large enough.
+pub record ChosenGiven (cuts flat chosen : List ℕ) (room : ℕ) : Type 0 where
+  pub held : AllHeld cuts flat chosen
+  pub few : length chosen < 256
+  pub light : edgesOf cuts flat chosen < 256
+  pub most : 32708 ≤ room
+
+-- What writing the parts of a set asks: a place, a mark and a row for each part; pieces that are held, few and light; and a large buffer.
+pub record SetGiven (cuts flat places : List ℕ) (parts : ℕ) (rows marks : List ℕ) (k room : ℕ) : Type 0 where
+  pub places-room : parts ≤ length places
+  pub marks-room : parts ≤ length marks
+  pub rows-room : parts * k ≤ length rows
+  pub held : AllHeld cuts flat (take parts places)
+  pub few : parts < 256
+  pub light : edgesOf cuts flat (take parts places) < 256
+  pub most : 32708 ≤ room
+
+-- The parts of the set were written, and the answer says how many there are and how many roots are allowed to them.
+pub record SetWritten (starts cuts flat places : List ℕ) (parts : ℕ) (rows marks : List ℕ) (k : ℕ) (before after : List ℕ) (r : Deficient) : Type 0 where
+  pub bytes : ℕ
+  pub written : PutTo 0 (encode (chosenParts (map risen (treesAt starts cuts flat (take parts places))) (take parts marks))) before after bytes
+  pub parts-are : r .parts ≡ markedParts parts (take parts marks)
+  pub roots-are : r .roots ≡ allowedRoots parts k (allowedAt rows k) (take parts marks)
+
+-- The parts of a deficient set were written, and the reply says their number ("T") and that of the roots allowed to them ("D").
+pub record SetReplied (starts cuts flat places : List ℕ) (parts : ℕ) (rows marks : List ℕ) (k : ℕ) (before after : List ℕ) (r : Reply) : Type 0 where
+  pub set : Deficient
+  pub written : SetWritten starts cuts flat places parts rows marks k before after set
+  pub is : r ≡ Parts (set .parts) (set .roots)
+
+-- The parts of a rooted trial's set were written: "too low, parts T, yards D" with the parts of the set that the marks say.
+pub record DeficientWritten (g : Graph) (roots : List ℕ) (limit : ℕ) (marks before after : List ℕ) (r : Deficient) : Type 0 where
+  pub bytes : ℕ
+  pub written : PutTo 0 (encode (chosenParts (rootedParts g roots limit) marks)) before after bytes
+  pub parts-are : r .parts ≡ markedParts (length (rootedParts g roots limit)) marks
+  pub roots-are : r .roots ≡ allowedRoots (length (rootedParts g roots limit)) (length roots) (mayGo g roots limit) marks

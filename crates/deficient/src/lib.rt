@@ -1,0 +1,149 @@
+// The parts of a set that admits no assignment, written (document 01, step 5: "too low, parts T, yards D", the parts "ordered by smallest
+// line"). The pieces stand as the splitting left them; those chosen are laid out again with their edges rising.
+// The words of the contracts stand in specs/ and in the definitions of the crate `rules`.
+use cover::write::write_cover;
+use edges::index::wide;
+use pieces::chosen::sort_chosen;
+use pieces::pieces::element_at;
+use pieces::pieces::number_up;
+use pieces::pieces::piece_edges;
+use pieces::pieces::put_risen;
+use pieces::reply::Reply;
+use unions::deficient::count_allowed;
+use unions::deficient::marked_places;
+ghost use mathlib.Core.Path.{_≡_};
+ghost use mathlib.Core.List.{map, headD};
+ghost use Prim.Native.Nat.{_≤_};
+ghost use lib.ListN.{length, getD};
+ghost use lib.Seq.{slice};
+ghost use Rattle.lists.specs.Put.{PutTo};
+ghost use Rattle.lists.specs.Segments.{segment};
+ghost use Rattle.lists.specs.Sort.{rise};
+ghost use Rattle.rules.specs.CoverBytes.{encode};
+ghost use Rattle.rules.specs.Held.{treesAt, risen};
+ghost use Rattle.cover.specs.Chosen.{startsAt};
+ghost use Rattle.pieces.specs.Pieces.{Laid};
+ghost use Rattle.rules.specs.RootedTrial.{bySmallest};
+ghost use Rattle.deficient.specs.TooLowParts.{LayGiven, KeysGiven, Keyed, ChosenGiven, SetGiven, SetWritten, SetReplied};
+
+// How many parts the set has ("T"), and how many roots are allowed to them ("D").
+pub struct Deficient {
+    pub parts: usize,
+    pub roots: usize,
+}
+
+// The starts of the chosen pieces, written to the front of the array.
+fn take_starts(starts: &[u16], chosen: &[u16], laid: &mut [u16])
+    requires { ⌜ length (now chosen) ≤ length (now laid) ⌝ }
+    ensures { λ _. ⌜ PutTo 0 (startsAt (now (starts .entry)) (now (chosen .entry))) (now (laid .entry)) (now (laid .exit)) (length (now (chosen .entry))) ⌝ }
+{
+    let mut i = 0;
+    while i < chosen.len() {
+        laid[i] = element_at(starts, wide(chosen[i]));
+        i += 1;
+    }
+}
+
+// The edges of the chosen pieces, each piece's rising, laid one piece after the other.
+fn lay_edges(cuts: &[u16], flat: &[u16], chosen: &[u16], bounds: &mut [u16], edges: &mut [u16])
+    requires { ⌜ LayGiven (now cuts) (now flat) (now chosen) (length (now bounds)) (length (now edges)) ⌝ }
+    ensures { λ _. ⌜ Laid (λ i. rise (segment (now (cuts .entry)) (now (flat .entry)) (getD (now (chosen .entry)) i 0))) (length (now (chosen .entry)))
+        (getD (now (bounds .exit)) (length (now (chosen .entry))) 0) (now (bounds .exit)) (now (edges .exit)) ⌝ }
+{
+    bounds[0] = 0;
+    let mut at = 0;
+    let mut i = 0;
+    while i < chosen.len() {
+        at = put_risen(piece_edges(cuts, flat, chosen[i]), edges, at);
+        i += 1;
+        bounds[i] = at as u16;
+    }
+}
+
+// The first of the edges from one place up to another; 0 where there are none.
+fn first_edge(edges: &[u16], from: usize, to: usize) -> u32
+    requires { ⌜ to ≤ length (now edges) ⌝ }
+    ensures { λ r. ⌜ r ≡ headD (slice from to (now (edges .entry))) 0 ⌝ }
+{
+    if to <= from {
+        return 0;
+    }
+    edges[from] as u32
+}
+
+// The key of each tree: its first edge, the smallest where they rise.
+fn take_keys(bounds: &[u16], edges: &[u16], t: usize, keys: &mut [u32])
+    requires { ⌜ KeysGiven (now bounds) (now edges) t (length (now keys)) ⌝ }
+    ensures { λ _. ⌜ Keyed (now (bounds .entry)) (now (edges .entry)) t (now (keys .exit)) ⌝ }
+{
+    let mut i = 0;
+    while i < t {
+        let from = wide(element_at(bounds, i));
+        let to = wide(element_at(bounds, i + 1));
+        keys[i] = first_edge(edges, from, to);
+        i += 1;
+    }
+}
+
+// The bytes of the chosen pieces, ordered by smallest edge, as the buffer's first bytes. Says how many bytes.
+fn write_parts(starts: &[u16], cuts: &[u16], flat: &[u16], chosen: &[u16], buf: &mut [u8]) -> usize
+    requires { ⌜ ChosenGiven (now cuts) (now flat) (now chosen) (length (now buf)) ⌝ }
+    ensures { λ r. ⌜ PutTo 0 (encode (bySmallest (map risen (treesAt (now (starts .entry)) (now (cuts .entry)) (now (flat .entry)) (now (chosen .entry))))))
+        (now (buf .entry)) (now (buf .exit)) r ⌝ }
+{
+    let mut laid = [0u16; 256];
+    let mut bounds = [0u16; 257];
+    let mut edges = [0u16; 256];
+    let mut keys = [0u32; 256];
+    let mut numbers = [0u16; 256];
+    let t = chosen.len();
+    take_starts(starts, chosen, &mut laid);
+    lay_edges(cuts, flat, chosen, &mut bounds, &mut edges);
+    take_keys(&bounds, &edges, t, &mut keys);
+    number_up(t, &mut numbers);
+    sort_chosen(&keys, &mut numbers[..t]);
+    write_cover(buf, &laid, &bounds, &edges, &numbers[..t])
+}
+
+// The parts of the set, written as the buffer's first bytes, with the numbers of the answer.
+fn write_deficient(
+    starts: &[u16],
+    cuts: &[u16],
+    flat: &[u16],
+    places: &[u16],
+    parts: usize,
+    rows: &[u8],
+    marks: &[u8],
+    k: usize,
+    buf: &mut [u8],
+) -> Deficient
+    requires { ⌜ SetGiven (now cuts) (now flat) (now places) parts (now rows) (now marks) k (length (now buf)) ⌝ }
+    ensures { λ r. ⌜ SetWritten (now (starts .entry)) (now (cuts .entry)) (now (flat .entry)) (now (places .entry)) parts (now (rows .entry)) (now (marks .entry)) k
+        (now (buf .entry)) (now (buf .exit)) r ⌝ }
+{
+    let mut chosen = [0u16; 256];
+    let t = marked_places(&places[..parts], &marks[..parts], &mut chosen);
+    write_parts(starts, cuts, flat, &chosen[..t], buf);
+    let d = count_allowed(rows, &marks[..parts], parts, k);
+    Deficient { parts: t, roots: d }
+}
+
+// "Too low, parts T, yards D": the parts of the set are written.
+pub fn reply_deficient(
+    starts: &[u16],
+    cuts: &[u16],
+    flat: &[u16],
+    places: &[u16],
+    parts: usize,
+    rows: &[u8],
+    marks: &[u8],
+    k: usize,
+    buf: &mut [u8],
+) -> Reply
+    requires { ⌜ SetGiven (now cuts) (now flat) (now places) parts (now rows) (now marks) k (length (now buf)) ⌝ }
+    ensures { λ r. ⌜ SetReplied (now (starts .entry)) (now (cuts .entry)) (now (flat .entry)) (now (places .entry)) parts (now (rows .entry)) (now (marks .entry)) k
+        (now (buf .entry)) (now (buf .exit)) r ⌝ }
+{
+    let d = write_deficient(starts, cuts, flat, places, parts, rows, marks, k, buf);
+    Reply::Parts(d.parts, d.roots)
+}

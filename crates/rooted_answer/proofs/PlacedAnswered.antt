@@ -1,0 +1,115 @@
+-- Where the parts of a rooted trial are placed, the cover or the deficient set may be written; and what is written is the trial's answer.
+-- Assumes nothing.
+use Prim.Native.Nat.{ℕ, _≤_}
+use mathlib.Core.Path.{_≡_, refl, sym}
+use mathlib.Core.Bool.{Bool, true, false}
+use mathlib.Core.List.{List}
+use mathlib.Core.Option.{none}
+use native.Mathlib.Nat.{mul-le-mul-right}
+use native.Mathlib.Omega.{arith}
+use lib.ListN.{length, take}
+use Rattle.graph.specs.Graph.{Graph}
+use Rattle.graph.specs.Bytes.{graphOf}
+use Rattle.matching.specs.Assignment.{IsDeficient}
+use Rattle.rules.specs.Cover.{rooted}
+use Rattle.rules.specs.RootedTrial.{unjoinedAt, rootedParts, mayGo, isAssignable}
+use Rattle.planner_laws.proofs.RootedSize.{rooted-parts-few}
+use Rattle.pieces.specs.Replies.{Answers}
+use Rattle.pieces.specs.declared.reply.Reply.{Reply}
+use Rattle.pieces.specs.declared.reply.Reply.the-variants.{Cover}
+use Rattle.rooted_answer.specs.Answer.{RootedAnswerAsked, JoinedAsked, JoinedLent, PlacedGiven}
+use Rattle.rooted_cover.specs.CoverTrees.{CoverAsked, CoverAtLimits}
+use Rattle.rooted_state.specs.Prepared.{PartsReady}
+use Rattle.rooted_state.specs.Placed.{TrialArrays, trialArrays, PartsPlaced}
+use Rattle.deficient.specs.TooLowParts.{SetGiven, SetReplied}
+use Rattle.rooted_answer.proofs.RootedAnswers.{answers-cover, answers-parts}
+use Rattle.deficient.proofs.TooLowPlaced.{too-low-given, too-low-written}
+
+-- Where every vertex is joined to a root, the parts answer.
+pub joined-asked : {b roots : List ℕ} {limit : ℕ} {order kept bounds arcs table lasts : List ℕ} {room : ℕ}
+    → RootedAnswerAsked b roots limit order kept bounds arcs table lasts room → unjoinedAt (graphOf b) roots limit ≡ none
+    → JoinedAsked b roots limit order bounds arcs table lasts room
+joined-asked a joined = record { asked = rw (a .prepared .decidable .forest) at a; joined = joined }
+
+module _ {b roots : List ℕ} {limit : ℕ} {order bounds arcs table lasts rows : List ℕ} {edges-room room : ℕ}
+    (l : JoinedLent b roots limit order bounds arcs table lasts rows edges-room room) where
+  -- The parts may be placed,
+  pub joined-ready : PartsReady b roots limit table
+  joined-ready =
+      let a = l .asked .asked in
+      record {
+        asked = record { decidable = a .prepared .decidable; roots-some = a .roots-some; limit-most = a .limit-most };
+        joined = l .asked .joined;
+      }
+
+  -- and where they are, in rows no shorter than those lent, they may be answered.
+  pub placed-given : {a : TrialArrays} {parts : ℕ} {assigned : Bool} → PartsPlaced (graphOf b) roots limit a parts assigned → length rows ≤ length (a .rows)
+      → PlacedGiven b roots limit order table lasts a parts assigned edges-room room
+  placed-given {parts = parts} placed large =
+      let asked = l .asked .asked in
+      let d = asked .prepared .decidable in
+      let few : parts ≤ graphOf b .vertices = omega (arith, placed .parts-count, rooted-parts-few (graphOf b) roots limit (d .graph .valid)) in
+      record {
+        graph = d .graph;
+        in-order = asked .prepared .in-order;
+        roots-inside = d .roots-inside;
+        roots-few = d .roots-few;
+        distances = d .distances;
+        last-edges = asked .prepared .last-edges;
+        limit-most = asked .limit-most;
+        joined = l .asked .joined;
+        placed = placed;
+        rows-room = omega (arith, mul-le-mul-right (length roots) few, l .rows-room);
+        edges-fit = l .edges-fit;
+        most = asked .most;
+      }
+
+module _ {b roots : List ℕ} {limit : ℕ} {order table lasts starts cuts flat lefts places rows out : List ℕ} {parts : ℕ} {assigned : Bool}
+    {edges-room room : ℕ} (p : PlacedGiven b roots limit order table lasts (trialArrays starts cuts flat lefts places rows out) parts assigned edges-room room) where
+  abbrev g : Graph
+  g = graphOf b
+
+  placed-as : (t : Bool) → assigned ≡ t → PartsPlaced g roots limit (trialArrays starts cuts flat lefts places rows out) parts t
+  placed-as t q = rw q at (p .placed)
+
+  decided : (t : Bool) → assigned ≡ t → isAssignable g roots limit ≡ t
+  decided t q = sym (placed-as t q .assigned-is)
+
+  -- Where each part has a root of its own, the cover may be written,
+  pub cover-asked : assigned ≡ true → CoverAsked b order table lasts roots starts cuts flat lefts places parts out edges-room room
+  cover-asked q =
+      record {
+        graph = p .graph;
+        in-order = p .in-order;
+        roots-inside = p .roots-inside;
+        roots-few = p .roots-few;
+        distances = p .distances;
+        last-edges = p .last-edges;
+        limit = limit;
+        limit-small = p .limit-most;
+        rows = rows;
+        placed = placed-as true q;
+        edges-fit = p .edges-fit;
+        most = p .most;
+      }
+
+  -- and is the answer.
+  pub cover-answered : assigned ≡ true → {before after : List ℕ} {h : ℕ}
+      → CoverAtLimits g roots starts cuts flat lefts places parts out before after h
+      → Answers g (rooted roots) limit before after (Cover limit h (length roots))
+  cover-answered q w =
+      let x = w .at-limit limit rows (p .limit-most) (placed-as true q) in
+      answers-cover g roots limit (p .joined) (x .good) (decided true q) (x .put) (x .heaviest-is)
+
+  -- Otherwise the deficient set may be written,
+  pub set-given : assigned ≡ false → SetGiven cuts flat places parts rows out (length roots) room
+  set-given q = too-low-given (placed-as false q) (p .graph .valid) (p .rows-room) (p .most)
+
+  -- and is the answer.
+  pub set-answered : assigned ≡ false → {before after : List ℕ} {r : Reply}
+      → SetReplied starts cuts flat places parts rows out (length roots) before after r → Answers g (rooted roots) limit before after r
+  set-answered q s =
+      let x = placed-as false q in
+      let deficient : IsDeficient (length (rootedParts g roots limit)) (length roots) (mayGo g roots limit) (take parts out) =
+      rw (← (x .parts-count)) (x .deficient refl) in
+      rw (s .is) (answers-parts g roots limit (p .joined) deficient (decided false q) (too-low-written x (s .written)))

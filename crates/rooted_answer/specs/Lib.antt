@@ -1,0 +1,3 @@
+-- What the contracts of `rooted_answer` say.
+-- what answering a rooted trial asks
+pub mod Answer

@@ -1,0 +1,217 @@
+// The answer of a trial by crews with roots at a limit (document 01, a "yard" trial, steps 2 to 6), over what is prepared once a question. Its parts
+// stand in the crate `rooted_parts`, its cover in `rooted_cover`, and those of a set without an assignment in `deficient`.
+// The words of the contracts stand in specs/ and in the definitions of the crate `rules`.
+use deficient::reply_deficient;
+use forest::lowest::Found;
+use pieces::reply::Reply;
+use pieces::whole::light_forest;
+use pieces::whole::stop_at;
+use rooted_cover::cover_trees::write_rooted;
+use rooted_parts::parts::Placed;
+use rooted_parts::parts::place_parts;
+ghost use lib.ListN.{length};
+ghost use Rattle.graph.specs.Bytes.{graphOf};
+ghost use Rattle.rules.specs.Cover.{rooted};
+ghost use Rattle.pieces.specs.Replies.{Answers};
+ghost use Rattle.rooted_answer.specs.Answer.{RootedAnswerAsked, JoinedAsked, JoinedLent, JoinedSmall, PlacedGiven};
+ghost use Rattle.rooted_state.specs.Placed.{trialArrays};
+
+// The answer where the parts are placed: the cover where each has a root of its own, and otherwise a deficient set.
+fn answer_placed(
+    b: &[u8],
+    roots: &[u16],
+    limit: u64,
+    order: &[u16],
+    table: &[u32],
+    lasts: &[u32],
+    starts: &[u16],
+    cuts: &[u16],
+    flat: &[u16],
+    lefts: &[u16],
+    places: &[u16],
+    rows: &[u8],
+    out: &[u8],
+    placed: Placed,
+    edges: &mut [u16],
+    buf: &mut [u8],
+) -> Reply
+    requires { ⌜ PlacedGiven (now b) (now roots) limit (now order) (now table) (now lasts)
+        (trialArrays (now starts) (now cuts) (now flat) (now lefts) (now places) (now rows) (now out)) (placed .parts) (placed .assigned)
+        (length (now edges)) (length (now buf)) ⌝ }
+    ensures { λ r. ⌜ Answers (graphOf (now (b .entry))) (rooted (now (roots .entry))) limit (now (buf .entry)) (now (buf .exit)) r ⌝ }
+{
+    let k = roots.len();
+    if placed.assigned {
+        let heaviest = write_rooted(
+            b,
+            order,
+            table,
+            lasts,
+            roots,
+            starts,
+            cuts,
+            flat,
+            lefts,
+            places,
+            placed.parts,
+            out,
+            edges,
+            buf,
+        );
+        return Reply::Cover(limit, heaviest, k);
+    }
+    reply_deficient(starts, cuts, flat, places, placed.parts, rows, out, k, buf)
+}
+
+// The answer where every vertex is joined to a root.
+fn answer_parts(
+    b: &[u8],
+    roots: &[u16],
+    limit: u64,
+    order: &[u16],
+    bounds: &[u16],
+    arcs: &[u64],
+    table: &[u32],
+    lasts: &[u32],
+    rows: &mut [u8],
+    edges: &mut [u16],
+    buf: &mut [u8],
+) -> Reply
+    requires { ⌜ JoinedLent (now b) (now roots) limit (now order) (now bounds) (now arcs) (now table) (now lasts) (now rows) (length (now edges))
+        (length (now buf)) ⌝ }
+    ensures { λ r. ⌜ Answers (graphOf (now (b .entry))) (rooted (now (roots .entry))) limit (now (buf .entry)) (now (buf .exit)) r ⌝ }
+{
+    let mut starts = [0u16; 288];
+    let mut cuts = [0u16; 289];
+    let mut flat = [0u16; 256];
+    let mut lefts = [0u16; 32];
+    let mut places = [0u16; 256];
+    let mut out = [0u8; 256];
+    let placed = place_parts(
+        b,
+        roots,
+        limit,
+        bounds,
+        arcs,
+        table,
+        &mut starts,
+        &mut cuts,
+        &mut flat,
+        &mut lefts,
+        &mut places,
+        rows,
+        &mut out,
+    );
+    answer_placed(
+        b,
+        roots,
+        limit,
+        order,
+        table,
+        lasts,
+        &starts,
+        &cuts,
+        &flat,
+        &lefts,
+        &places,
+        rows,
+        &out,
+        placed,
+        edges,
+        buf,
+    )
+}
+
+// Lends arrays that few vertices and roots fit in.
+fn answer_small(
+    b: &[u8],
+    roots: &[u16],
+    limit: u64,
+    order: &[u16],
+    bounds: &[u16],
+    arcs: &[u64],
+    table: &[u32],
+    lasts: &[u32],
+    buf: &mut [u8],
+) -> Reply
+    requires { ⌜ JoinedSmall (now b) (now roots) limit (now order) (now bounds) (now arcs) (now table) (now lasts) (length (now buf)) ⌝ }
+    ensures { λ r. ⌜ Answers (graphOf (now (b .entry))) (rooted (now (roots .entry))) limit (now (buf .entry)) (now (buf .exit)) r ⌝ }
+{
+    let mut rows = [0u8; 512];
+    let mut edges = [0u16; 512];
+    answer_parts(
+        b,
+        roots,
+        limit,
+        order,
+        bounds,
+        arcs,
+        table,
+        lasts,
+        &mut rows,
+        &mut edges,
+        buf,
+    )
+}
+
+// Lends arrays that every graph and all roots fit in.
+fn answer_full(
+    b: &[u8],
+    roots: &[u16],
+    limit: u64,
+    order: &[u16],
+    bounds: &[u16],
+    arcs: &[u64],
+    table: &[u32],
+    lasts: &[u32],
+    buf: &mut [u8],
+) -> Reply
+    requires { ⌜ JoinedAsked (now b) (now roots) limit (now order) (now bounds) (now arcs) (now table) (now lasts) (length (now buf)) ⌝ }
+    ensures { λ r. ⌜ Answers (graphOf (now (b .entry))) (rooted (now (roots .entry))) limit (now (buf .entry)) (now (buf .exit)) r ⌝ }
+{
+    let mut rows = [0u8; 8192];
+    let mut edges = [0u16; 8192];
+    answer_parts(
+        b,
+        roots,
+        limit,
+        order,
+        bounds,
+        arcs,
+        table,
+        lasts,
+        &mut rows,
+        &mut edges,
+        buf,
+    )
+}
+
+// The answer at a limit. Its arrays are small where that is enough, since setting them to zero is much of what an answer about a small graph costs.
+pub fn answer_rooted(
+    b: &[u8],
+    roots: &[u16],
+    limit: u64,
+    order: &[u16],
+    kept: &[u16],
+    bounds: &[u16],
+    arcs: &[u64],
+    table: &[u32],
+    lasts: &[u32],
+    buf: &mut [u8],
+) -> Reply
+    requires { ⌜ RootedAnswerAsked (now b) (now roots) limit (now order) (now kept) (now bounds) (now arcs) (now table) (now lasts) (length (now buf)) ⌝ }
+    ensures { λ r. ⌜ Answers (graphOf (now (b .entry))) (rooted (now (roots .entry))) limit (now (buf .entry)) (now (buf .exit)) r ⌝ }
+{
+    let light = light_forest(b, kept, limit);
+    let mut label = [0u16; 256];
+    let found = stop_at(b, roots, &kept[..light], &mut label);
+    match found {
+        Found::At(v) => Reply::Stop(v),
+        Found::Nothing => {
+            if graph::vertex_count(b) * roots.len() <= 512 {
+                return answer_small(b, roots, limit, order, bounds, arcs, table, lasts, buf);
+            }
+            answer_full(b, roots, limit, order, bounds, arcs, table, lasts, buf)
+        }
+    }
+}

@@ -1,0 +1,45 @@
+-- What is asked to say that there is no cover, and to decide a limit, over what is prepared once a question (document 01, steps 2 to 5).
+-- Assumes nothing.
+use Prim.Native.Nat.{ℕ, _≤_, _<_}
+use mathlib.Core.Path.{_≡_}
+use mathlib.Core.Bool.{false}
+use mathlib.Core.List.{List}
+use lib.ListN.{length, getD}
+use Rattle.graph.specs.Bytes.{graphOf}
+use Rattle.graph.specs.Valid.{IsGraph}
+use Rattle.rules.specs.Cover.{rooted}
+use Rattle.rules.specs.Order.{ordered}
+use Rattle.rules.specs.Labels.{together}
+use Rattle.rules.specs.Forest.{keep}
+use Rattle.rules.specs.RootedTrial.{rootedParts}
+use Rattle.rules.specs.Search.{noCover}
+use Rattle.rooted_state.specs.Prepared.{TrialAsked, PartsReady, WholeWalked}
+
+-- What saying "no cover" asks: a graph's bytes, roots among its vertices, and the whole forest.
+pub record NoCoverAsked (b roots kept : List ℕ) : Type 0 where
+  pub graph : IsGraph b
+  pub roots-inside : (j : ℕ) → j < length roots → getD roots j 0 < graphOf b .vertices
+  pub roots-some : 1 ≤ length roots
+  pub forest : kept ≡ keep (graphOf b) (together roots) (ordered (graphOf b))
+
+-- What deciding a limit asks besides: the walk of the whole forest's trees, and that the whole graph joins every vertex to a root.
+pub record RootedDecisionAsked (b roots : List ℕ) (limit : ℕ) (kept table walk : List ℕ) : Type 0 where
+  pub asked : TrialAsked b roots limit kept table
+  pub walked : WholeWalked b roots walk
+  pub some-cover : noCover (graphOf b) (rooted roots) ≡ false
+
+-- What counting the parts asks besides: the walk of the whole forest's trees.
+pub record CountReady (b roots : List ℕ) (limit : ℕ) (table walk : List ℕ) : Type 0 where
+  pub ready : PartsReady b roots limit table
+  pub walked : WholeWalked b roots walk
+
+-- What assigning some parts, and no more than roots, asks.
+pub record FewReady (b roots : List ℕ) (limit : ℕ) (table walk : List ℕ) : Type 0 where
+  pub counted : CountReady b roots limit table walk
+  pub few : length (rootedParts (graphOf b) roots limit) ≤ length roots
+  pub limit-some : 0 < limit
+
+-- What writing the roots near each part asks besides: a word for each root, and so for each part.
+pub record NearReady (b roots : List ℕ) (limit : ℕ) (table walk parts : List ℕ) : Type 0 where
+  pub ready : FewReady b roots limit table walk
+  pub room : length roots ≤ length parts

@@ -1,0 +1,3 @@
+-- What the contracts of `rooted_decide` say.
+-- what saying "no cover" and deciding a limit ask
+pub mod Decide

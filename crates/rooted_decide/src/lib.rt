@@ -1,0 +1,100 @@
+// Whether there is a cover at all by crews with roots, and whether a limit is accepted (document 01, a "yard" trial, steps 2 to 5), over what is
+// prepared once a question. Where the whole graph joins every vertex to a root, all are joined within the limit exactly where no edge of the
+// whole forest is above it.
+// The words of the contracts stand in specs/ and in the definitions of the crate `rules`.
+use forest::lowest::Found;
+use near::parts::near_parts;
+use near::rows::put_rows;
+use pieces::whole::light_forest;
+use pieces::whole::stop_at;
+use rooted_parts::parts::is_assigned;
+use rooted_parts::within::roots_within;
+use steps::count::count_parts;
+ghost use mathlib.Core.Path.{_≡_};
+ghost use Rattle.graph.specs.Bytes.{graphOf};
+ghost use Rattle.rules.specs.Cover.{rooted};
+ghost use Rattle.rules.specs.RootedTrial.{isAssignable};
+ghost use Rattle.rules.specs.Search.{accepts, noCover};
+ghost use Rattle.rooted_parts.specs.Near.{PartsNear};
+ghost use Rattle.rooted_decide.specs.Decide.{NoCoverAsked, RootedDecisionAsked, CountReady, FewReady, NearReady};
+
+// Whether some vertex is joined to no root by any edge ("no cover"). The whole forest joins what all edges join.
+pub fn no_cover_rooted(b: &[u8], roots: &[u16], kept: &[u16]) -> bool
+    requires { ⌜ NoCoverAsked (now b) (now roots) (now kept) ⌝ }
+    ensures { λ r. ⌜ r ≡ noCover (graphOf (now (b .entry))) (rooted (now (roots .entry))) ⌝ }
+{
+    let mut label = [0u16; 256];
+    let found = stop_at(b, roots, kept, &mut label);
+    match found {
+        Found::At(_) => true,
+        Found::Nothing => false,
+    }
+}
+
+// For each part of the trial a word, whose bit j says whether the part may go to root j. Says how many parts there are. No tree is split for them:
+// the walk passes the vertices of each part.
+fn parts_near(
+    b: &[u8],
+    roots: &[u16],
+    limit: u64,
+    table: &[u32],
+    walk: &[u64],
+    parts: &mut [u32],
+) -> usize
+    requires { ⌜ NearReady (now b) (now roots) limit (now table) (now walk) (now parts) ⌝ }
+    ensures { λ r. ⌜ PartsNear (graphOf (now (b .entry))) (now (roots .entry)) limit (now (parts .exit)) r ⌝ }
+{
+    let mut near = [0u32; 256];
+    roots_within(b, roots, limit, table, &mut near);
+    near_parts(walk, limit, &near, parts)
+}
+
+// Whether each part of the trial gets a root of its own, where there are some parts and no more than roots. So few have rows of at most 32 times 32
+// bytes.
+fn few_assigned(b: &[u8], roots: &[u16], limit: u64, table: &[u32], walk: &[u64]) -> bool
+    requires { ⌜ FewReady (now b) (now roots) limit (now table) (now walk) ⌝ }
+    ensures { λ r. ⌜ r ≡ isAssignable (graphOf (now (b .entry))) (now (roots .entry)) limit ⌝ }
+{
+    let k = roots.len();
+    let mut parts = [0u32; 32];
+    let p = parts_near(b, roots, limit, table, walk, &mut parts);
+    let mut rows = [0u8; 1024];
+    put_rows(&parts[..p], k, &mut rows);
+    let size = p * k;
+    let mut out = [0u8; 32];
+    is_assigned(p, k, &rows[..size], &mut out)
+}
+
+// Whether each part of the trial gets a root of its own, where every vertex is joined to a root. The parts are counted first: more than there are
+// roots never do, and where there is none nothing is needed, so that no distance is looked at for them.
+fn parts_assigned(b: &[u8], roots: &[u16], limit: u64, table: &[u32], walk: &[u64]) -> bool
+    requires { ⌜ CountReady (now b) (now roots) limit (now table) (now walk) ⌝ }
+    ensures { λ r. ⌜ r ≡ isAssignable (graphOf (now (b .entry))) (now (roots .entry)) limit ⌝ }
+{
+    let parts = count_parts(walk, limit);
+    if roots.len() < parts {
+        return false;
+    }
+    if parts == 0 {
+        return true;
+    }
+    few_assigned(b, roots, limit, table, walk)
+}
+
+// Whether the limit is accepted, where the whole graph joins every vertex to a root.
+pub fn accepts_rooted(
+    b: &[u8],
+    roots: &[u16],
+    limit: u64,
+    kept: &[u16],
+    table: &[u32],
+    walk: &[u64],
+) -> bool
+    requires { ⌜ RootedDecisionAsked (now b) (now roots) limit (now kept) (now table) (now walk) ⌝ }
+    ensures { λ r. ⌜ r ≡ accepts (graphOf (now (b .entry))) (rooted (now (roots .entry))) limit ⌝ }
+{
+    if light_forest(b, kept, limit) < kept.len() {
+        return false;
+    }
+    parts_assigned(b, roots, limit, table, walk)
+}

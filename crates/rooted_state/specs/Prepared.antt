@@ -1,0 +1,52 @@
+-- What is prepared once a question: the order of the edges, the whole forest with the edges around each vertex, and the distances from all roots
+-- with their last edges. One preparation serves every limit (document 01, steps 1, 2 and 5).
+-- Assumes nothing.
+use Prim.Native.Nat.{ℕ, _≤_, _<_}
+use mathlib.Core.Path.{_≡_}
+use mathlib.Core.List.{List}
+use mathlib.Core.Option.{none}
+use lib.ListN.{length, getD}
+use Rattle.lists.specs.Sort.{rise}
+use Rattle.graph.specs.Bytes.{graphOf}
+use Rattle.graph.specs.Valid.{IsGraph}
+use Rattle.rules.specs.Order.{ordered}
+use Rattle.rules.specs.Labels.{together}
+use Rattle.rules.specs.Forest.{keep}
+use Rattle.rules.specs.RootedTrial.{unjoinedAt}
+use Rattle.edges.specs.Around.{Around}
+use Rattle.steps.specs.WalkPut.{Walk}
+use Rattle.distance_table.specs.Tabled.{DistancesTabled, LastsTabled}
+
+-- What deciding a limit takes, beside a walk: the graph's bytes and the roots, the whole forest by weight, and the distances from the roots.
+pub record Decidable (b roots kept table : List ℕ) : Type 0 where
+  pub graph : IsGraph b
+  pub roots-inside : (j : ℕ) → j < length roots → getD roots j 0 < graphOf b .vertices
+  pub roots-few : length roots ≤ 32
+  pub forest : kept ≡ keep (graphOf b) (together roots) (ordered (graphOf b))
+  pub distances : DistancesTabled (graphOf b) roots table
+
+-- The edges around each vertex over the whole forest.
+abbrev pub WholeAround : List ℕ → List ℕ → List ℕ → List ℕ → Type 0
+WholeAround b roots bounds arcs = Around (graphOf b) (rise (keep (graphOf b) (together roots) (ordered (graphOf b)))) bounds arcs
+
+-- The walk of the whole forest's trees, by which every limit's parts are counted, and their vertices passed.
+abbrev pub WholeWalked : List ℕ → List ℕ → List ℕ → Type 0
+WholeWalked b roots walk = Walk (graphOf b) (rise (keep (graphOf b) (together roots) (ordered (graphOf b)))) roots walk
+
+-- What writing an answer takes besides: the edges around each vertex, all edges in order, and the last edges of the shortest paths.
+pub record Prepared (b roots order kept bounds arcs table lasts : List ℕ) : Type 0 where
+  pub decidable : Decidable b roots kept table
+  pub around : WholeAround b roots bounds arcs
+  pub in-order : order ≡ ordered (graphOf b)
+  pub last-edges : LastsTabled (graphOf b) roots table lasts
+
+-- What a trial at a limit asks: what is prepared, a root, and a limit no larger than document 01 has it.
+pub record TrialAsked (b roots : List ℕ) (limit : ℕ) (kept table : List ℕ) : Type 0 where
+  pub decidable : Decidable b roots kept table
+  pub roots-some : 1 ≤ length roots
+  pub limit-most : limit ≤ 2048000000
+
+-- What a trial asks for its parts: the edges within the limit join every vertex to a root.
+pub record PartsReady (b roots : List ℕ) (limit : ℕ) (table : List ℕ) : Type 0 where
+  pub asked : TrialAsked b roots limit (keep (graphOf b) (together roots) (ordered (graphOf b))) table
+  pub joined : unjoinedAt (graphOf b) roots limit ≡ none
