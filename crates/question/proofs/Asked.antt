@@ -16,7 +16,7 @@ use Rattle.rules.specs.Reply as rules
 use Rattle.rules.specs.Questions.{askedIn, crewCountIn, limitIn, sheetIn, unknown, askSheet, askRounds}
 use Rattle.pieces.specs.declared.reply.Reply.{Reply}
 use Rattle.reply_text.specs.Replies.{TextWritten, RefusalWritten}
-use Rattle.question.specs.Question.{SheetAnswered, Answered}
+use Rattle.question.specs.Question.{SheetAnswered, TextAnswered}
 
 module _ (input : List ℕ) where
   pub too-short : length input < 8 → true ≡ unknown input
@@ -61,7 +61,7 @@ abbrev nothing : Choices
 nothing = record { assignment = []; paths = []; marks = [] }
 
 -- The text of an unknown question's reply.
-pub unknown-answered : {input before after : List ℕ} {r : ℕ} → unknown input ≡ true → RefusalWritten 41 before after r → Answered input before after r
+pub unknown-answered : {input before after : List ℕ} {r : ℕ} → unknown input ≡ true → RefusalWritten 41 before after r → TextAnswered input before after r
 unknown-answered {input} q w =
     let refused = unknown-reply input nothing (sym q) in
     record { choices = nothing; good = λ u. absurd (u 41 refused); means = λ u. absurd (u 41 refused); text = rw refused (w .text (graphOf (sheetIn input))) }
@@ -73,7 +73,7 @@ sheet-is input = take-all (length input - 8) (drop 8 input) (omega (arith, lengt
 -- The text of a known question's reply, by the values that were read.
 pub known-answered : {input b buf after-buf before after : List ℕ} {asked k limit r : ℕ} {reply : Reply} → unknown input ≡ false → length buf ≡ 32708
     → asked ≡ askedIn input → k ≡ crewCountIn input → limit ≡ limitIn input → b ≡ sheetIn input
-    → SheetAnswered asked k limit b buf after-buf reply → TextWritten b reply after-buf before after r → Answered input before after r
+    → SheetAnswered asked k limit b buf after-buf reply → TextWritten b reply after-buf before after r → TextAnswered input before after r
 known-answered {input} {b} {buf} {asked = asked} {k = k} {limit = limit} q full a c l is s w =
     let same : askRounds input (s .choices) ≡ askSheet asked k limit b (length buf) (s .choices)
     = known-reply input (s .choices) q ∙ sym (rw (a, c, l, is, full)) in

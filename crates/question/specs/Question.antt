@@ -47,7 +47,7 @@ pub record SheetAnswered (asked k limit : ℕ) (b before after : List ℕ) (r : 
   pub printable : Printable b (askSheet asked k limit b (length before) choices)
 
 -- The text of the rules' reply to the program's question, by such choices; and the reply means what it says.
-pub record Answered (input before after : List ℕ) (r : ℕ) : Type 0 where
+pub record TextAnswered (input before after : List ℕ) (r : ℕ) : Type 0 where
   pub choices : Choices
   pub good : Unrefused (askRounds input choices) → GoodFor (graphOf (sheetIn input)) (crewsAsked (askedIn input) (crewCountIn input))
       (limitAsked (askedIn input) (crewCountIn input) (limitIn input) (sheetIn input)) choices
@@ -55,11 +55,11 @@ pub record Answered (input before after : List ℕ) (r : ℕ) : Type 0 where
   pub text : PutTo 0 (textOf (graphOf (sheetIn input)) (askRounds input choices)) before after r
 
 -- What the answer asks: a buffer as long as the rules say, and room for any text.
-pub record AnswerAsked (buf room : ℕ) : Type 0 where
+pub record TextRoom (buf room : ℕ) : Type 0 where
   pub buffer : buf ≡ 32708
   pub enough : 65536 ≤ room
 
 -- What the program's function promises on every input: the text, or nothing where there is too little room for any.
 pub record AnswerPromise (input before after : List ℕ) (r : ℕ) : Type 0 where
   pub too-small : length before < 65536 → (r ≡ 0) × (after ≡ before)
-  pub answered : 65536 ≤ length before → Answered input before after r
+  pub answered : 65536 ≤ length before → TextAnswered input before after r
