@@ -15,7 +15,7 @@ pub forest-ready : {kind : Kind} {b roots kept table total until : List ℕ} →
     → ForestReady kind b roots kept
 forest-ready r =
     record {
-      with-roots = λ q. let d = r .decidable q in record { graph = d .graph; roots-inside = d .roots-inside; roots-some = r .roots-some q; forest = d .forest };
+      with-roots = λ q. let d = r .decidable q in record { given = d .given; forest = d .forest };
       without = λ q. r .history q .forest-kept;
     }
 
@@ -32,7 +32,6 @@ module _ {kind : Kind} {k limit room : ℕ} {b roots order kept bounds arcs tabl
               in-order = a .answer .in-order;
               last-edges = a .answer .last-edges q;
             };
-        roots-some = a .answer .ready .roots-some q;
         limit-most = a .limit-most;
         most = a .answer .room-most;
       }

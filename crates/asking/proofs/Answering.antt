@@ -1,7 +1,7 @@
 -- A question about a graph is answered: "no cover", or the trial at the best limit; and the crews of a question are those of the rules.
 -- Assumes nothing.
-use Prim.Native.Nat.{ℕ, _≤_, _<_}
-use mathlib.Core.Path.{_≡_, refl, sym}
+use Prim.Native.Nat.{ℕ, _≤_}
+use mathlib.Core.Path.{_≡_, refl}
 use mathlib.Core.Bool.{Bool, true, false, _||_}
 use mathlib.Core.List.{List, []}
 use mathlib.Core.Option.{none}
@@ -11,11 +11,10 @@ use lib.Dec.{ltb}
 use borrow.Author.Tests.{ltb-false}
 use Rattle.lists.specs.Count.{below}
 use Rattle.lists.proofs.Every.{first-false, second-false}
-use Rattle.lists.proofs.Places.{at-place, place-of}
+use Rattle.lists.proofs.Places.{at-place}
 use Rattle.lists.proofs.Runs.{length-below}
 use Rattle.graph.specs.Graph.{Graph}
 use Rattle.graph.specs.Bytes.{graphOf}
-use Rattle.graph.specs.Valid.{Valid}
 use Rattle.graph.specs.Fault.{faultIf}
 use Rattle.graph.proofs.Faults.{quiet-if}
 use Rattle.rules.specs.Cover as cover
@@ -33,15 +32,15 @@ use Rattle.pieces.specs.declared.reply.Reply.the-variants.{NoCover}
 use Rattle.pieces.specs.Replies.{Answers}
 use Rattle.asking.specs.declared.ask.Asked.{Asked}
 use Rattle.asking.specs.declared.ask.Asked.the-variants.{At, Best}
-use Rattle.prepare.specs.Crews.{crewsWith}
+use Rattle.rooted_state.proofs.LimitDecided.{roots-inside}
+use Rattle.prepare.specs.Crews.{crewsWith, CrewsReady}
 use Rattle.asking.specs.Asking.{Answered, RootedAsked, UnrootedAsked, CrewsAsked}
 
 -- Good choices exist for crews of either kind.
-pub choices-for : {g : Graph} → Valid g → (kind : Kind) (k : ℕ) (roots : List ℕ) → (kind ≡ Rooted → (j : ℕ) → j < length roots → getD roots j 0 < g .vertices)
-    → (limit : ℕ) → (c : Choices) × GoodFor g (crewsWith kind k roots) limit c
-choices-for {g} valid Rooted k roots inside limit =
-    some-choices valid roots (λ r m. let (j, h, q) = place-of 0 m in rw (sym q) (inside refl j h)) limit
-choices-for valid Unrooted k roots inside limit = (record { assignment = []; paths = []; marks = [] }, tt)
+pub choices-for : (kind : Kind) (k : ℕ) {b roots kept table total until : List ℕ} → CrewsReady kind b roots kept table total until
+    → (limit : ℕ) → (c : Choices) × GoodFor (graphOf b) (crewsWith kind k roots) limit c
+choices-for Rooted k {roots = roots} ready limit = some-choices (ready .graph .valid) roots (roots-inside (ready .decidable refl .given)) limit
+choices-for Unrooted k ready limit = (record { assignment = []; paths = []; marks = [] }, tt)
 
 -- A trial's answer is that of the question which asks for it.
 pub trial-answered : {g : Graph} {crews : cover.Crews} {limit : ℕ} {before after : List ℕ} {r : Reply} → Answers g crews limit before after r

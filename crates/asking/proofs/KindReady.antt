@@ -9,15 +9,14 @@ use Rattle.cover.specs.declared.crews.Kind.the-variants.{Rooted, Unrooted}
 use Rattle.rooted_state.specs.Prepared.{Prepared}
 use Rattle.unrooted.specs.Answer as unrooted
 use Rattle.search.proofs.KindDecides.{one-kind}
-use Rattle.prepare.specs.Preparing.{RootsGiven}
 use Rattle.answers.specs.Answers.{AnswerAsked}
 
 -- Everything is ready, for crews with roots,
-pub rooted-ready : {k room : ℕ} {b roots order kept bounds arcs table lasts : List ℕ} → RootsGiven b roots → Prepared b roots order kept bounds arcs table lasts
+pub rooted-ready : {k room : ℕ} {b roots order kept bounds arcs table lasts : List ℕ} → Prepared b roots order kept bounds arcs table lasts
     → k ≤ 32 → 32708 ≤ room → AnswerAsked Rooted k b roots order kept bounds arcs table lasts [] [] room
-rooted-ready given p few most =
+rooted-ready p few most =
     record {
-      ready = record { graph = given .graph; roots-some = λ _. given .some; decidable = λ _. p .decidable; history = λ q. absurd (one-kind refl q) };
+      ready = record { graph = p .decidable .given .graph; decidable = λ _. p .decidable; history = λ q. absurd (one-kind refl q) };
       around = λ _. p .around;
       in-order = p .in-order;
       last-edges = λ _. p .last-edges;
@@ -33,7 +32,6 @@ unrooted-ready in-order h few most =
       ready =
           record {
             graph = h .forest-kept .graph;
-            roots-some = λ q. absurd (one-kind q refl);
             decidable = λ q. absurd (one-kind q refl);
             history = λ _. h;
           };

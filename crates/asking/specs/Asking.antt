@@ -22,7 +22,8 @@ use Rattle.order.specs.Order.{RoomForOrder}
 use Rattle.asking.specs.declared.ask.Asked.{Asked}
 use Rattle.asking.specs.declared.ask.Asked.the-variants.{At, Best}
 use Rattle.answers.specs.Answers.{AnswerAsked}
-use Rattle.prepare.specs.Preparing.{RootsGiven, Small, RootedRoom}
+use Rattle.rooted_state.specs.Prepared.{RootsGiven}
+use Rattle.prepare.specs.Preparing.{Small, RootedRoom}
 
 -- The limit at which the answer is written.
 abbrev pub limitOf : Asked → Graph → cover.Crews → ℕ

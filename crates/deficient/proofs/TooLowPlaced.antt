@@ -23,6 +23,7 @@ use Rattle.rules.specs.RootedTrial.{mayGo}
 use Rattle.planner_laws.proofs.RootedSize.{parts-edges-few, rooted-parts-few}
 use Rattle.deficient.specs.declared.Deficient.{Deficient}
 use Rattle.rooted_state.specs.Placed.{TrialArrays, PartsPlaced}
+use Rattle.rooted_state.proofs.PlacedPieces.{parts-count}
 use Rattle.deficient.specs.TooLowParts.{edgesOf, SetGiven, SetWritten, DeficientWritten}
 
 -- Pieces have as many edges as the trees that they are once their edges rise.
@@ -37,19 +38,19 @@ risen-edges starts cuts flat chosen =
 
 module _ {g : Graph} {roots : List ℕ} {limit : ℕ} {a : TrialArrays} {parts : ℕ} (p : PartsPlaced g roots limit a parts false) where
   pub too-low-given : Valid g → {room : ℕ} → parts * length roots ≤ length (a .rows) → 32708 ≤ room
-      → SetGiven (a .cuts) (a .flat) (a .places) parts (a .rows) (a .out) (length roots) room
+      → SetGiven (a .pieces .cuts) (a .pieces .flat) (a .pieces .places) parts (a .rows) (a .out) (length roots) room
   too-low-given valid rows most =
       let few = rooted-parts-few g roots limit valid in
       let light = parts-edges-few g roots limit valid in
-      let marks = p .deficient refl .each in
-      let same = ap (λ l. length (entryEdges l)) (p .parts-are) in
+      let marks = p .rows .deficient refl .each in
+      let same = ap (λ l. length (entryEdges l)) (p .pieces .parts-are) in
       record {
-        places-room = p .parts-room;
+        places-room = p .pieces .parts-room;
         marks-room = omega (arith, length-take parts (a .out));
         rows-room = rows;
-        held = p .parts-held;
-        few = omega (arith, p .parts-count, valid .vertices-most);
-        light = omega (arith, same, risen-edges (a .starts) (a .cuts) (a .flat) (take parts (a .places)), valid .vertices-most);
+        held = p .pieces .parts-held;
+        few = omega (arith, parts-count (p .pieces), valid .vertices-most);
+        light = omega (arith, same, risen-edges (a .pieces .starts) (a .pieces .cuts) (a .pieces .flat) (take parts (a .pieces .places)), valid .vertices-most);
         most = most;
       }
 
@@ -57,17 +58,17 @@ module _ {g : Graph} {roots : List ℕ} {limit : ℕ} {a : TrialArrays} {parts :
   same-allowed : (marks : List ℕ) → allowedRoots parts (length roots) (allowedAt (a .rows) (length roots)) marks ≡ allowedRoots parts (length roots) (mayGo g roots limit) marks
   same-allowed marks =
       count-same (length roots) _ _
-      (λ j l. any-below-same parts _ _ (λ i h. ap (λ t. marked marks i && t) (p .near i j h l)))
+      (λ j l. any-below-same parts _ _ (λ i h. ap (λ t. marked marks i && t) (p .rows .near i j h l)))
 
   pub too-low-written : {before after : List ℕ} {r : Deficient}
-      → SetWritten (a .starts) (a .cuts) (a .flat) (a .places) parts (a .rows) (a .out) (length roots) before after r
+      → SetWritten (a .pieces .starts) (a .pieces .cuts) (a .pieces .flat) (a .pieces .places) parts (a .rows) (a .out) (length roots) before after r
       → DeficientWritten g roots limit (take parts (a .out)) before after r
   too-low-written w =
       record {
         bytes = w .bytes;
-        written = rw (p .parts-are) at (w .written);
-        parts-are = w .parts-are ∙ ap (λ n. markedParts n (take parts (a .out))) (p .parts-count);
+        written = rw (p .pieces .parts-are) at (w .written);
+        parts-are = w .parts-are ∙ ap (λ n. markedParts n (take parts (a .out))) (parts-count (p .pieces));
         roots-are =
             w .roots-are ∙ same-allowed (take parts (a .out))
-            ∙ ap (λ n. allowedRoots n (length roots) (mayGo g roots limit) (take parts (a .out))) (p .parts-count);
+            ∙ ap (λ n. allowedRoots n (length roots) (mayGo g roots limit) (take parts (a .out))) (parts-count (p .pieces));
       }

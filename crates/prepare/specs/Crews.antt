@@ -1,9 +1,8 @@
 -- The crews of a question below the entry point: a kind, their number, and a root for each where they have roots; and what they read, prepared.
 -- Assumes nothing.
-use Prim.Native.Nat.{ℕ, _≤_}
+use Prim.Native.Nat.{ℕ}
 use mathlib.Core.Path.{_≡_}
 use mathlib.Core.List.{List}
-use lib.ListN.{length}
 use Rattle.graph.specs.Valid.{IsGraph}
 use Rattle.rules.specs.Cover as cover
 use Rattle.cover.specs.declared.crews.Kind.{Kind}
@@ -20,6 +19,5 @@ crewsWith Unrooted k roots = cover.unrooted k
 -- of its merges. Of what only the other kind reads nothing is said.
 pub record CrewsReady (kind : Kind) (b roots kept table total until : List ℕ) : Type 0 where
   pub graph : IsGraph b
-  pub roots-some : kind ≡ Rooted → 1 ≤ length roots
   pub decidable : kind ≡ Rooted → Decidable b roots kept table
   pub history : kind ≡ Unrooted → HistoryReady b kept total until

@@ -4,24 +4,16 @@ use Prim.Native.Nat.{ℕ, _*_, _≤_, _<_}
 use mathlib.Core.Path.{_≡_}
 use mathlib.Core.Bool.{Bool, true}
 use mathlib.Core.List.{List}
-use lib.ListN.{length, getD, take}
+use lib.ListN.{length, take}
 use Rattle.graph.specs.Graph.{Graph, edgeCount}
 use Rattle.graph.specs.Bytes.{graphOf}
-use Rattle.graph.specs.Valid.{IsGraph}
 use Rattle.rules.specs.Order.{ordered}
 use Rattle.rules.specs.Labels.{together}
 use Rattle.rules.specs.Forest.{keep}
 use Rattle.order.specs.Order.{RoomForOrder}
-use Rattle.rooted_state.specs.Prepared.{Prepared}
+use Rattle.rooted_state.specs.Prepared.{RootsGiven, Prepared}
 use Rattle.unrooted.specs.Answer.{HistoryReady}
 use Rattle.prepare.specs.declared.Ready.{Ready}
-
--- A graph's bytes, and roots among its vertices, at least one and at most 32.
-pub record RootsGiven (b roots : List ℕ) : Type 0 where
-  pub graph : IsGraph b
-  pub inside : (j : ℕ) → j < length roots → getD roots j 0 < graphOf b .vertices
-  pub some : 1 ≤ length roots
-  pub few : length roots ≤ 32
 
 -- A graph's bytes, and room for the order of its edges and for its forest.
 pub record ForestAsked (b : List ℕ) (keys spare order kept : ℕ) : Type 0 where
@@ -63,8 +55,7 @@ pub record RootedRoom (n m k : ℕ) (order kept bounds all arcs table lasts : �
 
 -- A graph's bytes, roots among its vertices, and room for its edges by number, their arcs, and the distances from all roots.
 pub record DistancesAsked (b roots : List ℕ) (numbers bounds all table lasts : ℕ) : Type 0 where
-  pub graph : IsGraph b
-  pub roots-inside : (j : ℕ) → j < length roots → getD roots j 0 < graphOf b .vertices
+  pub given : RootsGiven b roots
   pub numbers-room : edgeCount (graphOf b) ≤ numbers
   pub bounds-room : graphOf b .vertices < bounds
   pub all-room : 2 * edgeCount (graphOf b) ≤ all

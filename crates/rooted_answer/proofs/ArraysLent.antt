@@ -31,5 +31,5 @@ module _ {b roots : List ℕ} {limit : ℕ} {order bounds arcs table lasts : Lis
   -- and 8,192 for every graph and all roots.
   pub full-lent : JoinedAsked b roots limit order bounds arcs table lasts room → ZerosLent b roots limit order bounds arcs table lasts room 8192
   full-lent asked =
-      let d = asked .asked .prepared .decidable in
-      zeros-lent asked 8192 (omega (arith, mul-le-mul (d .graph .valid .vertices-most) (d .roots-few)))
+      let given = asked .asked .prepared .decidable .given in
+      zeros-lent asked 8192 (omega (arith, mul-le-mul (given .graph .valid .vertices-most) (given .few)))

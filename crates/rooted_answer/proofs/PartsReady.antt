@@ -7,25 +7,24 @@ use native.Mathlib.Omega.{arith}
 use lib.ListN.{length, replicate, length-replicate}
 use Rattle.graph.specs.Bytes.{graphOf}
 use Rattle.rooted_state.specs.Prepared.{WholeAround, PartsReady}
-use Rattle.rooted_parts.specs.Parts.{PieceArrays, arraysOf, PiecesAsked, PartsAsked}
+use Rattle.rooted_state.specs.Placed.{PieceArrays, arraysOf}
+use Rattle.rooted_state.proofs.LimitDecided.{limit-ready}
+use Rattle.rooted_parts.specs.Parts.{PiecesAsked, PartsAsked}
 
 -- The arrays before the trial.
 abbrev pub emptyArrays : PieceArrays
 emptyArrays = arraysOf (replicate 288 0) (replicate 289 0) (replicate 256 0) (replicate 32 0) (replicate 256 0)
 
 pieces-asked : {b roots : List ℕ} {limit : ℕ} {bounds arcs table : List ℕ} → PartsReady b roots limit table
-    → WholeAround b roots bounds arcs → PiecesAsked (graphOf b) b roots limit bounds arcs emptyArrays
+    → WholeAround b roots bounds arcs → PiecesAsked b roots limit bounds arcs emptyArrays
 pieces-asked r around =
-    let d = r .asked .decidable in
-    let most = d .graph .valid .vertices-most in
-    let few = d .roots-few in
+    let given = r .asked .decidable .given in
+    let most = given .graph .valid .vertices-most in
+    let few = given .few in
     record {
-      graph = d .graph;
+      given = given;
       around = around;
       joined = r .joined;
-      roots-inside = d .roots-inside;
-      roots-some = r .asked .roots-some;
-      roots-few = few;
       starts-room = omega (arith, most, few, length-replicate {A = ℕ} 288 0);
       cuts-room = omega (arith, most, few, length-replicate {A = ℕ} 289 0);
       flat-room = omega (arith, most, length-replicate {A = ℕ} 256 0);
@@ -35,13 +34,11 @@ pieces-asked r around =
 
 pub parts-asked : {b roots : List ℕ} {limit : ℕ} {bounds arcs table : List ℕ} → PartsReady b roots limit table → WholeAround b roots bounds arcs
     → {rows : List ℕ} → graphOf b .vertices * length roots ≤ length rows
-    → PartsAsked (graphOf b) b roots limit bounds arcs table emptyArrays rows (replicate 256 0)
+    → PartsAsked b roots limit bounds arcs table emptyArrays rows (replicate 256 0)
 parts-asked r around room =
-    let d = r .asked .decidable in
     record {
       pieces = pieces-asked r around;
-      tabled = d .distances;
-      limit-most = r .asked .limit-most;
+      ready = limit-ready (r .asked);
       rows-room = room;
-      out-room = omega (arith, d .graph .valid .vertices-most, length-replicate {A = ℕ} 256 0);
+      out-room = omega (arith, r .asked .decidable .given .graph .valid .vertices-most, length-replicate {A = ℕ} 256 0);
     }

@@ -20,8 +20,10 @@ use Rattle.pieces.specs.declared.reply.Reply.the-variants.{Cover}
 use Rattle.rooted_answer.specs.Answer.{RootedAnswerAsked, JoinedAsked, JoinedLent, PlacedGiven}
 use Rattle.rooted_cover.specs.CoverTrees.{CoverAsked, CoverAtLimits}
 use Rattle.rooted_state.specs.Prepared.{PartsReady}
-use Rattle.rooted_state.specs.Placed.{TrialArrays, trialArrays, PartsPlaced}
+use Rattle.rooted_state.specs.Placed.{arraysOf, TrialArrays, trialArrays, PartsPlaced}
 use Rattle.deficient.specs.TooLowParts.{SetGiven, SetReplied}
+use Rattle.rooted_state.proofs.LimitDecided.{limit-ready}
+use Rattle.rooted_state.proofs.PlacedPieces.{parts-count}
 use Rattle.rooted_answer.proofs.RootedAnswers.{answers-cover, answers-parts}
 use Rattle.deficient.proofs.TooLowPlaced.{too-low-given, too-low-written}
 
@@ -38,7 +40,7 @@ module _ {b roots : List ℕ} {limit : ℕ} {order bounds arcs table lasts rows 
   joined-ready =
       let a = l .asked .asked in
       record {
-        asked = record { decidable = a .prepared .decidable; roots-some = a .roots-some; limit-most = a .limit-most };
+        asked = record { decidable = a .prepared .decidable; limit-most = a .limit-most };
         joined = l .asked .joined;
       }
 
@@ -48,20 +50,19 @@ module _ {b roots : List ℕ} {limit : ℕ} {order bounds arcs table lasts rows 
   placed-given {parts = parts} placed large =
       let asked = l .asked .asked in
       let d = asked .prepared .decidable in
-      let few : parts ≤ graphOf b .vertices = omega (arith, placed .parts-count, rooted-parts-few (graphOf b) roots limit (d .graph .valid)) in
+      let few : parts ≤ graphOf b .vertices = omega (arith, parts-count (placed .pieces), rooted-parts-few (graphOf b) roots limit (d .given .graph .valid)) in
       record {
-        graph = d .graph;
-        in-order = asked .prepared .in-order;
-        roots-inside = d .roots-inside;
-        roots-few = d .roots-few;
-        distances = d .distances;
-        last-edges = asked .prepared .last-edges;
-        limit-most = asked .limit-most;
+        cover =
+            record {
+              ready = limit-ready (joined-ready .asked);
+              in-order = asked .prepared .in-order;
+              last-edges = asked .prepared .last-edges;
+              edges-fit = l .edges-fit;
+              most = asked .most;
+            };
         joined = l .asked .joined;
         placed = placed;
         rows-room = omega (arith, mul-le-mul-right (length roots) few, l .rows-room);
-        edges-fit = l .edges-fit;
-        most = asked .most;
       }
 
 module _ {b roots : List ℕ} {limit : ℕ} {order table lasts starts cuts flat lefts places rows out : List ℕ} {parts : ℕ} {assigned : Bool}
@@ -73,37 +74,23 @@ module _ {b roots : List ℕ} {limit : ℕ} {order table lasts starts cuts flat 
   placed-as t q = rw q at (p .placed)
 
   decided : (t : Bool) → assigned ≡ t → isAssignable g roots limit ≡ t
-  decided t q = sym (placed-as t q .assigned-is)
+  decided t q = sym (placed-as t q .rows .assigned-is)
 
   -- Where each part has a root of its own, the cover may be written,
-  pub cover-asked : assigned ≡ true → CoverAsked b order table lasts roots starts cuts flat lefts places parts out edges-room room
-  cover-asked q =
-      record {
-        graph = p .graph;
-        in-order = p .in-order;
-        roots-inside = p .roots-inside;
-        roots-few = p .roots-few;
-        distances = p .distances;
-        last-edges = p .last-edges;
-        limit = limit;
-        limit-small = p .limit-most;
-        rows = rows;
-        placed = placed-as true q;
-        edges-fit = p .edges-fit;
-        most = p .most;
-      }
+  pub cover-asked : assigned ≡ true → CoverAsked b order table lasts roots (arraysOf starts cuts flat lefts places) parts out edges-room room
+  cover-asked q = record { limit = limit; rows = rows; ready = p .cover; placed = placed-as true q }
 
   -- and is the answer.
   pub cover-answered : assigned ≡ true → {before after : List ℕ} {h : ℕ}
-      → CoverAtLimits g roots starts cuts flat lefts places parts out before after h
+      → CoverAtLimits g roots (arraysOf starts cuts flat lefts places) parts out before after h
       → Answers g (rooted roots) limit before after (Cover limit h (length roots))
   cover-answered q w =
-      let x = w .at-limit limit rows (p .limit-most) (placed-as true q) in
+      let x = w .at-limit limit rows (p .cover .ready .limit-most) (placed-as true q) in
       answers-cover g roots limit (p .joined) (x .good) (decided true q) (x .put) (x .heaviest-is)
 
   -- Otherwise the deficient set may be written,
   pub set-given : assigned ≡ false → SetGiven cuts flat places parts rows out (length roots) room
-  set-given q = too-low-given (placed-as false q) (p .graph .valid) (p .rows-room) (p .most)
+  set-given q = too-low-given (placed-as false q) (p .cover .ready .given .graph .valid) (p .rows-room) (p .cover .most)
 
   -- and is the answer.
   pub set-answered : assigned ≡ false → {before after : List ℕ} {r : Reply}
@@ -111,5 +98,5 @@ module _ {b roots : List ℕ} {limit : ℕ} {order table lasts starts cuts flat 
   set-answered q s =
       let x = placed-as false q in
       let deficient : IsDeficient (length (rootedParts g roots limit)) (length roots) (mayGo g roots limit) (take parts out) =
-      rw (← (x .parts-count)) (x .deficient refl) in
+      rw (← (parts-count (x .pieces))) (x .rows .deficient refl) in
       rw (s .is) (answers-parts g roots limit (p .joined) deficient (decided false q) (too-low-written x (s .written)))

@@ -1,25 +1,22 @@
 -- What answering a rooted trial asks, over what is prepared once a question (document 01, a "yard" trial, steps 2 to 6).
 -- Assumes nothing.
-use Prim.Native.Nat.{ℕ, _*_, _≤_, _<_}
+use Prim.Native.Nat.{ℕ, _*_, _≤_}
 use mathlib.Core.Path.{_≡_}
 use mathlib.Core.Bool.{Bool}
 use mathlib.Core.List.{List}
 use mathlib.Core.Option.{none}
-use lib.ListN.{length, getD}
+use lib.ListN.{length}
 use Rattle.graph.specs.Bytes.{graphOf}
-use Rattle.graph.specs.Valid.{IsGraph}
 use Rattle.rules.specs.Order.{ordered}
 use Rattle.rules.specs.Labels.{together}
 use Rattle.rules.specs.Forest.{keep}
 use Rattle.rules.specs.RootedTrial.{unjoinedAt}
-use Rattle.distance_table.specs.Tabled.{DistancesTabled, LastsTabled}
-use Rattle.rooted_state.specs.Placed.{TrialArrays, PartsPlaced}
+use Rattle.rooted_state.specs.Placed.{TrialArrays, PartsPlaced, CoverReady}
 use Rattle.rooted_state.specs.Prepared.{Prepared}
 
--- What the answer at a limit asks: what is prepared, a root, a limit no larger than document 01 has it, and a large buffer.
+-- What the answer at a limit asks: what is prepared, a limit no larger than document 01 has it, and a large buffer.
 pub record RootedAnswerAsked (b roots : List ℕ) (limit : ℕ) (order kept bounds arcs table lasts : List ℕ) (room : ℕ) : Type 0 where
   pub prepared : Prepared b roots order kept bounds arcs table lasts
-  pub roots-some : 1 ≤ length roots
   pub limit-most : limit ≤ 2048000000
   pub most : 32708 ≤ room
 
@@ -39,18 +36,10 @@ pub record JoinedSmall (b roots : List ℕ) (limit : ℕ) (order bounds arcs tab
   pub asked : JoinedAsked b roots limit order bounds arcs table lasts room
   pub small : graphOf b .vertices * length roots ≤ 512
 
--- What is asked where the parts are placed: the arrays of the trial, with a row for each part, and for each root room for an edge of each vertex.
+-- What is asked where the parts are placed: what a cover is made by, and the arrays of the trial, with a row for each part.
 pub record PlacedGiven (b roots : List ℕ) (limit : ℕ) (order table lasts : List ℕ) (a : TrialArrays) (parts : ℕ) (assigned : Bool)
     (edges-room room : ℕ) : Type 0 where
-  pub graph : IsGraph b
-  pub in-order : order ≡ ordered (graphOf b)
-  pub roots-inside : (j : ℕ) → j < length roots → getD roots j 0 < graphOf b .vertices
-  pub roots-few : length roots ≤ 32
-  pub distances : DistancesTabled (graphOf b) roots table
-  pub last-edges : LastsTabled (graphOf b) roots table lasts
-  pub limit-most : limit ≤ 2048000000
+  pub cover : CoverReady b roots limit order table lasts edges-room room
   pub joined : unjoinedAt (graphOf b) roots limit ≡ none
   pub placed : PartsPlaced (graphOf b) roots limit a parts assigned
   pub rows-room : parts * length roots ≤ length (a .rows)
-  pub edges-fit : length roots * graphOf b .vertices ≤ edges-room
-  pub most : 32708 ≤ room

@@ -4,10 +4,10 @@
 use Prim.Native.Nat.{ℕ, _*_, _≤_, _<_}
 use mathlib.Core.Path.{_≡_, refl, sym, ap, _∙_}
 use mathlib.Core.Bool.{true}
-use mathlib.Core.List.{List, [], map-map}
+use mathlib.Core.List.{List}
 use native.Mathlib.Omega.{arith}
 use lib.ListN.{length, getD, take, length-take, length-drop}
-use lib.Seq.{getD-take, length-take-le}
+use lib.Seq.{getD-take}
 use lib.Dec.{leb}
 use borrow.Author.Tests.{leb-true}
 use Rattle.lists.specs.Lists.{any}
@@ -15,14 +15,13 @@ use Rattle.lists.specs.Member.{_∈_}
 use Rattle.lists.specs.Segments.{segment}
 use Rattle.lists.specs.Sort.{rise}
 use Rattle.lists.proofs.Member.{any-found}
-use Rattle.lists.proofs.Places.{at-place, map-at}
 use Rattle.lists.proofs.Sorting.{in-rise, of-rise}
 use Rattle.graph.specs.Graph.{Graph, edgeCount}
 use Rattle.graph.specs.Valid.{Valid}
 use Rattle.matching.specs.Assignment.{IsAssignment}
 use Rattle.rules.specs.Cover.{Tree}
 use Rattle.rules.specs.Distance.{treeVertices, reachesPart, IsShortestPath}
-use Rattle.rules.specs.Held.{treeAt, treesAt, risen}
+use Rattle.rules.specs.Held.{risen}
 use Rattle.rules.specs.Labels.{together}
 use Rattle.rules.specs.RootedTrial.{rootedPieces, rootedParts, partOf, leftAt, mayGo}
 use Rattle.rules.proofs.Linked.{turned}
@@ -30,11 +29,11 @@ use Rattle.forest_laws.proofs.Forest.{forest-light}
 use Rattle.planner_laws.proofs.RootedPieces.{part-at, rooted-left}
 use Rattle.distance.specs.Trail.{trailOf}
 use Rattle.distance.specs.Shortest.{unreached, Shortest}
-use Rattle.pieces.specs.Pieces.{treeOf}
 use Rattle.distance_table.specs.Nearest.{Nearest}
 use Rattle.distance_table.specs.Tabled.{distanceIn, DistancesTabled, LastsTabled, rowOf}
 use Rattle.rooted_state.specs.Placed.{TrialArrays, PartsPlaced}
 use Rattle.rooted_cover.specs.Tree.{BackGiven}
+use Rattle.rooted_state.proofs.PlacedPieces.{pieceAt, parts-count, part-is, start-in}
 use Rattle.rooted_state.proofs.NearMeansMayGo.{says-within, tree-reaches, reaches-risen, more-edges, around-inside}
 use Rattle.distance_table.proofs.RootPath.{nearest-back, nearest-shortest-path}
 use Rattle.distance_table.proofs.RowPlaces as rows
@@ -42,10 +41,6 @@ use Rattle.distance_table.proofs.RowPlaces as rows
 -- An array with room for k rows of n has the whole of each.
 pub row-whole : (n : ℕ) (array : List ℕ) (j k : ℕ) → j < k → k * n ≤ length array → n ≤ length (rowOf n array j)
 row-whole n array j k h room = simp (length-take, length-drop) (omega (arith, rows.row-room j k n (length array) h room))
-
--- The piece at place i.
-abbrev pub pieceAt : TrialArrays → ℕ → Tree
-pieceAt a i = treeOf (getD (a .starts) (getD (a .places) i 0) 0) (segment (a .cuts) (a .flat) (getD (a .places) i 0))
 
 -- A tree covers the same vertices once its edges rise,
 vertices-risen : (g : Graph) (t : Tree) {v : ℕ} → v ∈ treeVertices g t → v ∈ treeVertices g (risen t)
@@ -74,7 +69,7 @@ vertices-inside {g} valid t h v m = around-inside g (t .start) valid h (t .edges
 
 module _ {g : Graph} {roots : List ℕ} {limit : ℕ} {a : TrialArrays} {parts : ℕ} (p : PartsPlaced g roots limit a parts true) where
   abbrev pub given : IsAssignment parts (length roots) (mayGo g roots limit) (take parts (a .out))
-  given = p .assignment refl
+  given = p .rows .assignment refl
 
   -- The assignment, by the array of bytes.
   pub byte : (i : ℕ) → i < parts → getD (take parts (a .out)) i 0 ≡ getD (a .out) i 0
@@ -92,64 +87,45 @@ module _ {g : Graph} {roots : List ℕ} {limit : ℕ} {a : TrialArrays} {parts :
   may-go : (i : ℕ) → i < parts → mayGo g roots limit i (getD (a .out) i 0) ≡ true
   may-go i h = rw (byte i h) at (given .may i h)
 
-  -- The parts are the pieces at the places, their edges rising.
-  pub places-many : length (take parts (a .places)) ≡ parts
-  places-many = length-take-le parts (a .places) (p .parts-room)
-
-  pub placed-part : (i : ℕ) → i < parts → partOf (rootedParts g roots limit) i ≡ risen (pieceAt a i)
-  unfolding partOf treesAt treeAt
-  placed-part i h =
-      let nothing : Tree = record { start = 0; edges = [] } in
-      let tree : ℕ → Tree = treeAt (a .starts) (a .cuts) (a .flat) in
-      ap (λ (l : List Tree). getD l i nothing) (sym (p .parts-are) ∙ map-map risen tree (take parts (a .places)))
-      ∙ map-at (λ c. risen (tree c)) 0 nothing (take parts (a .places)) i (omega (arith, places-many))
-      ∙ ap (λ c. risen (tree c)) (getD-take parts (a .places) i 0 h)
-
-  pub place-in : (i : ℕ) → i < parts → getD (a .places) i 0 ∈ take parts (a .places)
-  place-in i h = rw (getD-take parts (a .places) i 0 h) at (at-place 0 (take parts (a .places)) i (omega (arith, places-many)))
-
-  pub start-in : (i : ℕ) → i < parts → pieceAt a i .start < g .vertices
-  start-in i h = p .starts-inside _ (place-in i h)
-
   -- Edges of the parts and of the leftovers are edges of the graph.
-  pub part-edge : (i : ℕ) → i < parts → (e : ℕ) → e ∈ segment (a .cuts) (a .flat) (getD (a .places) i 0) → e < edgeCount g
+  pub part-edge : (i : ℕ) → i < parts → (e : ℕ) → e ∈ segment (a .pieces .cuts) (a .pieces .flat) (getD (a .pieces .places) i 0) → e < edgeCount g
   unfolding risen
   part-edge i h e m =
-      let is : partOf (rootedParts g roots limit) i .edges ≡ rise (segment (a .cuts) (a .flat) (getD (a .places) i 0)) = ap (λ (t : Tree). t .edges) (placed-part i h) in
-      forest-light g (together roots) limit e (part-at g roots limit i (omega (arith, p .parts-count)) .in-forest (rw is (in-rise m))) .0
+      let is : partOf (rootedParts g roots limit) i .edges ≡ rise (segment (a .pieces .cuts) (a .pieces .flat) (getD (a .pieces .places) i 0)) = ap (λ (t : Tree). t .edges) (part-is (p .pieces) i h) in
+      forest-light g (together roots) limit e (part-at g roots limit i (omega (arith, parts-count (p .pieces))) .in-forest (rw is (in-rise m))) .0
 
-  pub left-edge : (j : ℕ) → j < length roots → (e : ℕ) → e ∈ segment (a .cuts) (a .flat) (getD (a .lefts) j 0) → e < edgeCount g
+  pub left-edge : (j : ℕ) → j < length roots → (e : ℕ) → e ∈ segment (a .pieces .cuts) (a .pieces .flat) (getD (a .pieces .lefts) j 0) → e < edgeCount g
   left-edge j h e m =
       forest-light g (together roots) limit e
-      (rooted-left g roots limit j h .in-forest (of-rise (leftAt (rootedPieces g roots limit) j) (rw (p .lefts-are j h) at (in-rise m)))) .0
+      (rooted-left g roots limit j h .in-forest (of-rise (leftAt (rootedPieces g roots limit) j) (rw (p .pieces .lefts-are j h) at (in-rise m)))) .0
 
   module _ (valid : Valid g) {table : List ℕ} (tabled : DistancesTabled g roots table) (small : limit < unreached) (i : ℕ) (h : i < parts) where
     abbrev root : ℕ
     root = getD roots (getD (a .out) i 0) 0
 
     -- The table has a vertex of the part within the limit of it.
-    near-one : any (λ v. leb (distanceIn table (g .vertices) v (getD (a .out) i 0)) limit) (treeVertices g (pieceAt a i)) ≡ true
+    near-one : any (λ v. leb (distanceIn table (g .vertices) v (getD (a .out) i 0)) limit) (treeVertices g (pieceAt (a .pieces) i)) ≡ true
     unfolding mayGo
     near-one =
         let j : ℕ = getD (a .out) i 0 in
         tree-reaches valid limit root (λ v. leb (distanceIn table (g .vertices) v j) limit)
-        (λ v m. says-within limit _ _ small (tabled .each v j m (byte-is-root i h))) (pieceAt a i) (start-in i h)
-        ∙ reaches-risen g limit root (pieceAt a i)
-        ∙ ap (λ t. reachesPart g limit root t) (sym (placed-part i h))
+        (λ v m. says-within limit _ _ small (tabled .each v j m (byte-is-root i h))) (pieceAt (a .pieces) i) (start-in (p .pieces) i h)
+        ∙ reaches-risen g limit root (pieceAt (a .pieces) i)
+        ∙ ap (λ t. reachesPart g limit root t) (sym (part-is (p .pieces) i h))
         ∙ may-go i h
 
     abbrev dist : List ℕ
     dist = rowOf (g .vertices) table (getD (a .out) i 0)
 
     -- So the nearest vertex of the part has a distance from its root.
-    nearest-reached : {v : ℕ} → Nearest g dist (pieceAt a i) v → getD dist v 0 < unreached
+    nearest-reached : {v : ℕ} → Nearest g dist (pieceAt (a .pieces) i) v → getD dist v 0 < unreached
     nearest-reached n =
         let j : ℕ = getD (a .out) i 0 in
-        let (u, m, t) = any-found (λ v. leb (distanceIn table (g .vertices) v j) limit) (treeVertices g (pieceAt a i)) near-one in
-        let there = rows.part-at (j * g .vertices) (g .vertices) table u (vertices-inside valid (pieceAt a i) (start-in i h) u m) in
+        let (u, m, t) = any-found (λ v. leb (distanceIn table (g .vertices) v j) limit) (treeVertices g (pieceAt (a .pieces) i)) near-one in
+        let there = rows.part-at (j * g .vertices) (g .vertices) table u (vertices-inside valid (pieceAt (a .pieces) i) (start-in (p .pieces) i h) u m) in
         omega (arith, n .nearest u m, there, leb-true (distanceIn table (g .vertices) u j) limit t)
 
-    module _ {lasts : List ℕ} (last : LastsTabled g roots table lasts) {v : ℕ} (n : Nearest g dist (pieceAt a i) v) where
+    module _ {lasts : List ℕ} (last : LastsTabled g roots table lasts) {v : ℕ} (n : Nearest g dist (pieceAt (a .pieces) i) v) where
       abbrev row : List ℕ
       row = rowOf (g .vertices) lasts (getD (a .out) i 0)
 
@@ -168,5 +144,5 @@ module _ {g : Graph} {roots : List ℕ} {limit : ℕ} {a : TrialArrays} {parts :
       -- and it is a shortest path to the part.
       pub part-path : root < g .vertices → IsShortestPath g root (partOf (rootedParts g roots limit) i) (turned (trailOf row root v))
       part-path inside =
-          rw (placed-part i h)
-          (path-risen (nearest-shortest-path shortest n (nearest-reached n) valid inside (vertices-inside valid (pieceAt a i) (start-in i h))))
+          rw (part-is (p .pieces) i h)
+          (path-risen (nearest-shortest-path shortest n (nearest-reached n) valid inside (vertices-inside valid (pieceAt (a .pieces) i) (start-in (p .pieces) i h))))

@@ -18,6 +18,7 @@ use Rattle.lists.proofs.Runs.{length-below, map-same}
 use Rattle.lists.proofs.Segments.{segment-kept, segment-new, bounded-more}
 use Rattle.graph.specs.Graph.{Graph}
 use Rattle.graph.specs.Bytes.{graphOf}
+use Rattle.graph.specs.Valid.{Valid}
 use Rattle.rules.specs.Cover.{Tree, heaviest}
 use Rattle.rules.specs.CoverBytes.{encode}
 use Rattle.rules.specs.Held.{treeAt, treesAt}
@@ -27,14 +28,15 @@ use Rattle.planner_laws.proofs.RootedSize.{cover-tree-few}
 use Rattle.cover.specs.Chosen.{AllHeld, HeaviestChosen, Writable}
 use Rattle.cover.proofs.ChosenFit.{bounded-held}
 use Rattle.pieces.proofs.LaidLists.{laid-none}
-use Rattle.rooted_state.specs.Placed.{trialArrays, PartsPlaced}
-use Rattle.rooted_cover.specs.CoverTrees.{RootTree, TreePut, TreesLaid, CoverAsked, CoverAtLimits}
+use Rattle.rooted_state.specs.Prepared.{LimitReady}
+use Rattle.rooted_state.specs.Placed.{PieceArrays, PartsPlaced}
+use Rattle.rooted_cover.specs.CoverTrees.{RootTree, TreePut, TreesLaid, partsOf, CoverAsked, CoverAtLimits}
 use Rattle.rooted_cover.proofs.PartPaths.{paths-for}
 use Rattle.rooted_cover.proofs.RootedChoices.{choicesOf, choices-good, tree-of-cover}
 
-module _ {g : Graph} {table lasts roots starts cuts flat lefts places out : List ℕ} where
+module _ {g : Graph} {table lasts roots : List ℕ} {a : PieceArrays} {out : List ℕ} where
   -- No tree yet, where the first bound is 0.
-  pub trees-none : (bounds edges : List ℕ) → getD bounds 0 0 ≡ 0 → TreesLaid g table lasts roots starts cuts flat lefts places out 0 0 bounds edges
+  pub trees-none : (bounds edges : List ℕ) → getD bounds 0 0 ≡ 0 → TreesLaid g table lasts roots a out 0 0 bounds edges
   trees-none bounds edges q =
       record {
         bounded = laid-none (segment bounds edges) bounds edges q .bounded;
@@ -43,9 +45,9 @@ module _ {g : Graph} {table lasts roots starts cuts flat lefts places out : List
       }
 
   -- One tree more.
-  pub trees-more : {i at end : ℕ} {bounds edges after : List ℕ} → TreesLaid g table lasts roots starts cuts flat lefts places out i at bounds edges → i + 1 < length bounds
-      → TreePut g table lasts roots starts cuts flat lefts places out i at edges after end
-      → TreesLaid g table lasts roots starts cuts flat lefts places out (i + 1) end (set bounds (i + 1) end) after
+  pub trees-more : {i at end : ℕ} {bounds edges after : List ℕ} → TreesLaid g table lasts roots a out i at bounds edges → i + 1 < length bounds
+      → TreePut g table lasts roots a out i at edges after end
+      → TreesLaid g table lasts roots a out (i + 1) end (set bounds (i + 1) end) after
   trees-more {i} {at} {end} {bounds} {edges} {after} w room t =
       let p = t .put in
       let new : segment (set bounds (i + 1) end) after i ≡ t .tree =
@@ -54,29 +56,35 @@ module _ {g : Graph} {table lasts roots starts cuts flat lefts places out : List
         bounded = bounded-more (w .bounded) end room (omega (arith, p .behind));
         inside = omega (arith, p .behind, p .put .room, put-length (p .put));
         are =
-            below-more (λ h. RootTree g table lasts roots starts cuts flat lefts places out h (segment (set bounds (i + 1) end) after h)) i
+            below-more (λ h. RootTree g table lasts roots a out h (segment (set bounds (i + 1) end) after h)) i
             (λ h l. rw (segment-kept (w .bounded) end edges after (put-before (p .put)) h l) (w .are h l))
             (rw new (t .is-tree));
       }
 
-module _ {b order table lasts roots starts cuts flat lefts places : List ℕ} {parts : ℕ} {out : List ℕ} {edges-room room : ℕ}
-    (asked : CoverAsked b order table lasts roots starts cuts flat lefts places parts out edges-room room) {used : ℕ} {bounds edges : List ℕ}
-    (laid : TreesLaid (graphOf b) table lasts roots starts cuts flat lefts (take parts places) out (length roots) used bounds edges) where
+module _ {b order table lasts roots : List ℕ} {a : PieceArrays} {parts : ℕ} {out : List ℕ} {edges-room room : ℕ}
+    (asked : CoverAsked b order table lasts roots a parts out edges-room room) {used : ℕ} {bounds edges : List ℕ}
+    (laid : TreesLaid (graphOf b) table lasts roots (partsOf parts a) out (length roots) used bounds edges) where
   abbrev g : Graph
   g = graphOf b
+
+  abbrev ready : LimitReady b roots (asked .limit) table
+  ready = asked .ready .ready
+
+  abbrev valid : Valid g
+  valid = ready .given .graph .valid
 
   -- The trees that are laid.
   abbrev trees : List Tree
   trees = treesAt roots bounds edges (below (length roots))
 
-  module _ (limit : ℕ) (rows : List ℕ) (small : limit ≤ 2048000000) (p : PartsPlaced g roots limit (trialArrays starts cuts flat lefts places rows out) parts true) where
+  module _ (limit : ℕ) (rows : List ℕ) (small : limit ≤ 2048000000) (p : PartsPlaced g roots limit (record { pieces = a; rows = rows; out = out }) parts true) where
     -- They are the cover of some good choices.
     cover-is : (c : Choices) × GoodChoices g roots limit c × (trees ≡ rootedCover g roots limit c)
     unfolding treesAt treeAt rootedCover rootedParts unionTree
     cover-is =
         let (paths, path-of) = paths-for p (laid .are) in (
           choicesOf (take parts out) paths,
-          choices-good p paths path-of (asked .graph .valid) (asked .distances) (omega arith) (asked .last-edges) (asked .roots-inside),
+          choices-good p paths path-of valid (ready .distances) (omega arith) (asked .ready .last-edges) (ready .given .inside),
           map-same (below (length roots))
               (λ j m.
               let h = of-below (length roots) m in
@@ -89,19 +97,19 @@ module _ {b order table lasts roots starts cuts flat lefts places : List ℕ} {p
   pub trees-writable : Writable roots bounds edges (below (length roots)) room
   unfolding treesAt
   trees-writable =
-      let (c, good, is) = cover-is (asked .limit) (asked .rows) (asked .limit-small) (asked .placed) in
-      let few : length trees ≤ 32 = omega (arith, length-map (below (length roots)) (treeAt roots bounds edges), length-below (length roots), asked .roots-few) in
+      let (c, good, is) = cover-is (asked .limit) (asked .rows) (ready .limit-most) (asked .placed) in
+      let few : length trees ≤ 32 = omega (arith, length-map (below (length roots)) (treeAt roots bounds edges), length-below (length roots), ready .given .few) in
       record {
         held = trees-held;
         fits = omega (
           arith,
-          asked .most,
-          bytes-few trees few (λ t m. omega (arith, cover-tree-few g roots (asked .limit) (asked .graph .valid) c (rw is at m), asked .graph .valid .vertices-most)),
+          asked .ready .most,
+          bytes-few trees few (λ t m. omega (arith, cover-tree-few g roots (asked .limit) valid c (rw is at m), valid .vertices-most)),
         );
       }
 
   pub cover-written : {before after : List ℕ} {end r : ℕ} → PutTo 0 (encode trees) before after end → HeaviestChosen g bounds edges (below (length roots)) r
-      → CoverAtLimits g roots starts cuts flat lefts places parts out before after r
+      → CoverAtLimits g roots a parts out before after r
   cover-written put heavy =
       record {
         at-limit =

@@ -4,7 +4,7 @@ pub mod RootUnion
 -- the part that a root is assigned, and the path to it
 pub mod AssignedPart
 -- each root's tree may be made
-pub mod RootsGiven
+pub mod RootTreesGiven
 -- each part's path, with which the tree of its root was made
 pub mod PartPaths
 -- the trees made for the roots are those of the trial's cover

@@ -16,22 +16,23 @@ use Rattle.distance.specs.Trail.{trailOf}
 use Rattle.distance_table.specs.Nearest.{Nearest}
 use Rattle.distance_table.specs.Tabled.{rowOf}
 use Rattle.rooted_state.specs.Placed.{TrialArrays, PartsPlaced}
+use Rattle.rooted_state.proofs.PlacedPieces.{pieceAt, places-many}
 use Rattle.rooted_cover.specs.Tree.{AssignedAre, none, part}
-use Rattle.rooted_cover.specs.CoverTrees.{RootTree}
-use Rattle.rooted_cover.proofs.AssignedPart.{pieceAt, byte-is-root, bytes-apart, places-many}
+use Rattle.rooted_cover.specs.CoverTrees.{RootTree, partsOf}
+use Rattle.rooted_cover.proofs.AssignedPart.{byte-is-root, bytes-apart}
 
 -- The path of part i, and the tree of its root: the path leads back from a nearest vertex of the part, and the tree is made with it.
 pub record PathFor (g : Graph) (table lasts roots : List ℕ) (a : TrialArrays) (tree : ℕ → List ℕ) (i : ℕ) (path : List ℕ) : Type 0 where
   pub vertex : ℕ
-  pub nearest : Nearest g (rowOf (g .vertices) table (getD (a .out) i 0)) (pieceAt a i) vertex
+  pub nearest : Nearest g (rowOf (g .vertices) table (getD (a .out) i 0)) (pieceAt (a .pieces) i) vertex
   pub path-is : path ≡ turned (trailOf (rowOf (g .vertices) lasts (getD (a .out) i 0)) (getD roots (getD (a .out) i 0) 0) vertex)
   pub tree-is : tree (getD (a .out) i 0)
       ≡ unionTree g (getD roots (getD (a .out) i 0) 0)
-      ((segment (a .cuts) (a .flat) (getD (a .places) i 0) ++ trailOf (rowOf (g .vertices) lasts (getD (a .out) i 0)) (getD roots (getD (a .out) i 0) 0) vertex)
-      ++ segment (a .cuts) (a .flat) (getD (a .lefts) (getD (a .out) i 0) 0)) .edges
+      ((segment (a .pieces .cuts) (a .pieces .flat) (getD (a .pieces .places) i 0) ++ trailOf (rowOf (g .vertices) lasts (getD (a .out) i 0)) (getD roots (getD (a .out) i 0) 0) vertex)
+      ++ segment (a .pieces .cuts) (a .pieces .flat) (getD (a .pieces .lefts) (getD (a .out) i 0) 0)) .edges
 
 module _ {g : Graph} {roots : List ℕ} {limit : ℕ} {a : TrialArrays} {parts : ℕ} (p : PartsPlaced g roots limit a parts true) {table lasts : List ℕ} {tree : ℕ → List ℕ}
-    (trees : (j : ℕ) → j < length roots → RootTree g table lasts roots (a .starts) (a .cuts) (a .flat) (a .lefts) (take parts (a .places)) (a .out) j (tree j)) where
+    (trees : (j : ℕ) → j < length roots → RootTree g table lasts roots (partsOf parts (a .pieces)) (a .out) j (tree j)) where
   -- Each part has its path.
   path-for : (i : ℕ) → i < parts → (path : List ℕ) × PathFor g table lasts roots a tree i path
   path-for i h = go (trees j (byte-is-root p i h) .assigned)
@@ -39,13 +40,13 @@ module _ {g : Graph} {roots : List ℕ} {limit : ℕ} {a : TrialArrays} {parts :
       j : ℕ
       j = getD (a .out) i 0
 
-      go : AssignedAre g (rowOf (g .vertices) table j) (rowOf (g .vertices) lasts j) (getD roots j 0) (a .starts) (a .cuts) (a .flat) (take parts (a .places)) (a .out) j (trees j (byte-is-root p i h) .edges)
+      go : AssignedAre g (rowOf (g .vertices) table j) (rowOf (g .vertices) lasts j) (getD roots j 0) (a .pieces .starts) (a .pieces .cuts) (a .pieces .flat) (take parts (a .pieces .places)) (a .out) j (trees j (byte-is-root p i h) .edges)
           → (path : List ℕ) × PathFor g table lasts roots a tree i path
-      go (none nobody q) = absurd (nobody i (omega (arith, places-many p)) refl)
+      go (none nobody q) = absurd (nobody i (omega (arith, places-many (p .pieces))) refl)
       go (part k v l f n q) =
-          let in-parts : k < parts = omega (arith, places-many p) in
+          let in-parts : k < parts = omega (arith, places-many (p .pieces)) in
           let same : k ≡ i = bytes-apart p k i in-parts h (f .here l) in
-          let place : getD (take parts (a .places)) k 0 ≡ getD (a .places) i 0 = getD-take parts (a .places) k 0 in-parts ∙ ap (λ x. getD (a .places) x 0) same in (
+          let place : getD (take parts (a .pieces .places)) k 0 ≡ getD (a .pieces .places) i 0 = getD-take parts (a .pieces .places) k 0 in-parts ∙ ap (λ x. getD (a .pieces .places) x 0) same in (
             turned (trailOf (rowOf (g .vertices) lasts j) (getD roots j 0) v),
             record {
               vertex = v;
@@ -53,8 +54,8 @@ module _ {g : Graph} {roots : List ℕ} {limit : ℕ} {a : TrialArrays} {parts :
               path-is = refl;
               tree-is =
                   trees j (byte-is-root p i h) .is
-                  ∙ ap (λ x. unionTree g (getD roots j 0) (x ++ segment (a .cuts) (a .flat) (getD (a .lefts) j 0)) .edges)
-                  (q ∙ ap (λ c. segment (a .cuts) (a .flat) c ++ trailOf (rowOf (g .vertices) lasts j) (getD roots j 0) v) place);
+                  ∙ ap (λ x. unionTree g (getD roots j 0) (x ++ segment (a .pieces .cuts) (a .pieces .flat) (getD (a .pieces .lefts) j 0)) .edges)
+                  (q ∙ ap (λ c. segment (a .pieces .cuts) (a .pieces .flat) c ++ trailOf (rowOf (g .vertices) lasts j) (getD roots j 0) v) place);
             },
           )
 

@@ -2,7 +2,7 @@
 -- Assumes nothing.
 use Prim.Native.Nat.{ℕ, _<_}
 use mathlib.Core.Path.{_≡_, refl, sym, ap, _∙_}
-use mathlib.Core.Bool.{Bool, true, false, cond, _||_}
+use mathlib.Core.Bool.{cond, or-comm}
 use mathlib.Core.List.{List, [], _++_}
 use native.Mathlib.Omega.{arith}
 use lib.ListN.{length, getD, replicate, length-replicate}
@@ -14,38 +14,26 @@ use Rattle.lists.proofs.Zeros.{zeros-at}
 use Rattle.graph.specs.Graph.{Graph, edgeCount}
 use Rattle.graph.specs.Valid.{Valid}
 use Rattle.unions.specs.Marked.{Marked}
-use Rattle.rooted_cover.specs.Tree.{AssignedMarked, nobody, somebody, AssignedAre, none, part, TreeKept, RootWritten}
+use Rattle.rooted_cover.specs.Tree.{AssignedMarked, TreeKept, RootWritten}
 use Rattle.unions.proofs.TreeMarks.{marked-both}
 use Rattle.unions.proofs.UnionEdges.{union-edges}
 
-or-swap : (p q : Bool) → p || q ≡ q || p
-or-swap true true = refl
-or-swap true false = refl
-or-swap false true = refl
-or-swap false false = refl
-
 member-swap : (e : ℕ) (xs ys : List ℕ) → member e (xs ++ ys) ≡ member e (ys ++ xs)
 unfolding member
-member-swap e xs ys = any-on (eqb e) xs ys ∙ or-swap (any (eqb e) xs) (any (eqb e) ys) ∙ sym (any-on (eqb e) ys xs)
+member-swap e xs ys = any-on (eqb e) xs ys ∙ or-comm (any (eqb e) xs) (any (eqb e) ys) ∙ sym (any-on (eqb e) ys xs)
 
 -- Nothing is marked for no edges.
-marked-none : {a b : List ℕ} → b ≡ a → Marked (λ e. member e []) a b
+pub marked-none : (a : List ℕ) → Marked (λ e. member e []) a a
 unfolding member any
-marked-none q = record { size = ap length q; each = λ j h. ap (λ l. getD l j 0) q }
+marked-none a = record { size = refl; each = λ j h. refl }
 
 module _ {g : Graph} {dist last : List ℕ} {root : ℕ} {starts cuts flat places out : List ℕ} {j : ℕ} where
-  -- The edges that were marked.
-  assigned-edges : {a b : List ℕ} → AssignedMarked g dist last root starts cuts flat places out j a b
-      → (edges : List ℕ) × (AssignedAre g dist last root starts cuts flat places out j edges) × Marked (λ e. member e edges) a b
-  assigned-edges (nobody h q) = ([], none h refl, marked-none q)
-  assigned-edges (somebody i h f m) = (_, part i (m .vertex) h f (m .nearest) refl, m .marks)
-
   pub root-written : Valid g → (left : ℕ) {a b before after : List ℕ} {r : ℕ} → Marked (λ e. member e (segment cuts flat left)) (replicate 2048 0) a
       → AssignedMarked g dist last root starts cuts flat places out j a b → TreeKept g b before after r
       → RootWritten g dist last root starts cuts flat left places out j before after r
   root-written valid left {b = b} m n t =
-      let (edges, are, marks) = assigned-edges n in
-      let all = marked-both (segment cuts flat left) edges m marks in
+      let edges = n .edges in
+      let all = marked-both (segment cuts flat left) edges m (n .marks) in
       let each : (e : ℕ) → e < edgeCount g → getD b e 0 ≡ cond (member e (edges ++ segment cuts flat left)) 1 0 =
       λ e h.
       all .each e (omega (arith, valid .edges-most, length-replicate {A = ℕ} 2048 0))
@@ -53,7 +41,7 @@ module _ {g : Graph} {dist last : List ℕ} {root : ℕ} {starts cuts flat place
       ∙ ap (λ t. cond t 1 0) (member-swap e (segment cuts flat left) edges) in
       record {
         edges = edges;
-        assigned = are;
+        assigned = n .are;
         written = rw (union-edges g root (edges ++ segment cuts flat left) b each) at (t .kept);
         fewer = t .fewer;
       }

@@ -28,10 +28,11 @@ use Rattle.distance.specs.Shortest.{unreached}
 use Rattle.distance_table.specs.Tabled.{DistancesTabled, LastsTabled, rowOf}
 use Rattle.rooted_state.specs.Placed.{TrialArrays, PartsPlaced}
 use Rattle.rooted_cover.specs.Tree.{AssignedAre, none, part}
-use Rattle.rooted_cover.specs.CoverTrees.{RootTree}
+use Rattle.rooted_cover.specs.CoverTrees.{RootTree, partsOf}
+use Rattle.rooted_state.proofs.PlacedPieces.{places-many, parts-count, part-is}
 use Rattle.rooted_state.proofs.NearMeansMayGo.{any-alike}
 use Rattle.unions.proofs.UnionEdges.{union-same}
-use Rattle.rooted_cover.proofs.AssignedPart.{given, byte, byte-is-root, bytes-apart, places-many, placed-part, part-path}
+use Rattle.rooted_cover.proofs.AssignedPart.{given, byte, byte-is-root, bytes-apart, part-path}
 use Rattle.rooted_cover.proofs.PartPaths.{PathFor}
 
 -- A list turned round has all its elements.
@@ -67,49 +68,49 @@ module _ {g : Graph} {roots : List ℕ} {limit : ℕ} {a : TrialArrays} {parts :
       → ((j : ℕ) → j < length roots → getD roots j 0 < g .vertices) → GoodChoices g roots limit choices
   choices-good valid tabled small last inside =
       record {
-        assigned = λ t. subst (λ n. IsAssignment n (length roots) (mayGo g roots limit) (take parts (a .out))) (p .parts-count) (given p);
+        assigned = λ t. subst (λ n. IsAssignment n (length roots) (mayGo g roots limit) (take parts (a .out))) (parts-count (p .pieces)) (given p);
         shortest =
             λ t i l.
-            let h : i < parts = omega (arith, p .parts-count) in
+            let h : i < parts = omega (arith, parts-count (p .pieces)) in
             let x = path-of i h in
             rw (byte p i h, x .path-is) (part-path p valid tabled small i h last (x .nearest) (inside (getD (a .out) i 0) (byte-is-root p i h)));
-        deficient = λ t. absurd (true≢false (p .assigned-is ∙ t));
+        deficient = λ t. absurd (true≢false (p .rows .assigned-is ∙ t));
       }
 
   module _ (j : ℕ) (h : j < length roots) where
     abbrev left : List ℕ
-    left = segment (a .cuts) (a .flat) (getD (a .lefts) j 0)
+    left = segment (a .pieces .cuts) (a .pieces .flat) (getD (a .pieces .lefts) j 0)
 
     abbrev own : List ℕ
     own = assignedEdges (rootedParts g roots limit) choices j
 
     abbrev piece : ℕ → List ℕ
-    piece i = segment (a .cuts) (a .flat) (getD (a .places) i 0)
+    piece i = segment (a .pieces .cuts) (a .pieces .flat) (getD (a .pieces .places) i 0)
 
     -- What is left at the root, in either order.
     to-left : (e : ℕ) → e ∈ left → e ∈ leftAt (rootedPieces g roots limit) j
-    to-left e m = of-rise (leftAt (rootedPieces g roots limit) j) (rw (p .lefts-are j h) at (in-rise m))
+    to-left e m = of-rise (leftAt (rootedPieces g roots limit) j) (rw (p .pieces .lefts-are j h) at (in-rise m))
 
     of-left : (e : ℕ) → e ∈ leftAt (rootedPieces g roots limit) j → e ∈ left
-    of-left e m = of-rise left (rw (p .lefts-are j h) (in-rise m))
+    of-left e m = of-rise left (rw (p .pieces .lefts-are j h) (in-rise m))
 
     -- The root's edges by the choices are those of a part whose byte is the root's, and of its path.
     part-edges : (i : ℕ) → i < parts → partOf (rootedParts g roots limit) i .edges ≡ rise (piece i)
     unfolding risen
-    part-edges i l = ap (λ (t : Tree). t .edges) (placed-part p i l)
+    part-edges i l = ap (λ (t : Tree). t .edges) (part-is (p .pieces) i l)
 
     in-own : (i : ℕ) → i < parts → getD (a .out) i 0 ≡ j → (e : ℕ) → e ∈ (rise (piece i) ++ getD paths i []) → e ∈ own
     unfolding assignedEdges
     in-own i l q e m =
         in-chosen (λ i. partOf (rootedParts g roots limit) i .edges ++ getD paths i []) (λ i. eqb (getD (take parts (a .out)) i 0) j) (length (rootedParts g roots limit))
-        i (omega (arith, p .parts-count)) (eq-eqb _ _ (byte p i l ∙ q)) (rw (part-edges i l) m)
+        i (omega (arith, parts-count (p .pieces))) (eq-eqb _ _ (byte p i l ∙ q)) (rw (part-edges i l) m)
 
     of-own : {e : ℕ} → e ∈ own → (i : ℕ) × (i < parts) × (getD (a .out) i 0 ≡ j) × (e ∈ (rise (piece i) ++ getD paths i []))
     unfolding assignedEdges
     of-own m =
         let (i, k, t, n) =
         of-chosen (λ i. partOf (rootedParts g roots limit) i .edges ++ getD paths i []) (λ i. eqb (getD (take parts (a .out)) i 0) j) (length (rootedParts g roots limit)) m in
-        let l : i < parts = omega (arith, p .parts-count) in
+        let l : i < parts = omega (arith, parts-count (p .pieces)) in
         (i, l, sym (byte p i l) ∙ eqb-true _ _ t, rw (part-edges i l) at n)
 
     -- So the root's tree is the cover's, where the root has a part,
@@ -142,11 +143,11 @@ module _ {g : Graph} {roots : List ℕ} {limit : ℕ} {a : TrialArrays} {parts :
         (either-list [] left own (leftAt (rootedPieces g roots limit) j) (λ e m. absurd (List·Memᴰ·not-nil m)) to-left)
         (either-list own (leftAt (rootedPieces g roots limit) j) [] left (λ e m. let (i, l, q, n) = of-own m in absurd (nobody i l q)) of-left))
 
-    pub tree-of-cover : RootTree g table lasts roots (a .starts) (a .cuts) (a .flat) (a .lefts) (take parts (a .places)) (a .out) j (tree j)
+    pub tree-of-cover : RootTree g table lasts roots (partsOf parts (a .pieces)) (a .out) j (tree j)
         → tree j ≡ unionTree g (getD roots j 0) (own ++ leftAt (rootedPieces g roots limit) j) .edges
     tree-of-cover r = go (r .assigned)
       where
-        go : AssignedAre g (rowOf (g .vertices) table j) (rowOf (g .vertices) lasts j) (getD roots j 0) (a .starts) (a .cuts) (a .flat) (take parts (a .places)) (a .out) j (r .edges)
+        go : AssignedAre g (rowOf (g .vertices) table j) (rowOf (g .vertices) lasts j) (getD roots j 0) (a .pieces .starts) (a .pieces .cuts) (a .pieces .flat) (take parts (a .pieces .places)) (a .out) j (r .edges)
             → tree j ≡ unionTree g (getD roots j 0) (own ++ leftAt (rootedPieces g roots limit) j) .edges
-        go (none nobody q) = without-part (λ i l. nobody i (omega (arith, places-many p))) (r .is ∙ ap (λ x. unionTree g (getD roots j 0) (x ++ left) .edges) q)
-        go (part i v l f n q) = with-part i (omega (arith, places-many p)) (f .here l)
+        go (none nobody q) = without-part (λ i l. nobody i (omega (arith, places-many (p .pieces)))) (r .is ∙ ap (λ x. unionTree g (getD roots j 0) (x ++ left) .edges) q)
+        go (part i v l f n q) = with-part i (omega (arith, places-many (p .pieces))) (f .here l)

@@ -4,20 +4,17 @@ use Prim.Native.Nat.{ℕ, _+_, _*_, _-_, _≤_, _<_}
 use mathlib.Core.Path.{_≡_, refl, sym, ap, _∙_}
 use mathlib.Core.List.{List, [], _++_, append-nil}
 use native.Mathlib.Omega.{arith}
-use lib.ListN.{length, getD, take, drop, length-drop, length-take}
+use lib.ListN.{length, getD, take, drop, length-drop, length-take, drop-of-length-le}
 use lib.Seq.{take-all, drop-drop}
 use Rattle.lists.specs.Put.{PutTo}
 use Rattle.lists.proofs.Put.{put-count, put-front}
 use Rattle.graph.specs.Graph.{Graph}
 use Rattle.graph.specs.Bytes.{graphOf}
 use Rattle.distance_table.specs.Tabled.{rowOf}
+use Rattle.rooted_state.specs.Placed.{PieceArrays}
 use Rattle.rooted_cover.specs.Tree.{RootGiven, RootWritten}
-use Rattle.rooted_cover.specs.CoverTrees.{RootsGiven, TreePut}
+use Rattle.rooted_cover.specs.CoverTrees.{RootTreesGiven, TreePut}
 use Rattle.distance_table.proofs.RowPlaces.{row-room}
-
--- From the length on nothing is left.
-drop-past : (n : ℕ) (xs : List ℕ) → length xs ≤ n → drop n xs ≡ []
-drop-past n xs h = sym (take-all 0 (drop n xs) (simp length-drop (omega arith)))
 
 -- What is put at the front of an array's rest is put behind what stands before it.
 put-in-rest : {at size r : ℕ} {xs a rest : List ℕ} → size ≡ length a - at → at ≤ length a → PutTo 0 xs (take size (drop at a)) rest r
@@ -25,7 +22,7 @@ put-in-rest : {at size r : ℕ} {xs a rest : List ℕ} → size ≡ length a - a
 put-in-rest {at} {size} {r} {xs} {a} {rest} q h p =
     let long = length-drop at a in
     let whole : take size (drop at a) ≡ drop at a = take-all size (drop at a) (omega arith) in
-    let none : drop size (drop at a) ≡ [] = drop-past size (drop at a) (omega arith) in
+    let none : drop size (drop at a) ≡ [] = drop-of-length-le (drop at a) {i = size} (omega arith) in
     let count = put-count p in
     let place : at + r ≡ at + length xs = omega arith in
     let front : rest ≡ xs ++ drop (at + length xs) a =
@@ -47,17 +44,18 @@ module _ (rows : List ℕ) (j n : ℕ) where
 pub row-fits : (j k n m size : ℕ) → n ≡ m → j < k → k * m ≤ size → j * n + n ≤ size
 row-fits j k n m size q h room = rw q (row-room j k m size h room)
 
-module _ {table lasts roots starts cuts flat lefts places out : List ℕ} {j n root left : ℕ} where
+module _ {table lasts roots : List ℕ} {a : PieceArrays} {out : List ℕ} {j n root left : ℕ} where
   -- What the tree asks, by the values read.
-  pub tree-asked : {b order : List ℕ} → RootsGiven b order table lasts roots starts cuts flat lefts places out → j < length roots → n ≡ graphOf b .vertices → root ≡ getD roots j 0
-      → left ≡ getD lefts j 0 → (room : List ℕ) → graphOf b .vertices ≤ length room
-      → RootGiven b order (rowThere table j n) (rowThere lasts j n) root starts cuts flat left places out j room
+  pub tree-asked : {b order : List ℕ} → RootTreesGiven b order table lasts roots a out → j < length roots → n ≡ graphOf b .vertices → root ≡ getD roots j 0
+      → left ≡ getD (a .lefts) j 0 → (room : List ℕ) → graphOf b .vertices ≤ length room
+      → RootGiven b order (rowThere table j n) (rowThere lasts j n) root (a .starts) (a .cuts) (a .flat) left (a .places) out j room
   tree-asked given h count is-root is-left room l = rw (row-is table j n count, row-is lasts j n count, is-root, is-left) (given .each j h room l)
 
   -- What it is, and where it stands.
-  pub tree-put : {g : Graph} → n ≡ g .vertices → root ≡ getD roots j 0 → left ≡ getD lefts j 0 → {at size r : ℕ} {edges rest : List ℕ} → size ≡ length edges - at → at ≤ length edges
-      → RootWritten g (rowThere table j n) (rowThere lasts j n) root starts cuts flat left places out j (take size (drop at edges)) rest r
-      → TreePut g table lasts roots starts cuts flat lefts places out j at edges (take at edges ++ (rest ++ drop size (drop at edges))) (at + r)
+  pub tree-put : {g : Graph} → n ≡ g .vertices → root ≡ getD roots j 0 → left ≡ getD (a .lefts) j 0 → {at size r : ℕ} {edges rest : List ℕ} → size ≡ length edges - at
+      → at ≤ length edges
+      → RootWritten g (rowThere table j n) (rowThere lasts j n) root (a .starts) (a .cuts) (a .flat) left (a .places) out j (take size (drop at edges)) rest r
+      → TreePut g table lasts roots a out j at edges (take at edges ++ (rest ++ drop size (drop at edges))) (at + r)
   tree-put count is-root is-left q h w =
       let there = rw (row-is table j n count, row-is lasts j n count, is-root, is-left) at w in
       record {

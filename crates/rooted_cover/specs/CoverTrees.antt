@@ -4,7 +4,7 @@ use Prim.Native.Nat.{ℕ, _+_, _*_, _≤_, _<_}
 use mathlib.Core.Path.{_≡_}
 use mathlib.Core.Bool.{true}
 use mathlib.Core.List.{List, _++_}
-use lib.ListN.{length, getD}
+use lib.ListN.{length, getD, take}
 use Rattle.lists.specs.Put.{Put, PutTo}
 use Rattle.lists.specs.Segments.{segment, Bounded}
 use Rattle.graph.specs.Graph.{Graph}
@@ -12,69 +12,64 @@ use Rattle.graph.specs.Bytes.{graphOf}
 use Rattle.graph.specs.Valid.{IsGraph}
 use Rattle.rules.specs.Cover.{heaviest}
 use Rattle.rules.specs.CoverBytes.{encode}
-use Rattle.rules.specs.Order.{ordered}
 use Rattle.rules.specs.RootedTrial.{Choices, GoodChoices, unionTree, rootedCover}
-use Rattle.distance_table.specs.Tabled.{DistancesTabled, LastsTabled, rowOf}
-use Rattle.rooted_state.specs.Placed.{trialArrays, PartsPlaced}
+use Rattle.distance_table.specs.Tabled.{rowOf}
+use Rattle.rooted_state.specs.Placed.{PieceArrays, arraysOf, PartsPlaced, CoverReady}
 use Rattle.rooted_cover.specs.Tree.{AssignedAre, RootGiven}
 
 -- The edges are those of root j's tree: of the union of its part, a path back from one of the part's nearest vertices, and what is left at the
 -- root; where it has no part, of what is left there.
-pub record RootTree (g : Graph) (table lasts roots starts cuts flat lefts places out : List ℕ) (j : ℕ) (tree : List ℕ) : Type 0 where
+pub record RootTree (g : Graph) (table lasts roots : List ℕ) (a : PieceArrays) (out : List ℕ) (j : ℕ) (tree : List ℕ) : Type 0 where
   pub edges : List ℕ
-  pub assigned : AssignedAre g (rowOf (g .vertices) table j) (rowOf (g .vertices) lasts j) (getD roots j 0) starts cuts flat places out j edges
-  pub is : tree ≡ unionTree g (getD roots j 0) (edges ++ segment cuts flat (getD lefts j 0)) .edges
+  pub assigned : AssignedAre g (rowOf (g .vertices) table j) (rowOf (g .vertices) lasts j) (getD roots j 0) (a .starts) (a .cuts) (a .flat) (a .places) out j edges
+  pub is : tree ≡ unionTree g (getD roots j 0) (edges ++ segment (a .cuts) (a .flat) (getD (a .lefts) j 0)) .edges
 
 -- What the trees of all roots ask: the graph's bytes, a row of distances and of last edges for each root, and of each what its tree asks, wherever there
 -- is room for an edge of each vertex.
-pub record RootsGiven (b order table lasts roots starts cuts flat lefts places out : List ℕ) : Type 0 where
+pub record RootTreesGiven (b order table lasts roots : List ℕ) (a : PieceArrays) (out : List ℕ) : Type 0 where
   pub graph : IsGraph b
   pub table-room : length roots * graphOf b .vertices ≤ length table
   pub last-room : length roots * graphOf b .vertices ≤ length lasts
   pub each : (j : ℕ) → j < length roots → (room : List ℕ) → graphOf b .vertices ≤ length room
-      → RootGiven b order (rowOf (graphOf b .vertices) table j) (rowOf (graphOf b .vertices) lasts j) (getD roots j 0) starts cuts flat (getD lefts j 0) places out j room
+      → RootGiven b order (rowOf (graphOf b .vertices) table j) (rowOf (graphOf b .vertices) lasts j) (getD roots j 0) (a .starts) (a .cuts) (a .flat)
+      (getD (a .lefts) j 0) (a .places) out j room
 
 -- What putting root j's tree behind the others asks besides: one of the roots, and room behind them.
-pub record TreeGivenAt (b order table lasts roots starts cuts flat lefts places out : List ℕ) (j at room : ℕ) : Type 0 where
-  pub given : RootsGiven b order table lasts roots starts cuts flat lefts places out
+pub record TreeGivenAt (b order table lasts roots : List ℕ) (a : PieceArrays) (out : List ℕ) (j at room : ℕ) : Type 0 where
+  pub given : RootTreesGiven b order table lasts roots a out
   pub root : j < length roots
   pub fits : at + graphOf b .vertices ≤ room
 
 -- Root j's tree was put there; it has fewer edges than there are vertices.
-pub record TreePut (g : Graph) (table lasts roots starts cuts flat lefts places out : List ℕ) (j at : ℕ) (before after : List ℕ) (r : ℕ) : Type 0 where
+pub record TreePut (g : Graph) (table lasts roots : List ℕ) (a : PieceArrays) (out : List ℕ) (j at : ℕ) (before after : List ℕ) (r : ℕ) : Type 0 where
   pub tree : List ℕ
-  pub is-tree : RootTree g table lasts roots starts cuts flat lefts places out j tree
+  pub is-tree : RootTree g table lasts roots a out j tree
   pub put : PutTo at tree before after r
   pub fewer : r < at + g .vertices
 
 -- What laying the trees of all roots asks: at most 32 roots, and for each room for an edge of each vertex.
-pub record LayRootsGiven (b order table lasts roots starts cuts flat lefts places out : List ℕ) (bounds-room edges-room : ℕ) : Type 0 where
-  pub given : RootsGiven b order table lasts roots starts cuts flat lefts places out
+pub record LayRootsGiven (b order table lasts roots : List ℕ) (a : PieceArrays) (out : List ℕ) (bounds-room edges-room : ℕ) : Type 0 where
+  pub given : RootTreesGiven b order table lasts roots a out
   pub few : length roots ≤ 32
   pub bounds-fit : 33 ≤ bounds-room
   pub edges-fit : length roots * graphOf b .vertices ≤ edges-room
 
 -- The trees of the first i roots are laid: they take up the array's elements before `used`.
-pub record TreesLaid (g : Graph) (table lasts roots starts cuts flat lefts places out : List ℕ) (i used : ℕ) (bounds edges : List ℕ) : Type 0 where
+pub record TreesLaid (g : Graph) (table lasts roots : List ℕ) (a : PieceArrays) (out : List ℕ) (i used : ℕ) (bounds edges : List ℕ) : Type 0 where
   pub bounded : Bounded bounds i used
   pub inside : used ≤ length edges
-  pub are : (h : ℕ) → h < i → RootTree g table lasts roots starts cuts flat lefts places out h (segment bounds edges h)
+  pub are : (h : ℕ) → h < i → RootTree g table lasts roots a out h (segment bounds edges h)
 
--- What writing the cover asks: a graph's bytes and its edges in order, at most 32 roots with their distances and last edges, the parts placed at
--- some limit and an assignment of them, room for an edge of each vertex for each root, and a large buffer.
-pub record CoverAsked (b order table lasts roots starts cuts flat lefts places : List ℕ) (parts : ℕ) (out : List ℕ) (edges-room room : ℕ) : Type 0 where
-  pub graph : IsGraph b
-  pub in-order : order ≡ ordered (graphOf b)
-  pub roots-inside : (j : ℕ) → j < length roots → getD roots j 0 < graphOf b .vertices
-  pub roots-few : length roots ≤ 32
-  pub distances : DistancesTabled (graphOf b) roots table
-  pub last-edges : LastsTabled (graphOf b) roots table lasts
+-- The arrays without the places behind the parts'.
+abbrev pub partsOf : ℕ → PieceArrays → PieceArrays
+partsOf parts a = arraysOf (a .starts) (a .cuts) (a .flat) (a .lefts) (take parts (a .places))
+
+-- What writing the cover asks: what a cover is made by at some limit, and the parts placed there with an assignment of them.
+pub record CoverAsked (b order table lasts roots : List ℕ) (a : PieceArrays) (parts : ℕ) (out : List ℕ) (edges-room room : ℕ) : Type 0 where
   pub limit : ℕ
-  pub limit-small : limit ≤ 2048000000
   pub rows : List ℕ
-  pub placed : PartsPlaced (graphOf b) roots limit (trialArrays starts cuts flat lefts places rows out) parts true
-  pub edges-fit : length roots * graphOf b .vertices ≤ edges-room
-  pub most : 32708 ≤ room
+  pub ready : CoverReady b roots limit order table lasts edges-room room
+  pub placed : PartsPlaced (graphOf b) roots limit (record { pieces = a; rows = rows; out = out }) parts true
 
 -- The bytes of the cover that the trial makes of some good choices are the buffer's first bytes, and r is the weight of its heaviest tree.
 pub record CoverWritten (g : Graph) (roots : List ℕ) (limit : ℕ) (before after : List ℕ) (r : ℕ) : Type 0 where
@@ -84,6 +79,6 @@ pub record CoverWritten (g : Graph) (roots : List ℕ) (limit : ℕ) (before aft
   pub heaviest-is : r ≡ heaviest g (rootedCover g roots limit choices)
 
 -- So at every limit at which the parts are placed as they are.
-pub record CoverAtLimits (g : Graph) (roots starts cuts flat lefts places : List ℕ) (parts : ℕ) (out before after : List ℕ) (r : ℕ) : Type 0 where
+pub record CoverAtLimits (g : Graph) (roots : List ℕ) (a : PieceArrays) (parts : ℕ) (out before after : List ℕ) (r : ℕ) : Type 0 where
   pub at-limit : (limit : ℕ) (rows : List ℕ) → limit ≤ 2048000000
-      → PartsPlaced g roots limit (trialArrays starts cuts flat lefts places rows out) parts true → CoverWritten g roots limit before after r
+      → PartsPlaced g roots limit (record { pieces = a; rows = rows; out = out }) parts true → CoverWritten g roots limit before after r

@@ -71,25 +71,24 @@ pub record AssignedGiven (b dist last : List ℕ) (root : ℕ) (starts cuts flat
   pub reach : (i : ℕ) → i < length places → getD out i 0 ≡ j
       → ReachGiven b dist last root (getD starts (getD places i 0) 0) (segment cuts flat (getD places i 0)) room
 
--- Nothing was marked where j stands at no place; otherwise the piece at its first place and a path to it were marked.
-pub data AssignedMarked (g : Graph) (dist last : List ℕ) (root : ℕ) (starts cuts flat places out : List ℕ) (j : ℕ) (before after : List ℕ) : Type 0 where
-  nobody : ((i : ℕ) → i < length places → getD out i 0 ≡ j → ⊥) → after ≡ before → AssignedMarked g dist last root starts cuts flat places out j before after
-  somebody : (i : ℕ) → i < length places → FirstWith out (length places) j i
-      → ReachMarked g dist last root (getD starts (getD places i 0) 0) (segment cuts flat (getD places i 0)) before after
-      → AssignedMarked g dist last root starts cuts flat places out j before after
-
--- What a root's tree asks: the graph and its order, a piece left at the root, and parts that may be marked.
-pub record RootGiven (b order dist last : List ℕ) (root : ℕ) (starts cuts flat : List ℕ) (left : ℕ) (places out : List ℕ) (j : ℕ) (tree : List ℕ) : Type 0 where
-  pub asked : TreeAsked b order tree
-  pub piece : PieceGiven cuts flat left 2048
-  pub assigned : AssignedGiven b dist last root starts cuts flat places out j 2048
-
 -- The edges of root j's part and of a path back from one of its nearest vertices; none where j stands at no place.
 pub data AssignedAre (g : Graph) (dist last : List ℕ) (root : ℕ) (starts cuts flat places out : List ℕ) (j : ℕ) (edges : List ℕ) : Type 0 where
   none : ((i : ℕ) → i < length places → getD out i 0 ≡ j → ⊥) → edges ≡ [] → AssignedAre g dist last root starts cuts flat places out j edges
   part : (i v : ℕ) → i < length places → FirstWith out (length places) j i
       → Nearest g dist (treeOf (getD starts (getD places i 0) 0) (segment cuts flat (getD places i 0))) v
       → edges ≡ segment cuts flat (getD places i 0) ++ trailOf last root v → AssignedAre g dist last root starts cuts flat places out j edges
+
+-- Those edges were marked.
+pub record AssignedMarked (g : Graph) (dist last : List ℕ) (root : ℕ) (starts cuts flat places out : List ℕ) (j : ℕ) (before after : List ℕ) : Type 0 where
+  pub edges : List ℕ
+  pub are : AssignedAre g dist last root starts cuts flat places out j edges
+  pub marks : Marked (λ e. member e edges) before after
+
+-- What a root's tree asks: the graph and its order, a piece left at the root, and parts that may be marked.
+pub record RootGiven (b order dist last : List ℕ) (root : ℕ) (starts cuts flat : List ℕ) (left : ℕ) (places out : List ℕ) (j : ℕ) (tree : List ℕ) : Type 0 where
+  pub asked : TreeAsked b order tree
+  pub piece : PieceGiven cuts flat left 2048
+  pub assigned : AssignedGiven b dist last root starts cuts flat places out j 2048
 
 -- The tree of the union was written.
 pub record RootWritten (g : Graph) (dist last : List ℕ) (root : ℕ) (starts cuts flat : List ℕ) (left : ℕ) (places out : List ℕ) (j : ℕ)

@@ -7,6 +7,7 @@ use pieces::pieces::element_at;
 use pieces::pieces::number_up;
 ghost use lib.ListN.{length, getD};
 ghost use Rattle.graph.specs.Bytes.{graphOf};
+ghost use Rattle.rooted_state.specs.Placed.{arraysOf};
 ghost use Rattle.rooted_cover.specs.CoverTrees.{TreeGivenAt, TreePut, LayRootsGiven, TreesLaid, CoverAsked, CoverAtLimits};
 
 // Puts the edges of root j's tree into the array from a place on. Says where they end.
@@ -26,10 +27,10 @@ fn put_tree(
     edges: &mut [u16],
     at: usize,
 ) -> usize
-    requires { ⌜ TreeGivenAt (now b) (now order) (now table) (now lasts) (now roots) (now starts) (now cuts) (now flat) (now lefts) (now places) (now out) j at
+    requires { ⌜ TreeGivenAt (now b) (now order) (now table) (now lasts) (now roots) (arraysOf (now starts) (now cuts) (now flat) (now lefts) (now places)) (now out) j at
         (length (now edges)) ⌝ }
-    ensures { λ r. ⌜ TreePut (graphOf (now (b .entry))) (now (table .entry)) (now (lasts .entry)) (now (roots .entry)) (now (starts .entry)) (now (cuts .entry))
-        (now (flat .entry)) (now (lefts .entry)) (now (places .entry)) (now (out .entry)) j at (now (edges .entry)) (now (edges .exit)) r ⌝ }
+    ensures { λ r. ⌜ TreePut (graphOf (now (b .entry))) (now (table .entry)) (now (lasts .entry)) (now (roots .entry)) (arraysOf
+        (now (starts .entry)) (now (cuts .entry)) (now (flat .entry)) (now (lefts .entry)) (now (places .entry))) (now (out .entry)) j at (now (edges .entry)) (now (edges .exit)) r ⌝ }
 {
     let n = graph::vertex_count(b);
     let root = wide(roots[j]);
@@ -70,10 +71,10 @@ fn lay_trees(
     bounds: &mut [u16],
     edges: &mut [u16],
 )
-    requires { ⌜ LayRootsGiven (now b) (now order) (now table) (now lasts) (now roots) (now starts) (now cuts) (now flat) (now lefts) (now places) (now out)
+    requires { ⌜ LayRootsGiven (now b) (now order) (now table) (now lasts) (now roots) (arraysOf (now starts) (now cuts) (now flat) (now lefts) (now places)) (now out)
         (length (now bounds)) (length (now edges)) ⌝ }
-    ensures { λ _. ⌜ TreesLaid (graphOf (now (b .entry))) (now (table .entry)) (now (lasts .entry)) (now (roots .entry)) (now (starts .entry)) (now (cuts .entry))
-        (now (flat .entry)) (now (lefts .entry)) (now (places .entry)) (now (out .entry)) (length (now (roots .entry)))
+    ensures { λ _. ⌜ TreesLaid (graphOf (now (b .entry))) (now (table .entry)) (now (lasts .entry)) (now (roots .entry)) (arraysOf
+        (now (starts .entry)) (now (cuts .entry)) (now (flat .entry)) (now (lefts .entry)) (now (places .entry))) (now (out .entry)) (length (now (roots .entry)))
         (getD (now (bounds .exit)) (length (now (roots .entry))) 0) (now (bounds .exit)) (now (edges .exit)) ⌝ }
 {
     bounds[0] = 0;
@@ -119,10 +120,10 @@ pub fn write_rooted(
     edges: &mut [u16],
     buf: &mut [u8],
 ) -> u64
-    requires { ⌜ CoverAsked (now b) (now order) (now table) (now lasts) (now roots) (now starts) (now cuts) (now flat) (now lefts) (now places) parts (now out)
+    requires { ⌜ CoverAsked (now b) (now order) (now table) (now lasts) (now roots) (arraysOf (now starts) (now cuts) (now flat) (now lefts) (now places)) parts (now out)
         (length (now edges)) (length (now buf)) ⌝ }
-    ensures { λ r. ⌜ CoverAtLimits (graphOf (now (b .entry))) (now (roots .entry)) (now (starts .entry)) (now (cuts .entry)) (now (flat .entry))
-        (now (lefts .entry)) (now (places .entry)) parts (now (out .entry)) (now (buf .entry)) (now (buf .exit)) r ⌝ }
+    ensures { λ r. ⌜ CoverAtLimits (graphOf (now (b .entry))) (now (roots .entry)) (arraysOf
+        (now (starts .entry)) (now (cuts .entry)) (now (flat .entry)) (now (lefts .entry)) (now (places .entry))) parts (now (out .entry)) (now (buf .entry)) (now (buf .exit)) r ⌝ }
 {
     let mut bounds = [0u16; 33];
     let mut numbers = [0u16; 32];

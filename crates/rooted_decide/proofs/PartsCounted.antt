@@ -35,7 +35,7 @@ module _ {b roots : List ℕ} {limit : ℕ} {table walk : List ℕ} (r : CountRe
     parts-counted =
         counted
         ∙ r .walked .counts limit
-        ∙ ap (λ ps. length (allParts ps)) (sym (pieces-of-whole (graphOf b) roots limit (r .ready .asked .decidable .graph .valid) (r .ready .joined)))
+        ∙ ap (λ ps. length (allParts ps)) (sym (pieces-of-whole (graphOf b) roots limit (r .ready .asked .decidable .given .graph .valid) (r .ready .joined)))
 
     pub many-refused : length roots < p → false ≡ isAssignable (graphOf b) roots limit
     unfolding isAssignable

@@ -26,7 +26,7 @@ use Rattle.steps.specs.Touched.{partsTouched}
 use Rattle.near.specs.Bits.{bitAt}
 use Rattle.near.specs.Parts.{PartsAsked, NearParts}
 use Rattle.near.proofs.BitsLaws.{bit-at}
-use Rattle.rooted_parts.specs.Near.{WithinAsked, VerticesNear, PartsNear}
+use Rattle.rooted_parts.specs.Near.{VerticesNear, PartsNear}
 use Rattle.rooted_state.proofs.NearMeansMayGo.{tree-reaches}
 use Rattle.rooted_decide.specs.Decide.{FewReady}
 use Rattle.rooted_decide.proofs.PartsCounted.{count-asked}
@@ -51,7 +51,7 @@ module _ {b roots : List ℕ} {limit : ℕ} {table walk : List ℕ} (f : FewRead
   parts = rootedParts g roots limit
 
   valid : Valid g
-  valid = f .counted .ready .asked .decidable .graph .valid
+  valid = f .counted .ready .asked .decidable .given .graph .valid
 
   -- The pass tells of each part of the trial whether a test holds at one of its vertices.
   touched-parts : (test : ℕ → Bool) → partsTouched limit test walk ≡ map (λ part. any test (treeVertices g part)) parts
@@ -83,18 +83,6 @@ module _ {b roots : List ℕ} {limit : ℕ} {table walk : List ℕ} (f : FewRead
       let p = part-at g roots limit i h in
       let (e, n) = p .some-edge in
       walk-inside valid (p .joined e n .leads) (one-end-below valid e)
-
-  pub within-asked : {near : List ℕ} → 256 ≤ length near → ((v : ℕ) → v < length near → getD near v 0 ≡ 0) → WithinAsked b roots limit table near
-  within-asked room zeros =
-      let a = f .counted .ready .asked in
-      record {
-        graph = a .decidable .graph;
-        roots-few = a .decidable .roots-few;
-        tabled = a .decidable .distances;
-        limit-most = a .limit-most;
-        room = omega (arith, valid .vertices-most);
-        zeros = zeros;
-      }
 
   module _ {near : List ℕ} (words : VerticesNear g roots limit near) where
     -- Some vertex's word has root j exactly where the part may go to it.

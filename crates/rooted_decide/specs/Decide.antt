@@ -4,22 +4,19 @@ use Prim.Native.Nat.{ℕ, _≤_, _<_}
 use mathlib.Core.Path.{_≡_}
 use mathlib.Core.Bool.{false}
 use mathlib.Core.List.{List}
-use lib.ListN.{length, getD}
+use lib.ListN.{length}
 use Rattle.graph.specs.Bytes.{graphOf}
-use Rattle.graph.specs.Valid.{IsGraph}
 use Rattle.rules.specs.Cover.{rooted}
 use Rattle.rules.specs.Order.{ordered}
 use Rattle.rules.specs.Labels.{together}
 use Rattle.rules.specs.Forest.{keep}
 use Rattle.rules.specs.RootedTrial.{rootedParts}
 use Rattle.rules.specs.Search.{noCover}
-use Rattle.rooted_state.specs.Prepared.{TrialAsked, PartsReady, WholeWalked}
+use Rattle.rooted_state.specs.Prepared.{RootsGiven, WholeWalked, TrialAsked, PartsReady}
 
--- What saying "no cover" asks: a graph's bytes, roots among its vertices, and the whole forest.
+-- What saying "no cover" asks: the roots, and the whole forest.
 pub record NoCoverAsked (b roots kept : List ℕ) : Type 0 where
-  pub graph : IsGraph b
-  pub roots-inside : (j : ℕ) → j < length roots → getD roots j 0 < graphOf b .vertices
-  pub roots-some : 1 ≤ length roots
+  pub given : RootsGiven b roots
   pub forest : kept ≡ keep (graphOf b) (together roots) (ordered (graphOf b))
 
 -- What deciding a limit asks besides: the walk of the whole forest's trees, and that the whole graph joins every vertex to a root.

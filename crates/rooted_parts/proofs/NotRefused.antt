@@ -1,8 +1,8 @@
 -- An assignment that is asked as it must be is not refused; what its answers then say.
 -- Assumes nothing.
 use Prim.Native.Nat.{ℕ, _*_, _≤_, _<_}
-use mathlib.Core.Path.{_≡_, sym, ap, _∙_}
-use mathlib.Core.Bool.{Bool, true, false, cond}
+use mathlib.Core.Path.{_≡_, sym, _∙_}
+use mathlib.Core.Bool.{true, false, true≢false}
 use mathlib.Core.List.{List}
 use mathlib.Core.Logic.{_⊎_, inl, inr}
 use native.Mathlib.Omega.{arith}
@@ -32,9 +32,6 @@ none-above rows ones = go (either (any aboveOne rows))
         absurd (omega (arith, ltb-true 1 x above, ones i h, q))
     go (inr f) = f
 
-true-false : true ≡ false → ⊥
-true-false q = let z : _≡_ {A = ℕ} 0 1 = ap (λ (t : Bool). cond t 0 1) q in omega arith
-
 module _ {p k : ℕ} {rows out : List ℕ} (a : AssignAsked p k rows out) where
   pub not-refused : refusedOf p k rows (length out) ≡ false
   unfolding refusedOf
@@ -43,22 +40,24 @@ module _ {p k : ℕ} {rows out : List ℕ} (a : AssignAsked p k rows out) where
 
   module _ {answer : Answer} {after : List ℕ} (s : Assigns p k rows out answer after) where
     -- It is assigned, deficient, or refused, which it is not.
-    pub done-assigned : answer ≡ Assigned → AssignDone p k rows after true
+    pub done-assigned : answer ≡ Assigned → AssignDone p k rows out after true
     done-assigned q =
         let x = s .means Assigned q in
         record {
           is = sym (some-assignable (allowedAt rows k) (x .assignment));
           assignment = λ _. x .assignment;
-          deficient = λ f. absurd (true-false f);
+          deficient = λ f. absurd (true≢false f);
+          rest = s .rest;
         }
 
-    pub done-deficient : answer ≡ Deficient → AssignDone p k rows after false
+    pub done-deficient : answer ≡ Deficient → AssignDone p k rows out after false
     done-deficient q =
         let x = s .means Deficient q in
         record {
           is = sym (none-assignable (x .none));
-          assignment = λ t. absurd (true-false (sym t));
+          assignment = λ t. absurd (true≢false (sym t));
           deficient = λ _. x .set;
+          rest = s .rest;
         }
       where
         none-assignable : ((roots : List ℕ) → IsAssignment p k (allowedAt rows k) roots → ⊥) → assignable (allowedAt rows k) (below p) (below k) ≡ false
@@ -69,5 +68,5 @@ module _ {p k : ℕ} {rows out : List ℕ} (a : AssignAsked p k rows out) where
             go (inl t) = let (roots, y) = assignable-some (allowedAt rows k) p k t in absurd (none roots y)
             go (inr f) = f
 
-    pub done-refused : answer ≡ Refused → AssignDone p k rows after false
-    done-refused q = absurd (true-false (sym (s .means Refused q .invalid) ∙ not-refused))
+    pub done-refused : answer ≡ Refused → AssignDone p k rows out after false
+    done-refused q = absurd (true≢false (sym (s .means Refused q .invalid) ∙ not-refused))

@@ -6,7 +6,6 @@ use mathlib.Core.List.{List, [], _∷_, map, List·Memᴰ·append-cases, List·M
 use mathlib.Core.Logic.{_⊎_, inl, inr}
 use native.Mathlib.Omega.{arith}
 use lib.ListN.{length, getD, take, length-map, length-append}
-use lib.Seq.{getD-take}
 use Rattle.lists.specs.Count.{from}
 use Rattle.lists.specs.Lists.{flat}
 use Rattle.lists.specs.Member.{_∈_}
@@ -14,9 +13,9 @@ use Rattle.lists.specs.Put.{PutTo}
 use Rattle.lists.specs.Segments.{segment}
 use Rattle.lists.specs.Sort.{rise}
 use Rattle.lists.proofs.Below.{of-from}
-use Rattle.lists.proofs.Places.{at-place}
-use Rattle.lists.proofs.Put.{put-count, put-taken, put-fits, put-length, only-first-length}
+use Rattle.lists.proofs.Put.{put-taken, put-fits, put-length, only-first-length}
 use Rattle.graph.specs.Graph.{Graph}
+use Rattle.graph.specs.Bytes.{graphOf}
 use Rattle.graph.specs.Valid.{Valid}
 use Rattle.rules.specs.Cover.{Tree}
 use Rattle.rules.specs.Grow.{grow}
@@ -25,7 +24,7 @@ use Rattle.rules.specs.Split.{Pieces, partAt, split, allParts}
 use Rattle.rules.specs.Order.{ordered}
 use Rattle.rules.specs.Labels.{together}
 use Rattle.rules.specs.Forest.{keep}
-use Rattle.rules.specs.RootedTrial.{rootedPieces, rootedParts, partOf, leftAt}
+use Rattle.rules.specs.RootedTrial.{rootedPieces, rootedParts, leftAt}
 use Rattle.edges.specs.Around.{Arcs}
 use Rattle.split.specs.Pieces.{leftPlaces, partPlaces}
 use Rattle.split.specs.ForestSplit.{lent, Splittable, Splits, ForestSplit}
@@ -33,9 +32,9 @@ use Rattle.split.proofs.ByNumber as numbered
 use Rattle.cover.specs.Chosen.{IsHeld}
 use Rattle.planner_laws.proofs.RootedPrepared.{pieces-of-whole}
 use Rattle.planner_laws.proofs.RootedSize.{rooted-parts-few}
-use Rattle.near.specs.Held.{TreeHeld}
 use Rattle.unions.specs.Places.{between}
-use Rattle.rooted_parts.specs.Parts.{arraysOf, PiecesAsked, PiecesPlaced}
+use Rattle.rooted_state.specs.Placed.{arraysOf, PiecesPlaced}
+use Rattle.rooted_parts.specs.Parts.{PiecesAsked}
 use Rattle.unions.proofs.PartsBetween.{between-lefts}
 
 -- The number of a part is below that of all pieces,
@@ -61,23 +60,26 @@ left-below (p ∷ ps) first (suc j) h =
     omega (arith, length-append (p .parts) (allParts ps), left-below ps (first + length (p .parts) + 1) j (omega arith))
 
 -- The trees of the whole forest can be split.
-pub can-split : {g : Graph} {b roots : List ℕ} {limit : ℕ} {bounds arcs starts cuts flat lefts places : List ℕ} {n : ℕ}
-    → PiecesAsked g b roots limit bounds arcs (arraysOf starts cuts flat lefts places) → n ≡ g .vertices → Splittable n bounds arcs roots (lent starts cuts flat lefts)
+pub can-split : {b roots : List ℕ} {limit : ℕ} {bounds arcs starts cuts flat lefts places : List ℕ} {n : ℕ}
+    → PiecesAsked b roots limit bounds arcs (arraysOf starts cuts flat lefts places) → n ≡ graphOf b .vertices → Splittable n bounds arcs roots (lent starts cuts flat lefts)
 can-split {bounds = bounds} {arcs = arcs} asked q =
     record {
       around = subst (λ m. Arcs m bounds arcs) (sym q) (asked .around .sound);
-      roots-inside = λ j h. omega (arith, asked .roots-inside j h);
-      roots-few = omega (arith, asked .roots-few);
+      roots-inside = λ j h. omega (arith, asked .given .inside j h);
+      roots-few = omega (arith, asked .given .few);
       starts-room = omega (arith, asked .starts-room);
       cuts-room = omega (arith, asked .cuts-room);
       flat-room = omega (arith, asked .flat-room);
       lefts-room = asked .lefts-room;
     }
 
-module _ {g : Graph} {b roots : List ℕ} {limit : ℕ} {bounds arcs starts cuts flat lefts places : List ℕ}
-    (asked : PiecesAsked g b roots limit bounds arcs (arraysOf starts cuts flat lefts places))
-    {starts′ cuts′ flat′ lefts′ : List ℕ} {n r : ℕ} (n-is : n ≡ g .vertices)
+module _ {b roots : List ℕ} {limit : ℕ} {bounds arcs starts cuts flat lefts places : List ℕ}
+    (asked : PiecesAsked b roots limit bounds arcs (arraysOf starts cuts flat lefts places))
+    {starts′ cuts′ flat′ lefts′ : List ℕ} {n r : ℕ} (n-is : n ≡ graphOf b .vertices)
     (x : ForestSplit n bounds arcs roots limit (lent starts cuts flat lefts) (lent starts′ cuts′ flat′ lefts′) r) where
+  abbrev g : Graph
+  g = graphOf b
+
   -- The edges of the whole forest, and what its trees are split into: the trial's pieces.
   abbrev edges : List ℕ
   edges = rise (keep g (together roots) (ordered g))
@@ -109,13 +111,6 @@ module _ {g : Graph} {b roots : List ℕ} {limit : ℕ} {bounds arcs starts cuts
         inside = omega (arith, x .bounded .within (c + 1) (omega arith), x .used-few, n-is, asked .flat-room, only-first-length (x .flat-rest));
       }
 
-  tree-held : {c : ℕ} → c < r → TreeHeld (g .vertices) starts′ cuts′ flat′ c
-  tree-held {c} h =
-      record {
-        held = is-held h;
-        start-inside = omega (arith, x .starts-inside c h, n-is);
-      }
-
   -- The numbers of the parts are those between the leftovers'.
   lefts-taken : take (length roots) lefts′ ≡ leftPlaces 0 pieces
   lefts-taken = put-taken (splits .lefts)
@@ -138,14 +133,8 @@ module _ {g : Graph} {b roots : List ℕ} {limit : ℕ} {bounds arcs starts cuts
     taken : take p places′ ≡ partPlaces 0 pieces
     taken = put-taken put ∙ places-are
 
-    count : p ≡ length (rootedParts g roots limit)
-    count = put-count put ∙ ap length places-are ∙ many
-
-    place-here : (i : ℕ) → i < p → getD places′ i 0 ≡ getD (partPlaces 0 pieces) i 0
-    place-here i h = sym (getD-take p places′ i 0 h) ∙ ap (λ l. getD l i 0) taken
-
-    place-below : (i : ℕ) → i < p → getD places′ i 0 < r
-    place-below i h = rw (place-here i h) (below-r (part-below pieces 0 (at-place 0 (partPlaces 0 pieces) i (omega (arith, count, many)))))
+    place-below : {c : ℕ} → c ∈ take p places′ → c < r
+    place-below m = below-r (part-below pieces 0 (rw taken at m))
 
     this-left : (j : ℕ) → j < length roots
         → rise (segment cuts′ flat′ (getD lefts′ j 0)) ≡ rise (leftAt (rootedPieces g roots limit) j)
@@ -160,14 +149,9 @@ module _ {g : Graph} {b roots : List ℕ} {limit : ℕ} {bounds arcs starts cuts
     pieces-placed =
         record {
           parts-are = ap (λ l. map risen (treesAt starts′ cuts′ flat′ l)) taken ∙ numbered.parts-are splits ∙ sym parts-all;
-          parts-count = count;
           parts-room = omega (arith, put-fits put, put-length (put .put));
-          part-is =
-              λ i h.
-              ap (λ ts. partOf ts i) parts-all
-              ∙ numbered.part-is splits i (omega (arith, count, ap length parts-all))
-              ∙ ap (λ c. risen (treeAt starts′ cuts′ flat′ c)) (sym (place-here i h));
-          trees = λ i h. tree-held (place-below i h);
+          parts-held = λ c m. is-held (place-below m);
+          starts-inside = λ c m. omega (arith, x .starts-inside c (place-below m), n-is);
           lefts-are = this-left;
           lefts-held = λ j h. is-held (left-inside j h);
         }

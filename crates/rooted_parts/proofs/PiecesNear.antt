@@ -7,6 +7,7 @@ use native.Mathlib.Omega.{arith}
 use lib.ListN.{length, getD, take}
 use lib.Seq.{getD-take}
 use Rattle.lists.specs.Lists.{any}
+use Rattle.lists.proofs.Places.{at-place}
 use Rattle.lists.proofs.Put.{only-first-length}
 use Rattle.graph.specs.Graph.{Graph}
 use Rattle.graph.specs.Bytes.{graphOf}
@@ -16,9 +17,10 @@ use Rattle.rules.specs.Held.{treeAt}
 use Rattle.rules.specs.RootedTrial.{mayGo}
 use Rattle.near.specs.Bits.{bitAt}
 use Rattle.near.specs.Held.{PiecesAsked, NearPieces}
-use Rattle.rooted_parts.specs.Near.{WithinAsked, VerticesNear, PartsNear}
+use Rattle.rooted_parts.specs.Near.{VerticesNear, PartsNear}
 use Rattle.rooted_parts.specs.Parts.{WordsAsked}
 use Rattle.rooted_state.proofs.NearMeansMayGo.{tree-reaches, reaches-risen}
+use Rattle.rooted_state.proofs.PlacedPieces.{parts-count, part-is, start-in}
 use Rattle.rooted_parts.proofs.PartsAssembled.{many}
 
 module _ {b roots : List ℕ} {limit : ℕ} {table starts cuts flat places : List ℕ} {p : ℕ} {words : List ℕ}
@@ -26,23 +28,14 @@ module _ {b roots : List ℕ} {limit : ℕ} {table starts cuts flat places : Lis
   abbrev g : Graph
   g = graphOf b
 
-  -- What is asked for the words of the vertices, and for those of the parts.
-  pub within-asked : {near : List ℕ} → 256 ≤ length near → ((v : ℕ) → v < length near → getD near v 0 ≡ 0) → WithinAsked b roots limit table near
-  within-asked room zeros =
-      record {
-        graph = a .held .graph;
-        roots-few = a .held .roots-few;
-        tabled = a .held .tabled;
-        limit-most = a .held .limit-most;
-        room = omega (arith, a .held .graph .valid .vertices-most);
-        zeros = zeros;
-      }
-
+  -- What is asked for the words of the parts.
   pub near-pieces-asked : {near : List ℕ} → 256 ≤ length near → PiecesAsked b near starts cuts flat (take p places) words
   near-pieces-asked room =
+      let graph = a .held .ready .given .graph in
+      let placed = a .held .placed in
       record {
-        given = record { graph = a .held .graph; room = omega (arith, a .held .graph .valid .vertices-most) };
-        trees = λ i h. let l : i < p = omega (arith, many (a .held)) in rw (getD-take p places i 0 l) (a .held .placed .trees i l);
+        given = record { graph = graph; room = omega (arith, graph .valid .vertices-most) };
+        trees = λ i h. let m = at-place 0 (take p places) i h in record { held = placed .parts-held _ m; start-inside = placed .starts-inside _ m };
         words-room = rw (many (a .held)) (a .words-room);
       }
 
@@ -51,7 +44,7 @@ module _ {b roots : List ℕ} {limit : ℕ} {table starts cuts flat places : Lis
   unfolding mayGo treeAt
   pieces-near {near} vertices {after} pieces =
       record {
-        count = a .held .placed .parts-count;
+        count = parts-count (a .held .placed);
         within = omega (arith, a .words-room, only-first-length (pieces .rest));
         each = each;
       }
@@ -64,6 +57,6 @@ module _ {b roots : List ℕ} {limit : ℕ} {table starts cuts flat places : Lis
           let same : getD (take p places) i 0 ≡ c = getD-take p places i 0 h in
           pieces .each i (omega (arith, many (a .held))) .each j
           ∙ ap (λ x. any (λ v. bitAt j (getD near v 0)) (treeVertices g (treeAt starts cuts flat x))) same
-          ∙ tree-reaches (a .held .graph .valid) limit root (λ v. bitAt j (getD near v 0)) (λ v m. vertices .each v j m l) t (a .held .placed .trees i h .start-inside)
+          ∙ tree-reaches (a .held .ready .given .graph .valid) limit root (λ v. bitAt j (getD near v 0)) (λ v m. vertices .each v j m l) t (start-in (a .held .placed) i h)
           ∙ reaches-risen g limit root t
-          ∙ ap (reachesPart g limit root) (sym (a .held .placed .part-is i h))
+          ∙ ap (reachesPart g limit root) (sym (part-is (a .held .placed) i h))

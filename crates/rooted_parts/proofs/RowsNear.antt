@@ -17,8 +17,9 @@ use Rattle.near.specs.Bits.{bitAt}
 use Rattle.near.specs.Rows.{RowsPut}
 use Rattle.near.proofs.BitsMade.{bit-says, bit-small}
 use Rattle.distance_table.proofs.RowPlaces.{place-within, every-place}
+use Rattle.rooted_state.specs.Placed.{RowsAssigned}
 use Rattle.rooted_parts.specs.Near.{PartsNear}
-use Rattle.rooted_parts.specs.Parts.{AssignAsked, AssignDone, RowsAssigned}
+use Rattle.rooted_parts.specs.Parts.{AssignAsked, AssignDone}
 use Rattle.rooted_state.proofs.AssignmentsAlike.{assignment-same, deficient-same, assignable-same}
 
 module _ {g : Graph} {roots : List ℕ} {limit p : ℕ} {words : List ℕ} (near : PartsNear g roots limit words p) {rows rows′ : List ℕ}
@@ -61,7 +62,7 @@ module _ {g : Graph} {roots : List ℕ} {limit p : ℕ} {words : List ℕ} (near
   unfolding allowedAt
   allowed-taken i j h l = ap (λ x. eqb x 1) (byte-taken i j h l) ∙ allowed i j h l
 
-  pub rows-assigned : {out : List ℕ} {r : Bool} → AssignDone p k (take (p * k) rows′) out r → RowsAssigned g roots limit p rows′ out r
+  pub rows-assigned : {before out : List ℕ} {r : Bool} → AssignDone p k (take (p * k) rows′) before out r → RowsAssigned g roots limit p rows′ out r
   unfolding isAssignable
   rows-assigned done =
       let by-rows = allowedAt (take (p * k) rows′) k in

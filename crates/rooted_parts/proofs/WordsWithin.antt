@@ -1,19 +1,31 @@
--- The words of the vertices have the roots within the limit, by the table of distances. What stands behind the words is not looked at.
+-- The words of the vertices have the roots within the limit, by the table of distances. What stands behind the words stays as it came.
 -- Assumes nothing.
 use Prim.Native.Nat.{ℕ}
 use mathlib.Core.Path.{_≡_, ap, _∙_}
 use mathlib.Core.List.{List, _++_}
 use native.Mathlib.Omega.{arith}
 use lib.Dec.{leb}
-use lib.ListN.{length, take, List·getD-append}
+use lib.ListN.{length, take, drop, replicate, length-replicate, List·getD-append}
 use lib.Seq.{getD-take, length-take-le}
+use Rattle.lists.proofs.Put.{only-front}
+use Rattle.lists.proofs.Zeros.{zeros-at}
 use Rattle.graph.specs.Graph.{Graph}
 use Rattle.graph.specs.Bytes.{graphOf}
 use Rattle.distance_table.specs.Tabled.{distanceIn}
 use Rattle.near.specs.Bits.{bitAt}
 use Rattle.near.specs.Vertices.{NearAsked, NearVertices}
-use Rattle.rooted_parts.specs.Near.{WithinAsked, VerticesNear}
+use Rattle.rooted_state.specs.Prepared.{LimitReady}
+use Rattle.rooted_parts.specs.Near.{WithinAsked, WithinDone}
 use Rattle.rooted_state.proofs.NearMeansMayGo.{says-within}
+
+-- 256 words of zero are enough.
+pub within-asked : {b roots : List ℕ} {limit : ℕ} {table : List ℕ} → LimitReady b roots limit table → WithinAsked b roots limit table (replicate 256 0)
+within-asked ready =
+    record {
+      ready = ready;
+      room = omega (arith, ready .given .graph .valid .vertices-most, length-replicate {A = ℕ} 256 0);
+      zeros = λ v _. zeros-at 256 v;
+    }
 
 module _ {b roots : List ℕ} {limit : ℕ} {table words : List ℕ} (a : WithinAsked b roots limit table words) where
   abbrev g : Graph
@@ -27,18 +39,22 @@ module _ {b roots : List ℕ} {limit : ℕ} {table words : List ℕ} (a : Within
     pub front-asked : NearAsked (length roots) table (take n words)
     front-asked =
         record {
-          roots-few = a .roots-few;
-          room = rw (lent, n-is) (a .tabled .room);
+          roots-few = a .ready .given .few;
+          room = rw (lent, n-is) (a .ready .distances .room);
           zeros = λ v h. getD-take n words v 0 (omega (arith, lent)) ∙ a .zeros v (omega (arith, lent, a .room));
         }
 
-    pub front-near : (front rest : List ℕ) → NearVertices (length roots) limit table (take n words) front → VerticesNear g roots limit (front ++ rest)
-    front-near front rest near =
+    pub front-near : (front : List ℕ) → NearVertices (length roots) limit table (take n words) front → WithinDone g roots limit words (front ++ drop n words)
+    front-near front near =
         record {
-          each =
-              λ v j h l.
-              ap (bitAt j) (List·getD-append front rest 0 v (omega (arith, near .size, lent)))
-              ∙ near .each v j (omega (arith, lent)) l
-              ∙ ap (λ n. leb (distanceIn table n v j) limit) (lent ∙ n-is)
-              ∙ says-within limit _ _ (omega (arith, a .limit-most)) (a .tabled .each v j h l);
+          near =
+              record {
+                each =
+                    λ v j h l.
+                    ap (bitAt j) (List·getD-append front (drop n words) 0 v (omega (arith, near .size, lent)))
+                    ∙ near .each v j (omega (arith, lent)) l
+                    ∙ ap (λ n. leb (distanceIn table n v j) limit) (lent ∙ n-is)
+                    ∙ says-within limit _ _ (omega (arith, a .ready .limit-most)) (a .ready .distances .each v j h l);
+              };
+          rest = rw (← n-is) (only-front n front words (near .size ∙ lent) (omega (arith, a .room)));
         }

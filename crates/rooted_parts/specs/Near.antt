@@ -5,27 +5,28 @@ use mathlib.Core.Path.{_≡_}
 use mathlib.Core.List.{List}
 use mathlib.Core.Option.{none}
 use lib.ListN.{length, getD}
+use Rattle.lists.specs.Put.{OnlyFirst}
 use Rattle.graph.specs.Graph.{Graph}
 use Rattle.graph.specs.Bytes.{graphOf}
-use Rattle.graph.specs.Valid.{IsGraph}
 use Rattle.rules.specs.Distance.{distances, isWithin}
 use Rattle.rules.specs.RootedTrial.{rootedParts, mayGo}
-use Rattle.distance_table.specs.Tabled.{DistancesTabled}
 use Rattle.near.specs.Bits.{bitAt}
+use Rattle.rooted_state.specs.Prepared.{LimitReady}
 
--- What is asked for the words of the vertices: the distances from at most 32 roots, a limit no larger than document 01 has it, and a word of zero for
--- each vertex.
+-- What is asked for the words of the vertices: the distances from the roots at a limit, and a word of zero for each vertex.
 pub record WithinAsked (b roots : List ℕ) (limit : ℕ) (table words : List ℕ) : Type 0 where
-  pub graph : IsGraph b
-  pub roots-few : length roots ≤ 32
-  pub tabled : DistancesTabled (graphOf b) roots table
-  pub limit-most : limit ≤ 2048000000
+  pub ready : LimitReady b roots limit table
   pub room : graphOf b .vertices ≤ length words
   pub zeros : (v : ℕ) → v < length words → getD words v 0 ≡ 0
 
 -- The word of each vertex has the roots whose distance to it is at most the limit.
 pub record VerticesNear (g : Graph) (roots : List ℕ) (limit : ℕ) (words : List ℕ) : Type 0 where
   pub each : (v j : ℕ) → v < g .vertices → j < length roots → bitAt j (getD words v 0) ≡ isWithin limit (getD (distances g (getD roots j 0)) v none)
+
+-- The first words are the vertices', and what stands behind them is as it came.
+pub record WithinDone (g : Graph) (roots : List ℕ) (limit : ℕ) (before after : List ℕ) : Type 0 where
+  pub near : VerticesNear g roots limit after
+  pub rest : OnlyFirst (g .vertices) before after
 
 -- The word of each of the r parts has the roots to which it may go.
 pub record PartsNear (g : Graph) (roots : List ℕ) (limit : ℕ) (words : List ℕ) (r : ℕ) : Type 0 where

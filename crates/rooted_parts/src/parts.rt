@@ -9,8 +9,8 @@ use split::split_forest;
 use unions::places::part_places;
 ghost use Rattle.graph.specs.Bytes.{graphOf};
 ghost use Rattle.rooted_parts.specs.Near.{PartsNear};
-ghost use Rattle.rooted_parts.specs.Parts.{arraysOf, PiecesAsked, PiecesPlaced, AssignAsked, AssignDone, WordsAsked, RowsAsked, RowsAssigned, PartsAsked};
-ghost use Rattle.rooted_state.specs.Placed.{trialArrays, PartsPlaced};
+ghost use Rattle.rooted_parts.specs.Parts.{PiecesAsked, AssignAsked, AssignDone, WordsAsked, RowsAsked, PartsAsked};
+ghost use Rattle.rooted_state.specs.Placed.{arraysOf, trialArrays, PiecesPlaced, RowsAssigned, PartsPlaced};
 
 // How many parts there are, and whether each has a root of its own.
 pub struct Placed {
@@ -31,7 +31,7 @@ fn place_pieces(
     lefts: &mut [u16],
     places: &mut [u16],
 ) -> usize
-    requires { ⌜ PiecesAsked (graphOf (now b)) (now b) (now roots) limit (now bounds) (now arcs) (arraysOf (now starts) (now cuts) (now flat) (now lefts) (now places)) ⌝ }
+    requires { ⌜ PiecesAsked (now b) (now roots) limit (now bounds) (now arcs) (arraysOf (now starts) (now cuts) (now flat) (now lefts) (now places)) ⌝ }
     ensures { λ r. ⌜ PiecesPlaced (graphOf (now (b .entry))) (now (roots .entry)) limit
         (arraysOf (now (starts .exit)) (now (cuts .exit)) (now (flat .exit)) (now (lefts .exit)) (now (places .exit))) r ⌝ }
 {
@@ -43,7 +43,7 @@ fn place_pieces(
 // Gives each of p parts a root of its own, or else marks a deficient set.
 pub fn is_assigned(p: usize, k: usize, rows: &[u8], out: &mut [u8]) -> bool
     requires { ⌜ AssignAsked p k (now rows) (now out) ⌝ }
-    ensures { λ r. ⌜ AssignDone p k (now (rows .entry)) (now (out .exit)) r ⌝ }
+    ensures { λ r. ⌜ AssignDone p k (now (rows .entry)) (now (out .entry)) (now (out .exit)) r ⌝ }
 {
     let answer = assign(p, k, rows, out);
     match answer {
@@ -127,7 +127,7 @@ pub fn place_parts(
     rows: &mut [u8],
     out: &mut [u8],
 ) -> Placed
-    requires { ⌜ PartsAsked (graphOf (now b)) (now b) (now roots) limit (now bounds) (now arcs) (now table)
+    requires { ⌜ PartsAsked (now b) (now roots) limit (now bounds) (now arcs) (now table)
         (arraysOf (now starts) (now cuts) (now flat) (now lefts) (now places)) (now rows) (now out) ⌝ }
     ensures { λ r. ⌜ PartsPlaced (graphOf (now (b .entry))) (now (roots .entry)) limit
         (trialArrays (now (starts .exit)) (now (cuts .exit)) (now (flat .exit)) (now (lefts .exit)) (now (places .exit)) (now (rows .exit)) (now (out .exit)))

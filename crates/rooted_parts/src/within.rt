@@ -1,12 +1,12 @@
 // The roots within a trial's limit of each vertex (document 01, step 5), by the distances from all roots.
 use near::vertices::near_vertices;
 ghost use Rattle.graph.specs.Bytes.{graphOf};
-ghost use Rattle.rooted_parts.specs.Near.{WithinAsked, VerticesNear};
+ghost use Rattle.rooted_parts.specs.Near.{WithinAsked, WithinDone};
 
 // For each vertex a word, whose bit j says whether root j is within the limit of it. The words come as zeros.
 pub fn roots_within(b: &[u8], roots: &[u16], limit: u64, table: &[u32], words: &mut [u32])
     requires { ⌜ WithinAsked (now b) (now roots) limit (now table) (now words) ⌝ }
-    ensures { λ _. ⌜ VerticesNear (graphOf (now (b .entry))) (now (roots .entry)) limit (now (words .exit)) ⌝ }
+    ensures { λ _. ⌜ WithinDone (graphOf (now (b .entry))) (now (roots .entry)) limit (now (words .entry)) (now (words .exit)) ⌝ }
 {
     let n = graph::vertex_count(b);
     near_vertices(table, roots.len(), limit as u32, &mut words[..n]);

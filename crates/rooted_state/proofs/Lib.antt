@@ -5,3 +5,5 @@ pub mod LimitDecided
 pub mod NearMeansMayGo
 -- assignments by tests that agree, and none for more parts than roots
 pub mod AssignmentsAlike
+-- the parts by the places of their pieces
+pub mod PlacedPieces

@@ -1,7 +1,7 @@
 -- The parts of a rooted trial, placed: the arrays hold the pieces of the trial, the rows say which roots are near each part, and an
 -- assignment or a deficient set was found (document 01, steps 4 and 5).
 -- Assumes nothing.
-use Prim.Native.Nat.{ℕ, _≤_, _<_}
+use Prim.Native.Nat.{ℕ, _*_, _≤_, _<_}
 use mathlib.Core.Path.{_≡_}
 use mathlib.Core.Bool.{Bool, true, false}
 use mathlib.Core.List.{List, map}
@@ -10,39 +10,64 @@ use Rattle.lists.specs.Member.{_∈_}
 use Rattle.lists.specs.Segments.{segment}
 use Rattle.lists.specs.Sort.{rise}
 use Rattle.graph.specs.Graph.{Graph}
+use Rattle.graph.specs.Bytes.{graphOf}
 use Rattle.matching.specs.Assignment.{IsAssignment, IsDeficient}
 use Rattle.matching.specs.Input.{allowedAt}
 use Rattle.rules.specs.Held.{treesAt, risen}
+use Rattle.rules.specs.Order.{ordered}
 use Rattle.rules.specs.RootedTrial.{rootedPieces, rootedParts, leftAt, mayGo, isAssignable}
 use Rattle.cover.specs.Chosen.{IsHeld, AllHeld}
+use Rattle.distance_table.specs.Tabled.{LastsTabled}
+use Rattle.rooted_state.specs.Prepared.{LimitReady}
 
--- The arrays of a rooted trial: the pieces by their starts, bounds and edges; the number of each root's leftover; the number of each part's
--- piece; for each part a row of marks, 1 where a root is near; and what the assignment wrote, a byte for each part.
-pub record TrialArrays : Type 0 where
+-- The arrays of the pieces: their starts, bounds and edges, the number of each root's leftover, and the number of each part's piece.
+pub record PieceArrays : Type 0 where
   pub starts : List ℕ
   pub cuts : List ℕ
   pub flat : List ℕ
   pub lefts : List ℕ
   pub places : List ℕ
+
+abbrev pub arraysOf : List ℕ → List ℕ → List ℕ → List ℕ → List ℕ → PieceArrays
+arraysOf starts cuts flat lefts places = record { starts = starts; cuts = cuts; flat = flat; lefts = lefts; places = places }
+
+-- The arrays of a rooted trial: the pieces; for each part a row of marks, 1 where a root is near; and what the assignment wrote, a byte for each
+-- part.
+pub record TrialArrays : Type 0 where
+  pub pieces : PieceArrays
   pub rows : List ℕ
   pub out : List ℕ
 
 -- The same, array by array.
 abbrev pub trialArrays : List ℕ → List ℕ → List ℕ → List ℕ → List ℕ → List ℕ → List ℕ → TrialArrays
-trialArrays starts cuts flat lefts places rows out =
-    record { starts = starts; cuts = cuts; flat = flat; lefts = lefts; places = places; rows = rows; out = out }
+trialArrays starts cuts flat lefts places rows out = record { pieces = arraysOf starts cuts flat lefts places; rows = rows; out = out }
 
--- The parts are placed, `parts` of them: the arrays hold the trial's pieces, the rows say which roots are near, and an assignment was found
--- or else a deficient set.
-pub record PartsPlaced (g : Graph) (roots : List ℕ) (limit : ℕ) (a : TrialArrays) (parts : ℕ) (assigned : Bool) : Type 0 where
+-- The arrays hold the trial's pieces, `parts` of them parts.
+pub record PiecesPlaced (g : Graph) (roots : List ℕ) (limit : ℕ) (a : PieceArrays) (parts : ℕ) : Type 0 where
   pub parts-are : map risen (treesAt (a .starts) (a .cuts) (a .flat) (take parts (a .places))) ≡ rootedParts g roots limit
-  pub parts-count : parts ≡ length (rootedParts g roots limit)
   pub parts-room : parts ≤ length (a .places)
   pub parts-held : AllHeld (a .cuts) (a .flat) (take parts (a .places))
+  pub starts-inside : (c : ℕ) → c ∈ take parts (a .places) → getD (a .starts) c 0 < g .vertices
   pub lefts-are : (j : ℕ) → j < length roots → rise (segment (a .cuts) (a .flat) (getD (a .lefts) j 0)) ≡ rise (leftAt (rootedPieces g roots limit) j)
   pub lefts-held : (j : ℕ) → j < length roots → IsHeld (a .cuts) (a .flat) (getD (a .lefts) j 0)
-  pub starts-inside : (c : ℕ) → c ∈ take parts (a .places) → getD (a .starts) c 0 < g .vertices
-  pub near : (i j : ℕ) → i < parts → j < length roots → allowedAt (a .rows) (length roots) i j ≡ mayGo g roots limit i j
+
+-- The rows say which roots are near each part, and an assignment was found or else a deficient set.
+pub record RowsAssigned (g : Graph) (roots : List ℕ) (limit parts : ℕ) (rows out : List ℕ) (assigned : Bool) : Type 0 where
+  pub near : (i j : ℕ) → i < parts → j < length roots → allowedAt rows (length roots) i j ≡ mayGo g roots limit i j
   pub assigned-is : assigned ≡ isAssignable g roots limit
-  pub assignment : assigned ≡ true → IsAssignment parts (length roots) (mayGo g roots limit) (take parts (a .out))
-  pub deficient : assigned ≡ false → IsDeficient parts (length roots) (mayGo g roots limit) (take parts (a .out))
+  pub assignment : assigned ≡ true → IsAssignment parts (length roots) (mayGo g roots limit) (take parts out)
+  pub deficient : assigned ≡ false → IsDeficient parts (length roots) (mayGo g roots limit) (take parts out)
+
+-- The parts are placed: both.
+pub record PartsPlaced (g : Graph) (roots : List ℕ) (limit : ℕ) (a : TrialArrays) (parts : ℕ) (assigned : Bool) : Type 0 where
+  pub pieces : PiecesPlaced g roots limit (a .pieces) parts
+  pub rows : RowsAssigned g roots limit parts (a .rows) (a .out) assigned
+
+-- What a cover is made by, beside the parts: the edges in order, the distances from the roots with their last edges, a limit, for each root room for
+-- an edge of each vertex, and a large buffer.
+pub record CoverReady (b roots : List ℕ) (limit : ℕ) (order table lasts : List ℕ) (edges-room room : ℕ) : Type 0 where
+  pub ready : LimitReady b roots limit table
+  pub in-order : order ≡ ordered (graphOf b)
+  pub last-edges : LastsTabled (graphOf b) roots table lasts
+  pub edges-fit : length roots * graphOf b .vertices ≤ edges-room
+  pub most : 32708 ≤ room

@@ -17,11 +17,16 @@ use Rattle.edges.specs.Around.{Around}
 use Rattle.steps.specs.WalkPut.{Walk}
 use Rattle.distance_table.specs.Tabled.{DistancesTabled, LastsTabled}
 
--- What deciding a limit takes, beside a walk: the graph's bytes and the roots, the whole forest by weight, and the distances from the roots.
-pub record Decidable (b roots kept table : List ℕ) : Type 0 where
+-- A graph's bytes, and roots among its vertices, at least one and at most 32.
+pub record RootsGiven (b roots : List ℕ) : Type 0 where
   pub graph : IsGraph b
-  pub roots-inside : (j : ℕ) → j < length roots → getD roots j 0 < graphOf b .vertices
-  pub roots-few : length roots ≤ 32
+  pub inside : (j : ℕ) → j < length roots → getD roots j 0 < graphOf b .vertices
+  pub some : 1 ≤ length roots
+  pub few : length roots ≤ 32
+
+-- What deciding a limit takes, beside a walk: the roots, the whole forest by weight, and the distances from the roots.
+pub record Decidable (b roots kept table : List ℕ) : Type 0 where
+  pub given : RootsGiven b roots
   pub forest : kept ≡ keep (graphOf b) (together roots) (ordered (graphOf b))
   pub distances : DistancesTabled (graphOf b) roots table
 
@@ -40,10 +45,15 @@ pub record Prepared (b roots order kept bounds arcs table lasts : List ℕ) : Ty
   pub in-order : order ≡ ordered (graphOf b)
   pub last-edges : LastsTabled (graphOf b) roots table lasts
 
--- What a trial at a limit asks: what is prepared, a root, and a limit no larger than document 01 has it.
+-- The distances from the roots, and a limit no larger than document 01 has it.
+pub record LimitReady (b roots : List ℕ) (limit : ℕ) (table : List ℕ) : Type 0 where
+  pub given : RootsGiven b roots
+  pub distances : DistancesTabled (graphOf b) roots table
+  pub limit-most : limit ≤ 2048000000
+
+-- What a trial at a limit asks: what is prepared, and a limit no larger than document 01 has it.
 pub record TrialAsked (b roots : List ℕ) (limit : ℕ) (kept table : List ℕ) : Type 0 where
   pub decidable : Decidable b roots kept table
-  pub roots-some : 1 ≤ length roots
   pub limit-most : limit ≤ 2048000000
 
 -- What a trial asks for its parts: the edges within the limit join every vertex to a root.

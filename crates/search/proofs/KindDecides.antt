@@ -19,7 +19,7 @@ pub rooted-decision : {kind : Kind} {k limit : ℕ} {b roots kept table total un
 rooted-decision {kind} a q =
     let same : kind ≡ Rooted = q in
     record {
-      asked = record { decidable = a .crews .ready .decidable q; roots-some = a .crews .ready .roots-some q; limit-most = a .limit-most };
+      asked = record { decidable = a .crews .ready .decidable q; limit-most = a .limit-most };
       walked = a .walked q;
       some-cover = rw same at (a .crews .some-cover);
     }

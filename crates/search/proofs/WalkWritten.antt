@@ -9,16 +9,16 @@ use Rattle.lists.proofs.Put.{put-taken, put-fits, put-length}
 use Rattle.graph.specs.Bytes.{graphOf}
 use Rattle.edges.specs.Around.{Arcs}
 use Rattle.steps.specs.WalkPut.{WalkAsked, WalkPut}
-use Rattle.rooted_state.specs.Prepared.{Decidable, WholeAround, WholeWalked}
+use Rattle.rooted_state.specs.Prepared.{RootsGiven, WholeAround, WholeWalked}
 
-module _ {b roots kept bounds arcs table : List ℕ} (d : Decidable b roots kept table) (around : WholeAround b roots bounds arcs) {n : ℕ}
+module _ {b roots bounds arcs : List ℕ} (given : RootsGiven b roots) (around : WholeAround b roots bounds arcs) {n : ℕ}
     (n-is : n ≡ graphOf b .vertices) where
   pub walk-asked : {walk : List ℕ} → length walk ≡ 256 → WalkAsked n bounds arcs roots walk
   walk-asked size =
       record {
         around = subst (λ m. Arcs m bounds arcs) (sym n-is) (around .sound);
-        roots-inside = λ j h. omega (arith, d .roots-inside j h);
-        room = omega (arith, d .graph .valid .vertices-most);
+        roots-inside = λ j h. omega (arith, given .inside j h);
+        room = omega (arith, given .graph .valid .vertices-most);
       }
 
   pub walk-written : {before walk : List ℕ} {r : ℕ} → WalkPut n bounds arcs roots before walk r → WholeWalked b roots (take r walk)

@@ -11,7 +11,7 @@ use Rattle.rules.specs.Order.{ordered}
 use Rattle.rules.specs.Search.{accepts, Bounds, searched}
 use Rattle.cover.specs.declared.crews.Kind.{Kind}
 use Rattle.cover.specs.declared.crews.Kind.the-variants.{Rooted}
-use Rattle.rooted_state.specs.Prepared.{Decidable, WholeAround, WholeWalked}
+use Rattle.rooted_state.specs.Prepared.{RootsGiven, WholeAround, WholeWalked}
 use Rattle.search.specs.Decision.{CrewsPrepared}
 
 -- Where the search stands.
@@ -42,9 +42,7 @@ pub record BestAsked (kind : Kind) (k : ℕ) (b roots order kept bounds arcs tab
 
 -- What writing the walk asks: where crews have roots, the edges around each vertex of the whole forest; and a place for each vertex.
 pub record WalkGiven (kind : Kind) (b roots bounds arcs walk : List ℕ) : Type 0 where
-  pub kept : List ℕ
-  pub table : List ℕ
-  pub decidable : kind ≡ Rooted → Decidable b roots kept table
+  pub given : kind ≡ Rooted → RootsGiven b roots
   pub around : kind ≡ Rooted → WholeAround b roots bounds arcs
   pub room : length walk ≡ 256
 

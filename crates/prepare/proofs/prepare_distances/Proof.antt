@@ -54,9 +54,9 @@ put-around-requires c κs =
     let u = (let d = c .before .before .before .before in d .before) in
     let asked = s u .pre in
     record {
-      graph = asked .graph;
+      graph = asked .given .graph;
       inside = λ e m. of-below (edgeCount (g u)) (rw (all-are u) at m);
-      few = omega (arith, size u, asked .graph .valid .edges-most);
+      few = omega (arith, size u, asked .given .graph .valid .edges-most);
       bounds-room = omega (arith, asked .bounds-room);
       arcs-room = omega (arith, size u, asked .all-room);
     }
@@ -71,7 +71,7 @@ fill-table-requires c κs =
     let n = v .vertex-count .ensures .is in
     record {
       sound = rw n (p v .put-around .ensures .around .sound);
-      roots-inside = λ j h. rw n (asked .roots-inside j h);
+      roots-inside = λ j h. rw n (asked .given .inside j h);
       table-room = rw n (asked .table-room);
       lasts-room = rw n (asked .lasts-room);
     }

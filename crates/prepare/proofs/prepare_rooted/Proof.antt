@@ -90,7 +90,6 @@ returns : tie.Need-returns
 returns c =
     let p = c .before .before .before .before in
     let k = (let d = p .before .before .before .before in let e = d .before .before .before .before in e .before .before .before .before) in
-    let given = s k .pre .given in
     let kept = k .keep-forest .ensures in
     let tabled = t k .prepare-distances .ensures in
     record {
@@ -98,14 +97,7 @@ returns c =
       forest-room = kept .forest-room;
       prepared =
           record {
-            decidable =
-                record {
-                  graph = given .graph;
-                  roots-inside = given .inside;
-                  roots-few = given .few;
-                  forest = kept .forest;
-                  distances = tabled .distances;
-                };
+            decidable = record { given = s k .pre .given; forest = kept .forest; distances = tabled .distances };
             around = rw (kept .forest) at (p .put-arcs .ensures .around);
             in-order = kept .in-order;
             last-edges = tabled .last-edges;

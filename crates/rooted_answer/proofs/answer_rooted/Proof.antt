@@ -11,7 +11,7 @@ use Rattle.graph.specs.Bytes.{graphOf}
 use Rattle.rules.specs.RootedTrial.{unjoinedAt}
 use Rattle.forest.specs.Lowest.{vertexIn}
 use Rattle.rooted_answer.specs.Answer.{JoinedAsked}
-use Rattle.rooted_state.proofs.LimitDecided.{inside-each, stop-asked, stop-is}
+use Rattle.rooted_state.proofs.LimitDecided.{roots-inside, stop-asked, stop-is}
 use Rattle.rooted_answer.proofs.PlacedAnswered.{joined-asked}
 use Rattle.rooted_answer.proofs.RootedAnswers.{answers-stop}
 use Rattle.rooted_answer.proofs.answer_rooted.Statement.{statement}
@@ -57,9 +57,7 @@ slice-aggregate-stop-at-2 c = search needs
 
 stop-at-requires : tie.Need-stop-at-requires
 stop-at-requires c κs =
-    let a = start (c .before .before) .pre in
-    let d = a .prepared .decidable in
-    stop-asked (d .graph) (d .roots-inside) (a .roots-some)
+    stop-asked (start (c .before .before) .pre .prepared .decidable .given)
 
 enum-known-found : tie.Need-enum-known-found
 enum-known-found c = search needs
@@ -72,8 +70,8 @@ vertex-count-requires c κs = search needs
 
 mul-if1 : tie.Need-mul-if1
 mul-if1 c =
-    let d = s (looked c) .pre .prepared .decidable in
-    let h = mul-le-mul (d .graph .valid .vertices-most) (d .roots-few) in
+    let given = s (looked c) .pre .prepared .decidable .given in
+    let h = mul-le-mul (given .graph .valid .vertices-most) (given .few) in
     rw (c .vertex-count .ensures .is) (omega arith)
 
 answer-small-requires : tie.Need-answer-small-requires
@@ -94,8 +92,8 @@ returns-2 : tie.Need-returns-2
 returns-2 c =
     let m = c .before in
     let f = m .before .before .before in
-    let d = s f .pre .prepared .decidable in
-    answers-stop (g f) (s f .args .roots .now) (s f .args .limit) (d .graph .valid) (inside-each (d .roots-inside))
+    let given = s f .pre .prepared .decidable .given in
+    answers-stop (g f) (s f .args .roots .now) (s f .args .limit) (given .graph .valid) (roots-inside given)
     (found-is f ∙ ap vertexIn (m .found .given .1)) (s f .args .buf .now)
 
 same-length-2 : tie.Need-same-length-2

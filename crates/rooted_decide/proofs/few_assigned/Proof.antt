@@ -38,7 +38,7 @@ module _ (q : tie.After-parts-near) where
   -- Rows for no more parts than roots are at most 32 times 32 bytes.
   small : p * length (s .args .roots .now) ≤ 1024
   small =
-      let most = s .pre .counted .ready .asked .decidable .roots-few in
+      let most = s .pre .counted .ready .asked .decidable .given .few in
       let h : p ≤ 32 = omega (arith, few, most) in
       omega (arith, mul-le-mul-right (length (s .args .roots .now)) h, most)
 
@@ -92,8 +92,8 @@ is-assigned-requires : tie.Need-is-assigned-requires
 is-assigned-requires c κs =
     let w = c .before .before .before in
     let t = s (q w) .pre .counted .ready .asked in
-    let most : p (q w) ≤ 32 = omega (arith, few (q w), t .decidable .roots-few) in
-    assign-asked (near (q w)) (put w) (room w) (omega arith) (t .roots-some) (t .decidable .roots-few) (omega (arith, length-replicate {A = ℕ} 32 0))
+    let most : p (q w) ≤ 32 = omega (arith, few (q w), t .decidable .given .few) in
+    assign-asked (near (q w)) (put w) (room w) (omega arith) (t .decidable .given .some) (t .decidable .given .few) (omega (arith, length-replicate {A = ℕ} 32 0))
 
 returns : tie.Need-returns
 returns c =

@@ -23,7 +23,7 @@ slice-aggregate-stop-at : tie.Need-slice-aggregate-stop-at
 slice-aggregate-stop-at c = search needs
 
 stop-at-requires : tie.Need-stop-at-requires
-stop-at-requires c κs = let p = start c .pre in stop-asked (p .graph) (p .roots-inside) (p .roots-some)
+stop-at-requires c κs = stop-asked (start c .pre .given)
 
 enum-told : tie.Need-enum-told
 enum-told c = search needs

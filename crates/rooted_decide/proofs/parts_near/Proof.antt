@@ -1,10 +1,9 @@
 -- `rooted_decide::parts_near` meets its contract: the vertices' words are made, and the parts' by one pass over the walk. Assumes nothing.
-use Prim.Native.Nat.{ℕ}
 use native.Mathlib.Omega.{arith}
 use borrow.Author.Needs.{needs}
-use lib.ListN.{length-replicate}
-use Rattle.lists.proofs.Zeros.{zeros-at}
-use Rattle.rooted_decide.proofs.PartsNear.{within-asked, near-parts-asked, parts-near}
+use Rattle.rooted_state.proofs.LimitDecided.{limit-ready}
+use Rattle.rooted_parts.proofs.WordsWithin.{within-asked}
+use Rattle.rooted_decide.proofs.PartsNear.{near-parts-asked, parts-near}
 use Rattle.rooted_decide.proofs.parts_near.Statement.{statement}
 use Rattle.rooted_decide.proofs.parts_near.Tie as tie
 
@@ -16,7 +15,7 @@ slice-aggregate-roots-within : tie.Need-slice-aggregate-roots-within
 slice-aggregate-roots-within c = search needs
 
 roots-within-requires : tie.Need-roots-within-requires
-roots-within-requires c κs = within-asked (start c .pre .ready) (omega (arith, length-replicate {A = ℕ} 256 0)) (λ v _. zeros-at 256 v)
+roots-within-requires c κs = within-asked (limit-ready (start c .pre .ready .counted .ready .asked))
 
 slice-aggregate-near-parts : tie.Need-slice-aggregate-near-parts
 slice-aggregate-near-parts c = search needs
@@ -34,7 +33,7 @@ returns : tie.Need-returns
 returns c =
     let p = c .before .before in
     let w = p .before .before .before .before in
-    parts-near (start (w .before) .pre .ready) (w .roots-within .ensures) (p .near-parts .ensures)
+    parts-near (start (w .before) .pre .ready) (w .roots-within .ensures .near) (p .near-parts .ensures)
 
 pub parts-near-spec : {M : Type 1} → statement M
 parts-near-spec =

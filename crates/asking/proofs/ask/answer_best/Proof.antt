@@ -25,7 +25,7 @@ returns : tie.Need-returns
 returns c =
     let n = c .before in
     none-answered (sym (n .no-cover .ensures) ∙ c .if1 .taken) _
-    (choices-for (s n .pre .ready .graph .valid) (s n .args .kind) (s n .args .k) (s n .args .roots .now) (λ q. s n .pre .ready .decidable q .roots-inside) _)
+    (choices-for (s n .args .kind) (s n .args .k) (s n .pre .ready) _)
 
 best-limit-requires : tie.Need-best-limit-requires
 best-limit-requires c κs =

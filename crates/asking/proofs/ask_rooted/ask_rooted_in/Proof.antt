@@ -36,7 +36,7 @@ answer-asked-requires c κs =
     let p = prepared (let d = c .before .before .before .before in d .before .before .before .before) in
     let question = (let d = p .before .before .before .before in let e = d .before .before .before .before in let f = e .before .before .before .before in let g = f .before .before .before .before in g .before .before) .pre .question in
     record {
-      answer = rooted-ready (question .given) (p .prepare-rooted .ensures .prepared) (question .given .few) (question .room-most);
+      answer = rooted-ready (p .prepare-rooted .ensures .prepared) (question .given .few) (question .room-most);
       limit-fits = question .limit-fits;
     }
 

@@ -10,6 +10,7 @@ use borrow.Author.Needs.{needs}
 use Rattle.lists.proofs.Put.{put-length}
 use Rattle.graph.specs.Bytes.{graphOf}
 use Rattle.distance_table.proofs.RowPlaces.{row-room, row-behind}
+use Rattle.rooted_state.specs.Placed.{arraysOf}
 use Rattle.rooted_cover.specs.CoverTrees.{TreesLaid}
 use Rattle.rooted_cover.proofs.CoverLaid.{trees-none, trees-more}
 use Rattle.rooted_cover.proofs.cover_trees.lay_trees.Statement.{statement}
@@ -20,7 +21,7 @@ Inv-loop b order table lasts roots starts cuts flat lefts places out bounds₀ e
     record {
       within : j ≤ length roots;
       few : at ≤ j * graphOf b .vertices;
-      laid : TreesLaid (graphOf b) table lasts roots starts cuts flat lefts places out j at bounds edges;
+      laid : TreesLaid (graphOf b) table lasts roots (arraysOf starts cuts flat lefts places) out j at bounds edges;
       bounds-size : length bounds ≡ length bounds₀;
       edges-size : length edges ≡ length edges₀;
     }

@@ -9,7 +9,7 @@ use borrow.Author.Needs.{needs}
 use Rattle.lists.specs.Count.{below}
 use Rattle.lists.proofs.Put.{put-taken}
 use Rattle.lists.proofs.Runs.{length-below}
-use Rattle.rooted_cover.proofs.RootsGiven.{roots-given}
+use Rattle.rooted_cover.proofs.RootTreesGiven.{roots-given}
 use Rattle.rooted_cover.proofs.CoverLaid.{trees-held, trees-writable, cover-written}
 use Rattle.rooted_cover.proofs.cover_trees.write_rooted.Statement.{statement}
 use Rattle.rooted_cover.proofs.cover_trees.write_rooted.Tie as tie
@@ -43,7 +43,7 @@ module _ (u : tie.After-number-up) where
   count = sym (ap length numbers-are ∙ length-below k)
 
 slice-aggregate-lay-trees : tie.Need-slice-aggregate-lay-trees
-slice-aggregate-lay-trees c = let s = came (c .before) in sym (length-take-le (s .args .parts) (s .args .places .now) (s .pre .placed .parts-room))
+slice-aggregate-lay-trees c = let s = came (c .before) in sym (length-take-le (s .args .parts) (s .args .places .now) (s .pre .placed .pieces .parts-room))
 
 slice-aggregate-lay-trees-2 : tie.Need-slice-aggregate-lay-trees-2
 slice-aggregate-lay-trees-2 c = search needs
@@ -51,13 +51,13 @@ slice-aggregate-lay-trees-2 c = search needs
 lay-trees-requires : tie.Need-lay-trees-requires
 lay-trees-requires c κs =
     let pre = came (c .before .before .before) .pre in
-    record { given = roots-given pre; few = pre .roots-few; bounds-fit = omega arith; edges-fit = pre .edges-fit }
+    record { given = roots-given pre; few = pre .ready .ready .given .few; bounds-fit = omega arith; edges-fit = pre .ready .edges-fit }
 
 slice-aggregate-number-up : tie.Need-slice-aggregate-number-up
 slice-aggregate-number-up c = search needs
 
 number-up-requires : tie.Need-number-up-requires
-number-up-requires c κs = let pre = start (c .before .before .before .before) .pre in record { few = omega (arith, pre .roots-few); fits = omega (arith, pre .roots-few) }
+number-up-requires c κs = let pre = start (c .before .before .before .before) .pre in record { few = omega (arith, pre .ready .ready .given .few); fits = omega (arith, pre .ready .ready .given .few) }
 
 slice-aggregate-heaviest-chosen : tie.Need-slice-aggregate-heaviest-chosen
 slice-aggregate-heaviest-chosen c = search needs

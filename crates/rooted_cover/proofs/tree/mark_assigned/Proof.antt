@@ -1,14 +1,15 @@
 -- `rooted_cover::tree::mark_assigned` meets its contract. Assumes nothing.
 use Prim.Native.Nat.{ℕ, _<_}
 use mathlib.Core.Path.{_≡_, refl, ap, _∙_}
-use mathlib.Core.List.{List}
+use mathlib.Core.List.{List, []}
 use native.Mathlib.Omega.{arith}
 use lib.ListN.{length, getD}
 use borrow.Author.Needs.{needs}
 use Rattle.lists.specs.Member.{_∈_}
 use Rattle.lists.proofs.Places.{at-place}
 use Rattle.graph.specs.Graph.{Graph}
-use Rattle.rooted_cover.specs.Tree.{ReachGiven, ReachMarked, nobody, somebody}
+use Rattle.rooted_cover.specs.Tree.{ReachGiven, ReachMarked, none, part}
+use Rattle.rooted_cover.proofs.RootUnion.{marked-none}
 use Rattle.rooted_cover.proofs.tree.mark_assigned.Statement.{statement}
 use Rattle.rooted_cover.proofs.tree.mark_assigned.Tie as tie
 
@@ -49,7 +50,7 @@ returns : tie.Need-returns
 returns c =
     let p = c .before in
     let found = p .place-with .ensures in
-    nobody (λ i h. found .earlier i (omega (arith, c .if1 .taken))) refl
+    record { edges = []; are = none (λ i h. found .earlier i (omega (arith, c .if1 .taken))) refl; marks = marked-none _ }
 
 mul-c : tie.Need-mul-c
 mul-c c = search needs
@@ -84,7 +85,8 @@ returns-2 c =
     let p = m .before .before in
     let w = p .before in
     let e = w .before .before .before .before in
-    somebody (e .before .place-with .result) (inside e) (e .before .place-with .ensures) (marked-as (start-is w) (p .piece-edges .ensures) (m .mark-reach .ensures))
+    let marked = marked-as (start-is w) (p .piece-edges .ensures) (m .mark-reach .ensures) in
+    record { edges = _; are = part _ (marked .vertex) (inside e) (e .before .place-with .ensures) (marked .nearest) refl; marks = marked .marks }
 
 pub mark-assigned-spec : {M : Type 1} → statement M
 mark-assigned-spec =

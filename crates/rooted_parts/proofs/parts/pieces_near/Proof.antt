@@ -1,12 +1,10 @@
 -- `rooted_parts::parts::pieces_near` meets its contract: the words of the vertices are made, and those of the parts by them. Assumes nothing.
-use Prim.Native.Nat.{ℕ}
 use mathlib.Core.Path.{sym}
 use native.Mathlib.Omega.{arith}
 use borrow.Author.Needs.{needs}
-use lib.ListN.{length-replicate}
-use Rattle.lists.proofs.Zeros.{zeros-at}
 use Rattle.rooted_parts.proofs.PartsAssembled.{many}
-use Rattle.rooted_parts.proofs.PiecesNear.{within-asked, near-pieces-asked, pieces-near}
+use Rattle.rooted_parts.proofs.WordsWithin.{within-asked}
+use Rattle.rooted_parts.proofs.PiecesNear.{near-pieces-asked, pieces-near}
 use Rattle.rooted_parts.proofs.parts.pieces_near.Statement.{statement}
 use Rattle.rooted_parts.proofs.parts.pieces_near.Tie as tie
 
@@ -20,7 +18,7 @@ slice-aggregate-roots-within : tie.Need-slice-aggregate-roots-within
 slice-aggregate-roots-within c = search needs
 
 roots-within-requires : tie.Need-roots-within-requires
-roots-within-requires c κs = within-asked (start c .pre) (omega (arith, length-replicate {A = ℕ} 256 0)) (λ v _. zeros-at 256 v)
+roots-within-requires c κs = within-asked (start c .pre .held .ready)
 
 slice-aggregate-near-pieces : tie.Need-slice-aggregate-near-pieces
 slice-aggregate-near-pieces c = search needs
@@ -40,7 +38,7 @@ returns : tie.Need-returns
 returns c =
     let p = c .before .before in
     let w = p .before .before .before .before .before in
-    pieces-near (start (w .before) .pre) (w .roots-within .ensures) (p .near-pieces .ensures)
+    pieces-near (start (w .before) .pre) (w .roots-within .ensures .near) (p .near-pieces .ensures)
 
 pub pieces-near-spec : {M : Type 1} → statement M
 pieces-near-spec =

@@ -1,5 +1,5 @@
 -- `rooted_parts::parts::place_parts` meets its contract: the pieces are placed, and the parts assigned. Assumes nothing.
-use Rattle.rooted_parts.proofs.PartsAssembled.{asked-held, rows-enough, out-enough, parts-placed}
+use Rattle.rooted_parts.proofs.PartsAssembled.{asked-held, rows-enough, out-enough}
 use borrow.Author.Needs.{needs}
 use Rattle.rooted_parts.proofs.parts.place_parts.Statement.{statement}
 use Rattle.rooted_parts.proofs.parts.place_parts.Tie as tie
@@ -55,7 +55,7 @@ returns : tie.Need-returns
 returns c =
     let r = c .before .before .before .before in
     let q = placed (r .before) in
-    parts-placed (asked-held (start q .pre) (q .place-pieces .ensures)) (q .place-pieces .ensures) (r .assign-parts .ensures)
+    record { pieces = q .place-pieces .ensures; rows = r .assign-parts .ensures }
 
 pub place-parts-spec : {M : Type 1} → statement M
 place-parts-spec =

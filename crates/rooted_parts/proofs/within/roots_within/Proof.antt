@@ -36,7 +36,7 @@ returns : tie.Need-returns
 returns c =
     let w = c .before .before in
     let v = w .before .before in
-    front-near (s v .pre) _ (n-is v) (w .near-vertices .last .1 .1 .1 .0) _ (w .near-vertices .ensures)
+    front-near (s v .pre) _ (n-is v) (w .near-vertices .last .1 .1 .1 .0) (w .near-vertices .ensures)
 
 pub roots-within-spec : {M : Type 1} → statement M
 roots-within-spec =

@@ -18,9 +18,7 @@ write-walk-requires : tie.Need-write-walk-requires
 write-walk-requires c κs =
     let s = start c in
     record {
-      kept = s .args .kept .now;
-      table = s .args .table .now;
-      decidable = s .pre .crews .ready .decidable;
+      given = λ q. s .pre .crews .ready .decidable q .given;
       around = s .pre .around;
       room = length-replicate {A = ℕ} 256 0;
     }

@@ -2,7 +2,7 @@
 use mathlib.Core.Path.{_≡_}
 use native.Mathlib.Omega.{arith}
 use Rattle.graph.specs.Bytes.{graphOf}
-use Rattle.rooted_state.specs.Prepared.{Decidable, WholeAround}
+use Rattle.rooted_state.specs.Prepared.{RootsGiven, WholeAround}
 use borrow.Author.Needs.{needs}
 use Rattle.search.proofs.WalkWritten.{walk-asked, walk-written, walk-fits}
 use Rattle.search.proofs.KindDecides.{one-kind}
@@ -14,8 +14,8 @@ module _ (v : tie.After-vertex-count) where
   abbrev s : tie.Start
   s = let d = v .before .before .before .before in d .before .before .before .before
 
-  ready : Decidable (s .args .b .now) (s .args .roots .now) (s .pre .kept) (s .pre .table)
-  ready = s .pre .decidable (v .before .enum-told .given .1)
+  given : RootsGiven (s .args .b .now) (s .args .roots .now)
+  given = s .pre .given (v .before .enum-told .given .1)
 
   around : WholeAround (s .args .b .now) (s .args .roots .now) (s .args .bounds .now) (s .args .arcs .now)
   around = s .pre .around (v .before .enum-told .given .1)
@@ -30,7 +30,7 @@ vertex-count-requires : tie.Need-vertex-count-requires
 vertex-count-requires c κs = search needs
 
 put-walk-requires : tie.Need-put-walk-requires
-put-walk-requires c κs = let v = c .before in walk-asked (ready v) (around v) (n-is v) (s v .pre .room)
+put-walk-requires c κs = let v = c .before in walk-asked (given v) (around v) (n-is v) (s v .pre .room)
 
 enum-told-2 : tie.Need-enum-told-2
 enum-told-2 c = search needs
@@ -42,7 +42,7 @@ returns : tie.Need-returns
 returns c =
     let p = c .before .before in
     let v = p .before .before in
-    record { fits = walk-fits (p .put-walk .ensures); walked = λ _. walk-written (ready v) (around v) (n-is v) (p .put-walk .ensures) }
+    record { fits = walk-fits (p .put-walk .ensures); walked = λ _. walk-written (given v) (around v) (n-is v) (p .put-walk .ensures) }
 
 returns-2 : tie.Need-returns-2
 returns-2 c = record { fits = omega arith; walked = λ q. absurd (one-kind q (c .enum-told2 .given .1)) }
