@@ -117,3 +117,19 @@ pub mod Zeros
 pub mod AnyOn
 -- every element up to the last bound stands in a segment
 pub mod SegmentOf
+-- the first element of a list
+pub mod FirstElement
+-- a segment as code takes it
+pub mod SegmentTaken
+-- room for the next part of a list that is put part by part
+pub mod RoomLeft
+-- elements and parts of an array that a list was put into
+pub mod PutPlaces
+-- values stored one after the other
+pub mod SetUpTo
+-- a test as a number
+pub mod OneOrZero
+-- tests that say yes in the same cases
+pub mod SameYes
+-- a sum over what is left of a list
+pub mod SumLeft

@@ -52,6 +52,10 @@ pub record Choices : Type 0 where
   pub paths : List (List ℕ)
   pub marks : List ℕ
 
+-- Nothing is chosen: where there is nothing to choose.
+abbrev pub noChoices : Choices
+noChoices = record { assignment = []; paths = []; marks = [] }
+
 -- What holds of each choice. Where an assignment exists, the first is one, and the path of part i is a shortest path to it from its root;
 -- where none exists, the marks are of a set with fewer allowed roots than parts.
 pub record GoodChoices (g : Graph) (roots : List ℕ) (limit : ℕ) (c : Choices) : Type 0 where
