@@ -26,7 +26,7 @@ pub chosen-readable : (bounds edges chosen : List ℕ) (j : ℕ) {r : ℕ} → A
 chosen-readable bounds edges chosen j held h read =
     record {
       held = subst (λ c. IsHeld bounds edges c) (sym (read .is)) (held (getD chosen j 0) (at-place 0 chosen j h));
-      small = read .small;
+      small = omega (arith, read .small);
     }
 
 -- The tree numbers, tree by tree, and how many there are.

@@ -1,43 +1,23 @@
 -- Where entries rise by tree, the entries of each tree are one run, and the next tree's begin where it ends.
 -- Assumes nothing.
-use Prim.Native.Nat.{ℕ, zero, suc, _+_, _-_, _≤_, _<_}
-use mathlib.Core.Path.{_≡_, refl, ap, _∙_}
-use mathlib.Core.Bool.{Bool, true, _&&_}
+use Prim.Native.Nat.{ℕ, suc, _+_, _-_, _≤_, _<_}
+use mathlib.Core.Path.{_≡_, ap, _∙_}
+use mathlib.Core.Bool.{Bool, true}
 use mathlib.Core.List.{List, [], _∷_, _++_, map, append-nil, map-append}
-use mathlib.Core.Logic.{_⊎_, inl, inr}
 use native.Mathlib.Decide.{decLt}
 use native.Mathlib.Numerals.{add-one}
 use native.Mathlib.Omega.{arith}
-use lib.Dec.{eqb, ltb}
-use borrow.Author.Tests.{ltb-true, eqb-true, eq-eqb, ne-eqb}
+use lib.Dec.{eqb}
+use borrow.Author.Tests.{eq-eqb, ne-eqb}
 use Rattle.lists.specs.Count as Count
 use Rattle.lists.specs.Lists.{filter}
-use Rattle.lists.specs.Member.{_∈_}
-use Rattle.lists.proofs.Below.{of-from, in-below}
-use Rattle.lists.proofs.Every.{first-true, second-true, one-true, all-each}
-use Rattle.lists.proofs.Filters.{filter-none, filter-append}
-use Rattle.rules.specs.CoverBytes.{treesIn, entriesIn, startIn, entryTree, entryEdge, treeIn}
-use Rattle.rules.specs.CheckCover.{entryRises, entryRight, entriesRight}
+use Rattle.lists.proofs.Below.{of-from}
+use Rattle.lists.proofs.Filters.{filter-none, filter-append, filter-all}
+use Rattle.lists.proofs.Numbered.{from-append}
+use Rattle.rules.specs.CoverBytes.{entriesIn, startIn, entryTree, entryEdge, treeIn}
+use Rattle.rules.specs.CheckCover.{entriesRight}
+use Rattle.cover_laws.proofs.EntryTest.{passed-order}
 use Rattle.cover.specs.Runs.{runEdges, RunOf, BeginsAt}
-
--- A run of numbers, cut in two.
-pub from-split : (a m n : ℕ) → Count.from a (m + n) ≡ Count.from a m ++ Count.from (a + m) n
-unfolding Count.from
-from-split a zero n =
-    let m : 0 + n ≡ n = omega arith in
-    let k : a ≡ a + 0 = omega arith in
-    ap (Count.from a) m ∙ ap (λ i. Count.from i n) k
-from-split a (suc m) n =
-    let l : suc m + n ≡ suc (m + n) = omega arith in
-    let k : suc a + m ≡ a + suc m = omega arith in
-    ap (Count.from a) l ∙ ap (λ t. a ∷ t) (from-split (suc a) m n) ∙ ap (λ i. a ∷ (Count.from (suc a) m ++ Count.from i n)) k
-
--- A filter that every element passes keeps all.
-filter-all : {A : Type 0} (f : A → Bool) (xs : List A) → ((x : A) → x ∈ xs → f x ≡ true) → filter f xs ≡ xs
-unfolding filter
-filter-all f [] h = refl
-filter-all f (x ∷ xs) h =
-    rw (h x (mathlib.Core.List.List·Memᴰ·head refl)) (ap (λ l. x ∷ l) (filter-all f xs (λ y m. h y (mathlib.Core.List.List·Memᴰ·tail m))))
 
 module _ (c : List ℕ) where
   -- The edges of tree j are those of its run.
@@ -52,9 +32,9 @@ module _ (c : List ℕ) where
         let middle : 0 + at ≡ at = omega arith in
         let end : at + (to - at) ≡ to = omega (arith, r .run .forward) in
         ap (Count.from 0) whole
-        ∙ from-split 0 at ((to - at) + (entriesIn c - to))
+        ∙ from-append 0 at ((to - at) + (entriesIn c - to))
         ∙ ap (λ k. Count.from 0 at ++ Count.from k ((to - at) + (entriesIn c - to))) middle
-        ∙ ap (λ l. Count.from 0 at ++ l) (from-split at (to - at) (entriesIn c - to))
+        ∙ ap (λ l. Count.from 0 at ++ l) (from-append at (to - at) (entriesIn c - to))
         ∙ ap (λ k. Count.from 0 at ++ (Count.from at (to - at) ++ Count.from k (entriesIn c - to))) end
 
     run-filter : filter mine (Count.below (entriesIn c)) ≡ Count.from at (to - at)
@@ -75,40 +55,8 @@ module _ (c : List ℕ) where
     unfolding treeIn
     run-tree = ap (λ l. record { start = startIn c j; edges = map (entryEdge c) l }) run-filter
 
-  -- Entries that pass the test (33) name trees, and no lower tree than the entry before them.
+  -- Entries that pass the test (33) name no lower tree than those before them.
   module _ (m : ℕ) (passed : entriesRight m c ≡ true) where
-    entry-passed : (i : ℕ) → i < entriesIn c → entryRight m c i ≡ true
-    unfolding entriesRight
-    entry-passed i h = all-each (entryRight m c) (Count.below (entriesIn c)) passed (in-below (entriesIn c) h)
-
-    pub tree-named : (i : ℕ) → i < entriesIn c → entryTree c i < treesIn c
-    unfolding entryRight
-    tree-named i h = ltb-true (entryTree c i) (treesIn c) (first-true _ _ (entry-passed i h))
-
-    rises : (i : ℕ) → i < entriesIn c → entryRises c i ≡ true
-    unfolding entryRight
-    rises i h = second-true (ltb (entryEdge c i) m) _ (second-true (ltb (entryTree c i) (treesIn c)) _ (entry-passed i h))
-
-    no-lower : (i : ℕ) → suc i < entriesIn c → entryTree c i ≤ entryTree c (suc i)
-    unfolding entryRises
-    no-lower i h =
-        let back : suc i - 1 ≡ i = omega arith in
-        let t = rw (ne-eqb (suc i) 0 (omega arith), back) at (rises (suc i) h) in
-        go (one-true (ltb (entryTree c i) (entryTree c (suc i))) _ t)
-      where
-        go : (ltb (entryTree c i) (entryTree c (suc i)) ≡ true)
-            ⊎ ((eqb (entryTree c i) (entryTree c (suc i)) && ltb (entryEdge c i) (entryEdge c (suc i))) ≡ true) → entryTree c i ≤ entryTree c (suc i)
-        go (inl p) = omega (arith, ltb-true (entryTree c i) (entryTree c (suc i)) p)
-        go (inr p) = omega (arith, eqb-true (entryTree c i) (entryTree c (suc i)) (first-true _ _ p))
-
-    no-lower-after : (i k : ℕ) → i + k < entriesIn c → entryTree c i ≤ entryTree c (i + k)
-    no-lower-after i zero h =
-        let same : i + 0 ≡ i = omega arith in
-        rw same (omega arith)
-    no-lower-after i (suc k) h =
-        let next : i + suc k ≡ suc (i + k) = omega arith in
-        rw next (omega (arith, no-lower-after i k (omega arith), no-lower (i + k) (omega arith)))
-
     -- The entries of tree 0 begin at the first.
     pub begins-first : BeginsAt c 0 0
     begins-first = record { inside = omega arith; lower = λ i h. absurd (omega arith); higher = λ i h k. omega arith }
@@ -116,9 +64,7 @@ module _ (c : List ℕ) where
     module _ {j at to : ℕ} (b : BeginsAt c j at) (r : RunOf c j at to) where
       pub higher-after : (i : ℕ) → to ≤ i → i < entriesIn c → j < entryTree c i
       higher-after i h k =
-          let there : to + (i - to) ≡ i = omega arith in
-          let up = rw there at (no-lower-after to (i - to) (rw there k)) in
-          omega (arith, up, r .ends (omega arith), b .higher to (r .run .forward) (omega arith))
+          omega (arith, passed-order m c passed to i h k, r .ends (omega arith), b .higher to (r .run .forward) (omega arith))
 
       -- The next tree's entries begin where a run ends.
       pub begins-next : BeginsAt c (j + 1) to
@@ -159,6 +105,6 @@ module _ (c : List ℕ) where
       let more : i + 1 - from ≡ (i - from) + 1 = omega arith in
       let there : from + (i - from) ≡ i = omega arith in
       ap (λ n. map (entryEdge c) (Count.from from n)) more
-      ∙ ap (map (entryEdge c)) (from-split from (i - from) 1)
+      ∙ ap (map (entryEdge c)) (from-append from (i - from) 1)
       ∙ map-append (entryEdge c) (Count.from from (i - from)) (Count.from (from + (i - from)) 1)
       ∙ ap (λ k. runEdges c from i ++ (entryEdge c k ∷ [])) there

@@ -37,12 +37,12 @@ pub record IsHeld (bounds edges : List ℕ) (c : ℕ) : Type 0 where
   pub forward : getD bounds c 0 ≤ getD bounds (c + 1) 0
   pub inside : getD bounds (c + 1) 0 ≤ length edges
 
--- The same of a number that an index array can hold.
+-- The same of a number that has a next one.
 pub record Readable (bounds edges : List ℕ) (c : ℕ) : Type 0 where
   pub held : IsHeld bounds edges c
-  pub small : c < 2 ^ 16
+  pub small : c + 1 < 2 ^ 64
 
--- r are its edges, no more than such a number can count.
+-- r are its edges, no more than a bound can count.
 pub record EdgesOf (bounds edges : List ℕ) (c : ℕ) (r : List ℕ) : Type 0 where
   pub is : r ≡ segment bounds edges c
   pub few : length r < 2 ^ 16

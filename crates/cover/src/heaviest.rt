@@ -55,7 +55,7 @@ pub fn heaviest_tree(b: &[u8], c: &[u8]) -> u64
 }
 
 // The weight of the edges of a list.
-fn edges_weight(b: &[u8], edges: &[u16]) -> u64
+pub fn edges_weight(b: &[u8], edges: &[u16]) -> u64
     requires { ⌜ length (now edges) < 2 ^ 16 ⌝ }
     ensures { λ r. ⌜ r ≡ totalWeight (graphOf (now (b .entry))) (now (edges .entry)) ⌝ }
 {

@@ -28,7 +28,7 @@ pub(crate) fn size_at(bounds: &[u16], c: usize) -> usize
 }
 
 // The edges of tree c.
-pub(crate) fn edges_at<'a>(bounds: &[u16], edges: &'a [u16], c: usize) -> &'a [u16]
+pub fn edges_at<'a>(bounds: &[u16], edges: &'a [u16], c: usize) -> &'a [u16]
     requires { ⌜ Readable (now bounds) (now edges) c ⌝ }
     ensures { λ r. ⌜ EdgesOf (now (bounds .entry)) (now (edges .entry)) c (now r) ⌝ }
 {

@@ -2,7 +2,7 @@
 // The words of the contracts stand in specs/ and in the definitions of `rules`.
 pub mod crews;
 pub mod heaviest;
-mod index;
+pub mod index;
 pub mod read;
 pub mod runs;
 pub mod write;

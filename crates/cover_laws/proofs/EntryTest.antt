@@ -123,27 +123,52 @@ module _ (m : ℕ) (b : List ℕ) where
   unfolding entryRight Asked
   asked-right i h = both-true (lt-ltb _ _ (h .0)) (both-true (lt-ltb _ _ (h .1)) (h .2))
 
-  -- Entries that pass the test rise, and name trees and edges that there are.
-  pub passed-named : entriesRight m b ≡ true → Named m b
-  unfolding entriesRight entriesRead entryIn below Asked
-  passed-named t =
-      record {
-        ordered =
-            record {
-              rises = rises-run (entryIn b) 0 (entriesIn b) (λ k l h. rises k (passes (suc k) (omega arith) .2));
-              trees = λ x k. let r = read x k in subst (λ y. y < treesIn b) (sym (ap (λ (y : Entry). y .tree) (r .2))) (passes (r .0) (r .1) .0);
-            };
-        edges = λ x k. let r = read x k in subst (λ y. y < m) (sym (ap (λ (y : Entry). y .edge) (r .2))) (passes (r .0) (r .1) .1);
-      }
-    where
-      passes : (i : ℕ) → i < entriesIn b → Asked i
-      passes i l = right-asked i (each-below (entryRight m b) (entriesIn b) t i l)
+  module _ (t : entriesRight m b ≡ true) where
+    -- What each entry of those that pass is asked holds of it,
+    passes : (i : ℕ) → i < entriesIn b → Asked i
+    unfolding entriesRight
+    passes i l = right-asked i (each-below (entryRight m b) (entriesIn b) t i l)
 
-      rises : (k : ℕ) → entryRises b (suc k) ≡ true → Before (entryIn b k) (entryIn b (suc k))
-      rises k r = comes-before (entryIn b k) (entryIn b (suc k)) (sym (rises-comes b k) ∙ r)
+    rises : (k : ℕ) → suc k < entriesIn b → Before (entryIn b k) (entryIn b (suc k))
+    unfolding Asked
+    rises k l = comes-before (entryIn b k) (entryIn b (suc k)) (sym (rises-comes b k) ∙ passes (suc k) l .2)
 
-      read : (x : Entry) → x ∈ map (entryIn b) (below (entriesIn b)) → (i : ℕ) × (i < entriesIn b) × (x ≡ entryIn b i)
-      read x k = let r = of-map (entryIn b) (below (entriesIn b)) k in (r .0, of-below (entriesIn b) (r .1), r .2)
+    -- so each names a tree that there is,
+    pub passed-tree : (i : ℕ) → i < entriesIn b → entryTree b i < treesIn b
+    unfolding Asked
+    passed-tree i l = passes i l .0
+
+    -- and no lower tree than those before it.
+    pub passed-order : (i k : ℕ) → i ≤ k → k < entriesIn b → entryTree b i ≤ entryTree b k
+    unfolding entryIn
+    passed-order i k h l = go (ℕ-discrete i k)
+      where
+        no-lower : (x y : Entry) → Before x y → x .tree ≤ y .tree
+        no-lower x y (inl p) = omega arith
+        no-lower x y (inr p) = omega (arith, p .0)
+
+        go : Dec (i ≡ k) → entryTree b i ≤ entryTree b k
+        go (yes e) = omega (arith, ap (entryTree b) e)
+        go (no e) =
+            let there : suc (i + (k - suc i)) ≡ k = omega arith in
+            subst (λ j. entryTree b i ≤ entryTree b j) there
+            (no-lower (entryIn b i) (entryIn b (suc (i + (k - suc i)))) (before-later (entryIn b) i (k - suc i) (λ j p q. rises j (omega arith))))
+
+    -- Entries that pass the test rise, and name trees and edges that there are.
+    pub passed-named : Named m b
+    unfolding entriesRead entryIn below Asked
+    passed-named =
+        record {
+          ordered =
+              record {
+                rises = rises-run (entryIn b) 0 (entriesIn b) (λ k l h. rises k (omega arith));
+                trees = λ x k. let r = read x k in subst (λ y. y < treesIn b) (sym (ap (λ (y : Entry). y .tree) (r .2))) (passes (r .0) (r .1) .0);
+              };
+          edges = λ x k. let r = read x k in subst (λ y. y < m) (sym (ap (λ (y : Entry). y .edge) (r .2))) (passes (r .0) (r .1) .1);
+        }
+      where
+        read : (x : Entry) → x ∈ map (entryIn b) (below (entriesIn b)) → (i : ℕ) × (i < entriesIn b) × (x ≡ entryIn b i)
+        read x k = let r = of-map (entryIn b) (below (entriesIn b)) k in (r .0, of-below (entriesIn b) (r .1), r .2)
 
   -- Entries that rise and name trees and edges that there are pass the test.
   pub named-passes : Named m b → entriesRight m b ≡ true

@@ -1,12 +1,12 @@
 -- Marks of the vertices, set one after the other: the starts of the trees, and the ends of the entries' edges.
 -- Assumes nothing.
-use Prim.Native.Nat.{ℕ, zero, suc, _+_, _≤_, _<_}
+use Prim.Native.Nat.{ℕ, _+_, _≤_, _<_}
 use mathlib.Core.Path.{_≡_, refl, sym, ap₂, subst, _∙_}
-use mathlib.Core.Bool.{Bool, true, false}
+use mathlib.Core.Bool.{Bool, true}
 use mathlib.Core.List.{List}
 use mathlib.Core.Logic.{_⊎_, inl, inr, _↔_}
 use native.Mathlib.Omega.{arith}
-use lib.ListN.{length, set, length-set, replicate}
+use lib.ListN.{length, set, length-set}
 use lib.Seq.{getD-set-same, getD-set-other}
 use lib.Dec.{eqb}
 use borrow.Author.Count.{below-none, below-more}
@@ -16,13 +16,14 @@ use Rattle.lists.specs.Lists.{filter}
 use Rattle.lists.specs.Member.{_∈_}
 use Rattle.lists.proofs.Below.{equal-or-not, of-below, in-below}
 use Rattle.lists.proofs.Member.{in-filter, of-filter, in-map, of-map}
+use Rattle.lists.proofs.SameYes.{same-test}
 use Rattle.graph.specs.Graph.{Graph, oneEnd, otherEnd}
 use Rattle.rules.specs.Cover.{Covers, at-start, at-one-end, at-other-end}
 use Rattle.rules.specs.CoverBytes.{treesIn, entriesIn, startIn, entryTree, entryEdge, treeIn, decode}
 use Rattle.rules.specs.CheckCover.{verticesCovered}
 use Rattle.forest.specs.Marks.{AllMarked}
-use Rattle.cover_laws.proofs.VertexTest.{passed-covered, covered-passes}
-use Rattle.filed_entries.specs.Vertices.{VertexMarked, Covered, OnlyCovered, StartsMarked, EndsMarked}
+use Rattle.cover_laws.proofs.VertexTest.{HasTree, passed-covered, covered-passes}
+use Rattle.filed_entries.specs.Vertices.{VertexMarked, OnlyCovered, StartsMarked, EndsMarked}
 
 -- One mark more.
 module _ (marks : List ℕ) (x : ℕ) where
@@ -46,16 +47,16 @@ module _ (marks : List ℕ) (x : ℕ) where
         go (inl q) = rw q mark-here
         go (inr d) = getD-set-other marks x v 1 0 d ∙ p
 
-  only-more : (g : Graph) (c : List ℕ) → Covered g c x → OnlyCovered g c marks → OnlyCovered g c (set marks x 1)
+  only-more : (g : Graph) (c : List ℕ) → HasTree g (decode c) x → OnlyCovered g c marks → OnlyCovered g c (set marks x 1)
   only-more g c new only v p = go (mark-of v p)
     where
-      go : (v ≡ x) ⊎ VertexMarked marks v → Covered g c v
+      go : (v ≡ x) ⊎ VertexMarked marks v → HasTree g (decode c) v
       go (inl q) = rw q new
       go (inr old) = only v old
 
 module _ (g : Graph) (c : List ℕ) where
   -- A tree covers its start.
-  start-covered : (j : ℕ) → j < treesIn c → Covered g c (startIn c j)
+  start-covered : (j : ℕ) → j < treesIn c → HasTree g (decode c) (startIn c j)
   unfolding decode treeIn
   start-covered j h = (treeIn c j, in-map (treeIn c) (in-below (treesIn c) h), at-start refl)
 
@@ -67,12 +68,12 @@ module _ (g : Graph) (c : List ℕ) where
 
   -- So it covers that edge's ends.
   module _ (i : ℕ) (h : i < entriesIn c) (named : entryTree c i < treesIn c) where
-    one-end-covered : Covered g c (oneEnd g (entryEdge c i))
+    one-end-covered : HasTree g (decode c) (oneEnd g (entryEdge c i))
     unfolding decode
     one-end-covered =
         (treeIn c (entryTree c i), in-map (treeIn c) (in-below (treesIn c) named), at-one-end (entryEdge c i) (entry-in-tree i h) refl)
 
-    other-end-covered : Covered g c (otherEnd g (entryEdge c i))
+    other-end-covered : HasTree g (decode c) (otherEnd g (entryEdge c i))
     unfolding decode
     other-end-covered =
         (treeIn c (entryTree c i), in-map (treeIn c) (in-below (treesIn c) named), at-other-end (entryEdge c i) (entry-in-tree i h) refl)
@@ -147,23 +148,11 @@ module _ (g : Graph) (c marks : List ℕ) (starts : (j : ℕ) → j < treesIn c 
   tree-marked v j h (at-one-end e m q) = let (i, l, p) = entry-of j e m in rw (q, p) (ends i l .0)
   tree-marked v j h (at-other-end e m q) = let (i, l, p) = entry-of j e m in rw (q, p) (ends i l .1)
 
-  pub covered-marked : (v : ℕ) → Covered g c v → VertexMarked marks v
+  pub covered-marked : (v : ℕ) → HasTree g (decode c) v → VertexMarked marks v
   unfolding decode
   covered-marked v (t, m, covers) =
       let r = of-map (treeIn c) (below (treesIn c)) m in
       tree-marked v (r .0) (of-below (treesIn c) (r .1)) (rw (r .2) at covers)
-
--- No vertex is marked.
-pub none-marked : (n v : ℕ) → VertexMarked (replicate n 0) v → ⊥
-none-marked zero v q = omega arith
-none-marked (suc n) zero q = omega arith
-none-marked (suc n) (suc v) q = none-marked n v q
-
--- Two tests that say yes in the same cases are the same.
-same-test : (r s : Bool) → (r ≡ true → s ≡ true) → (s ≡ true → r ≡ true) → r ≡ s
-same-test true s to back = sym (to refl)
-same-test false true to back = back refl
-same-test false false to back = refl
 
 -- Starts and ends were marked where nothing was: all vertices are marked exactly where all are covered.
 pub all-marked-covered : (g : Graph) (c m₀ m₁ m₂ : List ℕ) → ((v : ℕ) → VertexMarked m₀ v → ⊥) → StartsMarked c (treesIn c) m₀ m₁ → EndsMarked g c (entriesIn c) m₁ m₂

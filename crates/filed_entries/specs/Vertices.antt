@@ -13,13 +13,9 @@ use Rattle.rules.specs.CoverBytes.{treesIn, entriesIn, startIn, entryTree, entr
 abbrev pub VertexMarked : List ℕ → ℕ → Type 0
 VertexMarked marks v = getD marks v 0 ≡ 1
 
--- Some tree of the cover covers the vertex.
-abbrev pub Covered : Graph → List ℕ → ℕ → Type 0
-Covered g c v = (t : Tree) × (t ∈ decode c) × Covers g t v
-
--- Every marked vertex is covered.
+-- Some tree of the cover covers each marked vertex.
 abbrev pub OnlyCovered : Graph → List ℕ → List ℕ → Type 0
-OnlyCovered g c marks = (v : ℕ) → VertexMarked marks v → Covered g c v
+OnlyCovered g c marks = (v : ℕ) → VertexMarked marks v → (t : Tree) × (t ∈ decode c) × Covers g t v
 
 -- The starts of the first n trees were marked, and nothing but vertices that are covered.
 pub record StartsMarked (c : List ℕ) (n : ℕ) (before after : List ℕ) : Type 0 where

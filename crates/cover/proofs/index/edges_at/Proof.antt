@@ -1,11 +1,9 @@
 -- `cover::index::edges_at` meets its contract: what stands between the two bounds is the tree's segment. Assumes nothing.
 use Prim.Native.Nat.{ℕ, _+_, _-_, _^_}
-use mathlib.Core.Path.{sym}
 use mathlib.Core.List.{List}
 use native.Mathlib.Omega.{arith}
 use lib.ListN.{getD, take, drop, length-take}
-use Rattle.lists.specs.Segments.{segment}
-use Rattle.lists.proofs.SegmentSizes.{slice-taken}
+use Rattle.lists.proofs.SegmentTaken.{segment-taken}
 use Rattle.graph.specs.Bytes.{Reads}
 use Rattle.cover.specs.Chosen.{Readable, EdgesOf}
 use borrow.Author.Needs.{needs}
@@ -16,10 +14,9 @@ use Rattle.cover.proofs.index.edges_at.Tie as tie
 module _ {bounds edges : List ℕ} {c from to : ℕ} (h : Readable bounds edges c) (p : Reads (getD bounds c 0) (2 ^ 16) from)
     (q : Reads (getD bounds (c + 1) 0) (2 ^ 16) to) where
   between : EdgesOf bounds edges c (take (to - from) (drop from edges))
-  unfolding segment
   between =
       record {
-        is = rw (p .is, q .is) (sym (slice-taken (getD bounds c 0) (getD bounds (c + 1) 0) edges (h .held .forward) (h .held .inside)));
+        is = segment-taken bounds edges c (p .is) (q .is) (h .held .forward) (h .held .inside);
         few = simp length-take (omega (arith, q .small));
       }
 

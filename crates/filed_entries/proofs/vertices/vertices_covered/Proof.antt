@@ -4,8 +4,9 @@ use lib.ListN.{replicate}
 use Rattle.graph.specs.Graph.{Graph, edgeCount}
 use Rattle.graph.specs.Bytes.{graphOf}
 use Rattle.filed_entries.proofs.StartTests.{start-passed}
-use Rattle.cover.proofs.TreeRuns.{tree-named}
-use Rattle.filed_entries.proofs.Marking.{none-marked, all-marked-covered}
+use Rattle.lists.proofs.Zeros.{zeros-at}
+use Rattle.cover_laws.proofs.EntryTest.{passed-tree}
+use Rattle.filed_entries.proofs.Marking.{all-marked-covered}
 use borrow.Author.Needs.{needs}
 use Rattle.filed_entries.proofs.vertices.vertices_covered.Statement.{statement}
 use Rattle.filed_entries.proofs.vertices.vertices_covered.Tie as tie
@@ -42,8 +43,8 @@ returns c =
     let ends = c .before .before .before .before in
     let starts = ends .before .before .before in
     let s = starts .before .before .before .before in
-    all-marked-covered (g s) (s .args .c .now) (replicate 256 0) _ _ (none-marked 256) (starts .mark-starts .ensures) (ends .mark-ends .ensures)
-    (tree-named (s .args .c .now) (edgeCount (g s)) (s .pre .entries)) (c .all-marked .result) (rw (c .before .vertex-count .ensures .is) at (c .all-marked .ensures))
+    all-marked-covered (g s) (s .args .c .now) (replicate 256 0) _ _ (λ v q. omega (arith, q, zeros-at 256 v)) (starts .mark-starts .ensures) (ends .mark-ends .ensures)
+    (passed-tree (edgeCount (g s)) (s .args .c .now) (s .pre .entries)) (c .all-marked .result) (rw (c .before .vertex-count .ensures .is) at (c .all-marked .ensures))
 
 pub vertices-covered-spec : {M : Type 1} → statement M
 vertices-covered-spec =
