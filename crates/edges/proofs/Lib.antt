@@ -1,7 +1,9 @@
 -- Laws that belong to no one function, in reading order.
 -- the edges within a limit
 pub mod WithinLimit
--- edges marked, and taken by rising number
+-- edges marked one after the other
+pub mod EdgeMarks
+-- the marked edges, taken by rising number
 pub mod SweptEdges
 -- what an arc holds is read from it again
 pub mod Arcs

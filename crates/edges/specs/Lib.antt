@@ -1,6 +1,8 @@
 -- What the contracts of `edges` say, in reading order.
 -- edges within a limit
 pub mod Light
+-- marks set where a test holds
+pub mod Marked
 -- edges by rising number
 pub mod Sweep
 -- the edges around each vertex

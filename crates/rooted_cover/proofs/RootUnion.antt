@@ -13,7 +13,7 @@ use Rattle.lists.proofs.AnyOn.{any-on}
 use Rattle.lists.proofs.Zeros.{zeros-at}
 use Rattle.graph.specs.Graph.{Graph, edgeCount}
 use Rattle.graph.specs.Valid.{Valid}
-use Rattle.unions.specs.Marked.{Marked}
+use Rattle.edges.specs.Marked.{Marked}
 use Rattle.rooted_cover.specs.Tree.{AssignedMarked, TreeKept, RootWritten}
 use Rattle.unions.proofs.TreeMarks.{marked-both}
 use Rattle.unions.proofs.UnionEdges.{union-edges}

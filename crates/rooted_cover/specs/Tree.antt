@@ -20,7 +20,7 @@ use Rattle.rules.specs.RootedTrial.{unionTree}
 use Rattle.distance.specs.Trail.{trailOf, CanGoBack}
 use Rattle.cover.specs.Chosen.{IsHeld, AllHeld}
 use Rattle.pieces.specs.Pieces.{treeOf}
-use Rattle.unions.specs.Marked.{Marked}
+use Rattle.edges.specs.Marked.{Marked}
 use Rattle.distance_table.specs.Nearest.{NearestGiven, Nearest}
 
 -- r is the first place below the bound where j stands, or the bound where it stands at none.

@@ -3,18 +3,18 @@
 use distance::path_back;
 use distance_table::nearest::nearest_vertex;
 use edges::index::wide;
+use edges::sweep::mark_edges;
 use order::order::rise_edges;
 use pieces::pieces::element_at;
 use pieces::pieces::piece_edges;
 use unions::union::keep_union;
-use unions::union::mark_edges;
 ghost use Prim.Native.Nat.{_≤_};
 ghost use lib.ListN.{length};
 ghost use Rattle.lists.specs.Lists.{member};
 ghost use Rattle.lists.specs.Segments.{segment};
 ghost use Rattle.graph.specs.Bytes.{graphOf};
 ghost use Rattle.distance.specs.Trail.{trailOf};
-ghost use Rattle.unions.specs.Marked.{Marked};
+ghost use Rattle.edges.specs.Marked.{Marked};
 ghost use Rattle.rooted_cover.specs.Tree.{FirstWith, PieceGiven, BackGiven, TreeAsked, TreeKept, ReachGiven, ReachMarked, AssignedGiven, AssignedMarked, RootGiven, RootWritten};
 
 // The first place below a bound where the byte stands; the bound where there is none.

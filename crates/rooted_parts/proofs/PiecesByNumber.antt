@@ -32,7 +32,7 @@ use Rattle.split.proofs.ByNumber as numbered
 use Rattle.cover.specs.Chosen.{IsHeld}
 use Rattle.planner_laws.proofs.RootedPrepared.{pieces-of-whole}
 use Rattle.planner_laws.proofs.RootedSize.{rooted-parts-few}
-use Rattle.unions.specs.Places.{between}
+use Rattle.unions.specs.Places.{placesBetween}
 use Rattle.rooted_state.specs.Placed.{arraysOf, PiecesPlaced}
 use Rattle.rooted_parts.specs.Parts.{PiecesAsked}
 use Rattle.unions.proofs.PartsBetween.{between-lefts}
@@ -115,8 +115,8 @@ module _ {b roots : List ℕ} {limit : ℕ} {bounds arcs starts cuts flat lefts 
   lefts-taken : take (length roots) lefts′ ≡ leftPlaces 0 pieces
   lefts-taken = put-taken (splits .lefts)
 
-  places-are : between 0 (take (length roots) lefts′) ≡ partPlaces 0 pieces
-  places-are = ap (between 0) lefts-taken ∙ between-lefts pieces 0
+  places-are : placesBetween 0 (take (length roots) lefts′) ≡ partPlaces 0 pieces
+  places-are = ap (placesBetween 0) lefts-taken ∙ between-lefts pieces 0
 
   many : length (partPlaces 0 pieces) ≡ length (rootedParts g roots limit)
   unfolding treesAt
@@ -126,10 +126,10 @@ module _ {b roots : List ℕ} {limit : ℕ} {bounds arcs starts cuts flat lefts 
       ∙ ap length (numbered.parts-are splits)
       ∙ ap length (sym parts-all)
 
-  pub places-fit : length (between 0 (take (length roots) lefts′)) ≤ length places
+  pub places-fit : length (placesBetween 0 (take (length roots) lefts′)) ≤ length places
   places-fit = omega (arith, ap length places-are, many, rooted-parts-few g roots limit valid, asked .places-room)
 
-  module _ {places′ : List ℕ} {p : ℕ} (put : PutTo 0 (between 0 (take (length roots) lefts′)) places places′ p) where
+  module _ {places′ : List ℕ} {p : ℕ} (put : PutTo 0 (placesBetween 0 (take (length roots) lefts′)) places places′ p) where
     taken : take p places′ ≡ partPlaces 0 pieces
     taken = put-taken put ∙ places-are
 

@@ -1,6 +1,4 @@
 -- Laws that belong to no one function, in reading order.
--- edges marked one after the other
-pub mod EdgeMarks
 -- marked edges kept one by one
 pub mod MarkedKept
 -- the edges kept of a union are its tree's

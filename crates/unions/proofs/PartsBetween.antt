@@ -10,11 +10,11 @@ use lib.Seq.{drop-cons}
 use Rattle.lists.specs.Count.{from}
 use Rattle.rules.specs.Split.{Pieces}
 use Rattle.split.specs.Pieces.{leftPlaces, partPlaces}
-use Rattle.unions.specs.Places.{between}
+use Rattle.unions.specs.Places.{placesBetween}
 
 -- The places of the parts are the numbers between the leftovers'.
-pub between-lefts : (ps : List Pieces) (first : ℕ) → between first (leftPlaces first ps) ≡ partPlaces first ps
-unfolding between leftPlaces partPlaces
+pub between-lefts : (ps : List Pieces) (first : ℕ) → placesBetween first (leftPlaces first ps) ≡ partPlaces first ps
+unfolding placesBetween leftPlaces partPlaces
 between-lefts [] first = refl
 between-lefts (p ∷ ps) first =
     let m = length (p .parts) in
@@ -23,10 +23,10 @@ between-lefts (p ∷ ps) first =
 
 -- One leftover more, and none.
 pub between-next : (first : ℕ) (lefts : List ℕ) (j : ℕ) → j < length lefts
-    → between first (drop j lefts) ≡ from first (getD lefts j 0 - first) ++ between (getD lefts j 0 + 1) (drop (j + 1) lefts)
-unfolding between
+    → placesBetween first (drop j lefts) ≡ from first (getD lefts j 0 - first) ++ placesBetween (getD lefts j 0 + 1) (drop (j + 1) lefts)
+unfolding placesBetween
 between-next first lefts j h = rw (add-one j, drop-cons lefts j 0)
 
-pub between-none : (first : ℕ) (lefts : List ℕ) (j : ℕ) → length lefts ≤ j → between first (drop j lefts) ≡ []
-unfolding between
+pub between-none : (first : ℕ) (lefts : List ℕ) (j : ℕ) → length lefts ≤ j → placesBetween first (drop j lefts) ≡ []
+unfolding placesBetween
 between-none first lefts j h = rw (drop-of-length-le lefts h)

@@ -11,8 +11,7 @@ use Rattle.lists.specs.Lists.{member}
 use Rattle.lists.specs.Member.{_∈_}
 use Rattle.lists.proofs.AnyOn.{any-on}
 use Rattle.lists.proofs.Places.{at-place}
-use Rattle.unions.specs.Marked.{Marked}
-use Rattle.unions.specs.Union.{EachBelow}
+use Rattle.edges.specs.Marked.{EachBelow, Marked}
 
 pub each-below : {n : ℕ} {xs ys : List ℕ} → xs ≡ ys → ((e : ℕ) → e ∈ ys → e < n) → EachBelow n xs
 each-below {n} {xs} {ys} q f = rw q (record { each = λ i h. f _ (at-place 0 ys i h) })

@@ -1,30 +1,22 @@
 -- Where edges are marked as they are in a union, those kept of the marked edges are the edges of the union's tree (document 01, step 6).
 -- Assumes nothing.
 use Prim.Native.Nat.{ℕ, _<_}
-use mathlib.Core.Path.{_≡_, refl, ap, _∙_}
-use mathlib.Core.Bool.{Bool, true, false, cond}
-use mathlib.Core.List.{List, []}
+use mathlib.Core.Path.{_≡_, ap, _∙_}
+use mathlib.Core.Bool.{cond}
+use mathlib.Core.List.{List}
 use lib.ListN.{getD}
 use lib.Dec.{eqb}
-use Rattle.lists.specs.Lists.{filter, any, member}
+use Rattle.lists.specs.Lists.{filter, member}
 use Rattle.lists.specs.Sort.{rise}
+use Rattle.lists.proofs.OneOrZero.{bit-says}
 use Rattle.lists.proofs.SameTests.{filter-same}
 use Rattle.graph.specs.Graph.{Graph, edgeCount}
 use Rattle.matching.specs.Assignment.{marked}
 use Rattle.rules.specs.Order.{ordered}
-use Rattle.rules.specs.Labels.{apart, together}
+use Rattle.rules.specs.Labels.{apart}
 use Rattle.rules.specs.Forest.{keep}
 use Rattle.rules.specs.RootedTrial.{unionTree}
 use Rattle.forest_laws.proofs.Ordering.{of-ordered}
-
--- Where no vertices are joined from the start, each is its own label.
-pub none-together : (v : ℕ) → together [] v ≡ apart v
-unfolding together member any apart
-none-together v = refl
-
-mark-says : (t : Bool) → eqb (cond t 1 0) 1 ≡ t
-mark-says true = refl
-mark-says false = refl
 
 module _ (g : Graph) (root : ℕ) (union marks : List ℕ) where
   pub union-edges : ((e : ℕ) → e < edgeCount g → getD marks e 0 ≡ cond (member e union) 1 0)
@@ -33,7 +25,7 @@ module _ (g : Graph) (root : ℕ) (union marks : List ℕ) where
   union-edges q =
       ap (λ l. rise (keep g apart l))
       (filter-same (marked marks) (λ e. member e union) (ordered g)
-      (λ e m. ap (λ x. eqb x 1) (q e (of-ordered g m)) ∙ mark-says (member e union)))
+      (λ e m. ap (λ x. eqb x 1) (q e (of-ordered g m)) ∙ bit-says (member e union)))
 
 -- A union's tree depends only on which edges are in the union.
 pub union-same : (g : Graph) (root : ℕ) (xs ys : List ℕ) → ((e : ℕ) → member e xs ≡ member e ys) → unionTree g root xs ≡ unionTree g root ys

@@ -1,8 +1,6 @@
 -- What the contracts of `unions` say, in reading order.
 -- the places of the parts among the pieces
 pub mod Places
--- marks set where a test holds
-pub mod Marked
 -- the edges of a union that are kept
 pub mod Union
 -- the parts of a deficient set

@@ -5,6 +5,6 @@ use mathlib.Core.List.{List, [], _∷_, _++_}
 use Rattle.lists.specs.Count.{from}
 
 -- The numbers from the first one on up to the last of a rising list, without those of the list.
-unfoldable pub between : ℕ → List ℕ → List ℕ
-between first [] = []
-between first (l ∷ ls) = from first (l - first) ++ between (l + 1) ls
+unfoldable pub placesBetween : ℕ → List ℕ → List ℕ
+placesBetween first [] = []
+placesBetween first (l ∷ ls) = from first (l - first) ++ placesBetween (l + 1) ls

@@ -1,8 +1,8 @@
--- The edges of a union, marked, and those of them that are kept (document 01, step 6).
+-- The marked edges of a union that are kept (document 01, step 6).
 -- Assumes nothing.
 use Prim.Native.Nat.{ℕ, _≤_, _<_}
 use mathlib.Core.List.{List}
-use lib.ListN.{length, getD}
+use lib.ListN.{length}
 use Rattle.lists.specs.Lists.{filter}
 use Rattle.lists.specs.Put.{PutTo}
 use Rattle.graph.specs.Graph.{Graph}
@@ -11,10 +11,6 @@ use Rattle.graph.specs.Valid.{IsGraph}
 use Rattle.matching.specs.Assignment.{marked}
 use Rattle.rules.specs.Labels.{apart}
 use Rattle.rules.specs.Forest.{keep}
-
--- Each number of the list is below n.
-pub record EachBelow (n : ℕ) (list : List ℕ) : Type 0 where
-  pub each : (i : ℕ) → i < length list → getD list i 0 < n
 
 -- What keeping the edges of a union asks: the bytes are a graph's, and there is room for an edge of each vertex.
 pub record UnionGiven (b out : List ℕ) : Type 0 where

@@ -5,12 +5,12 @@ use pieces::pieces::put_run;
 ghost use Prim.Native.Nat.{_≤_};
 ghost use lib.ListN.{length};
 ghost use Rattle.lists.specs.Put.{PutTo};
-ghost use Rattle.unions.specs.Places.{between};
+ghost use Rattle.unions.specs.Places.{placesBetween};
 
 // The places of all parts, rising, by the numbers of the leftovers. Says how many parts there are.
 pub fn part_places(lefts: &[u16], out: &mut [u16]) -> usize
-    requires { ⌜ length (between 0 (now lefts)) ≤ length (now out) ⌝ }
-    ensures { λ r. ⌜ PutTo 0 (between 0 (now (lefts .entry))) (now (out .entry)) (now (out .exit)) r ⌝ }
+    requires { ⌜ length (placesBetween 0 (now lefts)) ≤ length (now out) ⌝ }
+    ensures { λ r. ⌜ PutTo 0 (placesBetween 0 (now (lefts .entry))) (now (out .entry)) (now (out .exit)) r ⌝ }
 {
     let mut first = 0;
     let mut next = 0;

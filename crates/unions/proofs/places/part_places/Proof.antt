@@ -5,42 +5,40 @@ use mathlib.Core.Path.{_≡_}
 use mathlib.Core.List.{List, _++_}
 use native.Mathlib.Omega.{arith}
 use borrow.Author.Needs.{needs}
-use lib.ListN.{length, getD, drop, length-append}
+use lib.ListN.{length, getD, drop}
 use Rattle.lists.specs.Count.{from}
 use Rattle.lists.specs.Put.{PutTo}
-use Rattle.lists.proofs.PutOneByOne.{PutSoFar, so-far-none, so-far-on, so-far-all, so-far-behind}
+use Rattle.lists.proofs.PutOneByOne.{PutSoFar, so-far-none, so-far-on, so-far-all}
+use Rattle.lists.proofs.RoomLeft.{so-far-room}
 use Rattle.lists.proofs.Runs.{length-from}
 use Rattle.graph.specs.Bytes.{Reads}
 use Rattle.pieces.specs.Pieces.{RunAsked}
-use Rattle.unions.specs.Places.{between}
+use Rattle.unions.specs.Places.{placesBetween}
 use Rattle.unions.proofs.PartsBetween.{between-next, between-none}
 use Rattle.unions.proofs.places.part_places.Statement.{statement}
 use Rattle.unions.proofs.places.part_places.Tie as tie
 
 abbrev Inv-loop : tie.InvT-loop
-Inv-loop lefts out₀ first₀ next₀ j₀ out first next j = PutSoFar 0 (between 0 lefts) (between first (drop j lefts)) out₀ out next
+Inv-loop lefts out₀ first₀ next₀ j₀ out first next j = PutSoFar 0 (placesBetween 0 lefts) (placesBetween first (drop j lefts)) out₀ out next
 
 abbrev μ-loop : tie.MeasureT-loop
 μ-loop lefts out₀ first₀ next₀ j₀ out first next j = length lefts - j
 
 -- In a turn: the number of tree j's leftover was read.
-module _ (lefts : List ℕ) (first j : ℕ) {before after : List ℕ} {next left : ℕ} (v : PutSoFar 0 (between 0 lefts) (between first (drop j lefts)) before after next)
+module _ (lefts : List ℕ) (first j : ℕ) {before after : List ℕ} {next left : ℕ} (v : PutSoFar 0 (placesBetween 0 lefts) (placesBetween first (drop j lefts)) before after next)
     (h : j < length lefts) (w : Reads (getD lefts j 0) (2 ^ 16) left) where
-  rest-is : between first (drop j lefts) ≡ from first (left - first) ++ between (left + 1) (drop (j + 1) lefts)
+  rest-is : placesBetween first (drop j lefts) ≡ from first (left - first) ++ placesBetween (left + 1) (drop (j + 1) lefts)
   rest-is = rw (w .is) (between-next first lefts j h)
 
-  asked : length (between 0 lefts) ≤ length before → RunAsked first left next (length after)
+  asked : length (placesBetween 0 lefts) ≤ length before → RunAsked first left next (length after)
   asked room =
-      let many : length (between first (drop j lefts)) ≡ length (from first (left - first)) + length (between (left + 1) (drop (j + 1) lefts)) =
-      rw rest-is (length-append (from first (left - first)) (between (left + 1) (drop (j + 1) lefts)))
-      in
       record {
         small = omega (arith, w .small, w .is);
-        fits = omega (arith, so-far-behind v, v .same, many, length-from first (left - first));
+        fits = omega (arith, so-far-room v (from first (left - first)) _ rest-is (omega (arith, room)), length-from first (left - first));
       }
 
   next-tree : {now : List ℕ} {behind : ℕ} → PutTo next (from first (left - first)) after now behind
-      → PutSoFar 0 (between 0 lefts) (between (left + 1) (drop (j + 1) lefts)) before now behind
+      → PutSoFar 0 (placesBetween 0 lefts) (placesBetween (left + 1) (drop (j + 1) lefts)) before now behind
   next-tree p = so-far-on v rest-is p
 
 loop-holds : tie.Need-loop-holds Inv-loop μ-loop

@@ -1,15 +1,15 @@
 -- `unions::union::keep_union` meets its contract: all vertices are apart at the start, and the marked edges are kept one after the other.
 -- Assumes nothing.
 use Prim.Native.Nat.{ℕ}
-use mathlib.Core.Path.{_∙_}
+use mathlib.Core.Path.{ap, _∙_}
 use mathlib.Core.List.{List}
 use native.Mathlib.Omega.{arith}
 use borrow.Author.Needs.{needs}
 use Rattle.graph.specs.Graph.{Graph}
 use Rattle.graph.specs.Bytes.{graphOf}
-use Rattle.rules.specs.Labels.{apart}
+use Rattle.rules.specs.Labels.{Labels, apart}
 use Rattle.forest.specs.Arrays.{Agrees}
-use Rattle.unions.proofs.UnionEdges.{none-together}
+use Rattle.forest_laws.proofs.Roots.{together-none}
 use Rattle.unions.proofs.union.keep_union.Statement.{statement}
 use Rattle.unions.proofs.union.keep_union.Tie as tie
 
@@ -26,7 +26,7 @@ module _ (l : tie.After-start-labels) where
 
   all-apart : Agrees (g .vertices) label apart
   all-apart v h =
-      l .start-labels .ensures .labels v (omega (arith, l .before .before .vertex-count .ensures .is)) ∙ none-together v
+      l .start-labels .ensures .labels v (omega (arith, l .before .before .vertex-count .ensures .is)) ∙ ap (λ (f : Labels). f v) together-none
 
 slice-aggregate-start-labels : tie.Need-slice-aggregate-start-labels
 slice-aggregate-start-labels c = search needs
