@@ -1,8 +1,8 @@
 -- Laws that belong to no one function, in reading order.
 -- where rows of one length stand
 pub mod RowPlaces
--- a part of an array, replaced
-pub mod PartReplaced
+-- a row put into its place
+pub mod RowsPut
 -- the nearest of vertices looked at one after the other
 pub mod NearestSoFar
 -- the rows of distances and of last edges, root by root

@@ -1,4 +1,4 @@
--- Rows of one length in one array: where an element of a row stands, and where a row begins and ends.
+-- Rows of one length in one array: where an element of a row stands, where a row begins and ends, and how long it is.
 -- Assumes nothing.
 use Prim.Native.Nat.{ℕ, _+_, _*_, _/_, _%_, _≤_, _<_}
 use mathlib.Core.Path.{_≡_, subst, _∙_}
@@ -6,8 +6,8 @@ use mathlib.Core.List.{List}
 use native.Mathlib.Nat.{suc-mul, mul-le-mul-right, div-add-mod', div-lt-iff-lt-mul, mod-lt}
 use native.Mathlib.Numerals.{add-one}
 use native.Mathlib.Omega.{arith}
-use lib.ListN.{getD, take, drop}
-use lib.Seq.{getD-drop, getD-take}
+use lib.ListN.{length, getD, take, drop, length-drop}
+use lib.Seq.{getD-drop, getD-take, length-take-le}
 
 -- Element j of row i, of n rows of k, is within the array.
 pub place-within : (i n k j size : ℕ) → i < n → j < k → n * k ≤ size → i * k + j < size
@@ -21,6 +21,10 @@ every-place P n k some each x h =
 -- An array with room for n rows of k has each of them.
 pub row-room : (v n k size : ℕ) → v < n → n * k ≤ size → v * k + k ≤ size
 row-room v n k size h room = omega (arith, suc-mul v k, mul-le-mul-right k h)
+
+-- A row is as long as it is asked for.
+pub row-length : {A : Type 0} (rows : List A) (at n : ℕ) → at + n ≤ length rows → length (take n (drop at rows)) ≡ n
+row-length rows at n h = length-take-le n (drop at rows) (simp length-drop (omega arith))
 
 -- The place behind a row.
 pub row-behind : (i k : ℕ) → i * k + k ≡ (i + 1) * k

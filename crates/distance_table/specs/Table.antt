@@ -5,6 +5,7 @@ use mathlib.Core.Path.{_≡_}
 use mathlib.Core.List.{List}
 use lib.ListN.{length, getD}
 use Rattle.lists.specs.Count.{below}
+use Rattle.lists.specs.Put.{OnlyFirst}
 use Rattle.graph.specs.Graph.{Graph, edgeCount}
 use Rattle.edges.specs.Around.{Arcs, Around}
 use Rattle.distance_table.specs.Tabled.{DistancesTabled, LastsTabled}
@@ -21,8 +22,8 @@ pub record Tabled (g : Graph) (roots table lasts : List ℕ) : Type 0 where
   pub distances : DistancesTabled g roots table
   pub last-edges : LastsTabled g roots table lasts
 
--- What filling promises: of whatever graph the arcs are, the table and the last edges are its own. Both arrays keep their lengths.
+-- What filling promises: of whatever graph the arcs are, the table and the last edges are its own. What stands behind the rows is as it came.
 pub record TableFilled (n : ℕ) (bounds arcs roots table table-after lasts lasts-after : List ℕ) : Type 0 where
   pub of-graph : (g : Graph) → Around g (below (edgeCount g)) bounds arcs → g .vertices ≡ n → Tabled g roots table-after lasts-after
-  pub table-size : length table-after ≡ length table
-  pub lasts-size : length lasts-after ≡ length lasts
+  pub table-rest : OnlyFirst (length roots * n) table table-after
+  pub lasts-rest : OnlyFirst (length roots * n) lasts lasts-after

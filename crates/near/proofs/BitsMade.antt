@@ -1,12 +1,13 @@
 -- A word of bits, made from the last bit to the first: twice the word, with one bit more, has that bit first and the others behind it.
 -- Assumes nothing.
 use Prim.Native.Nat.{ℕ, zero, suc, _+_, _*_, _-_, _/_, _%_, _^_, _≤_, _<_}
-use mathlib.Core.Path.{_≡_, refl, sym, ap, _∙_}
-use mathlib.Core.Bool.{Bool, true, false, cond}
+use mathlib.Core.Path.{_≡_, sym, ap, _∙_}
+use mathlib.Core.Bool.{Bool, cond}
 use native.Mathlib.Nat.{div-one, pow-succ', pow-le-pow-right, div-div-eq-div-mul}
 use native.Mathlib.Omega.{arith}
 use lib.Dec.{eqb}
 use lib.Pow.{pow-pos}
+use Rattle.lists.proofs.OneOrZero.{bit-says, bit-small}
 use Rattle.near.specs.Bits.{bitAt}
 
 bit-first : (b : ℕ) → bitAt 0 b ≡ eqb (b % 2) 1
@@ -17,14 +18,6 @@ bit-first b = ap (λ x. eqb (x % 2) 1) (div-one b)
 bit-later : (j b : ℕ) → bitAt (suc j) b ≡ bitAt j (b / 2)
 unfolding bitAt
 bit-later j b = ap (λ x. eqb (x % 2) 1) (ap (λ p. b / p) (pow-succ' 2 j) ∙ sym (div-div-eq-div-mul b 2 (2 ^ j)))
-
-pub bit-says : (t : Bool) → eqb (cond t 1 0) 1 ≡ t
-bit-says true = refl
-bit-says false = refl
-
-pub bit-small : (t : Bool) → cond t 1 0 < 2
-bit-small true = omega arith
-bit-small false = omega arith
 
 module _ (b : ℕ) (t : Bool) where
   doubled-first : bitAt 0 (2 * b + cond t 1 0) ≡ t

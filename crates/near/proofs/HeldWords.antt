@@ -1,16 +1,16 @@
 -- The word of a tree, joined vertex by vertex; and the words of several trees, one after the other.
 -- Assumes nothing.
 use Prim.Native.Nat.{ℕ, _+_, _≤_, _<_}
-use mathlib.Core.Path.{_≡_, refl, sym, ap, _∙_}
-use mathlib.Core.Bool.{Bool, true, false, _||_}
+use mathlib.Core.Path.{_≡_, sym, ap, _∙_}
+use mathlib.Core.Bool.{Bool, _||_, or-false}
 use mathlib.Core.List.{List, _∷_, map}
 use native.Mathlib.Omega.{arith}
+use borrow.Author.Count.{below-none, below-more}
 use lib.Bits.{bitOr}
 use lib.ListN.{length, getD, take, set}
 use lib.Seq.{take-all, getD-set-same, getD-set-other}
 use Rattle.lists.specs.Lists.{any, flat}
 use Rattle.lists.specs.Put.{OnlyFirst}
-use Rattle.lists.proofs.AfterStore.{at-or-not}
 use Rattle.lists.proofs.AnyOn.{any-on}
 use Rattle.lists.proofs.FlatMap.{flat-map-next}
 use Rattle.lists.proofs.OnlyFirst.{only-first-none, only-first-store}
@@ -21,10 +21,6 @@ use Rattle.pieces.specs.Pieces.{treeOf, endsOf}
 use Rattle.near.specs.Bits.{bitAt}
 use Rattle.near.specs.Held.{NearTree, NearPieces}
 use Rattle.near.proofs.BitsLaws.{bit-or}
-
-or-false : (t : Bool) → t ≡ t || false
-or-false true = refl
-or-false false = refl
 
 module _ (g : Graph) (near : List ℕ) where
   -- Some word of these vertices has root j.
@@ -38,7 +34,7 @@ module _ (g : Graph) (near : List ℕ) where
 
   pub joining-start : (start : ℕ) (edges : List ℕ) → Joining start edges 0 (getD near start 0)
   unfolding any flat
-  joining-start start edges = record { within = omega arith; each = λ j. or-false (bitAt j (getD near start 0)) }
+  joining-start start edges = record { within = omega arith; each = λ j. sym (or-false (bitAt j (getD near start 0))) }
 
   module _ {start : ℕ} {edges : List ℕ} {i word : ℕ} (m : Joining start edges i word) where
     -- One edge more: the words of its ends.
@@ -55,7 +51,7 @@ module _ (g : Graph) (near : List ℕ) where
           bit-or j (getD near u 0) (getD near v 0)
           ∙ ap (λ x. bitAt j (getD near x 0) || bitAt j (getD near v 0)) p
           ∙ ap (λ x. bitAt j (getD near (oneEnd g e) 0) || bitAt j (getD near x 0)) q
-          ∙ ap (λ t. bitAt j (getD near (oneEnd g e) 0) || t) (or-false (bitAt j (getD near (otherEnd g e) 0)))
+          ∙ ap (λ t. bitAt j (getD near (oneEnd g e) 0) || t) (sym (or-false (bitAt j (getD near (otherEnd g e) 0))))
 
       pub joining-more : Joining start edges (i + 1) (bitOr word both)
       joining-more =
@@ -86,7 +82,7 @@ module _ (g : Graph) (near starts cuts flat places : List ℕ) where
     pub only : OnlyFirst (length places) before after
 
   pub wording-none : (before : List ℕ) → Wording 0 before before
-  wording-none before = record { within = omega arith; done = λ h l. absurd (omega arith); only = only-first-none (length places) before }
+  wording-none before = record { within = omega arith; done = below-none _; only = only-first-none (length places) before }
 
   module _ {i : ℕ} {before after : List ℕ} (m : Wording i before after) where
     pub wording-more : {word : ℕ} → i < length places → i < length after → NearTree g near (treeAt starts cuts flat (getD places i 0)) word
@@ -95,10 +91,9 @@ module _ (g : Graph) (near starts cuts flat places : List ℕ) where
         record {
           within = omega arith;
           done =
-              λ x l.
-              at-or-not (λ x. x < i + 1 → NearTree g near (treeAt starts cuts flat (getD places x 0)) (getD (set after i word) x 0)) i x
-              (λ _. rw (getD-set-same after i word 0 room) tree)
-              (λ away l. rw (getD-set-other after i x word 0 away) (m .done x (omega arith))) l;
+              below-more (λ x. NearTree g near (treeAt starts cuts flat (getD places x 0)) (getD (set after i word) x 0)) i
+              (λ x l. rw (getD-set-other after i x word 0 (omega arith)) (m .done x l))
+              (rw (getD-set-same after i word 0 room) tree);
           only = only-first-store (m .only) i word h;
         }
 

@@ -6,9 +6,8 @@ use mathlib.Core.Bool.{cond}
 use mathlib.Core.List.{List}
 use native.Mathlib.Omega.{arith}
 use lib.Dec.{leb}
-use lib.ListN.{length, getD, take, drop, set, length-set}
-use lib.Seq.{getD-set-same, getD-set-other}
-use Rattle.lists.proofs.AfterStore.{at-or-not}
+use lib.ListN.{length, getD, take, drop, set}
+use Rattle.lists.proofs.SetUpTo.{SetUpTo, set-more}
 use Rattle.distance_table.specs.Tabled.{distanceIn}
 use Rattle.distance_table.proofs.RowPlaces.{part-at}
 use Rattle.near.specs.Vertices.{RootAsked, RootAdded, NearAsked, NearVertices}
@@ -18,31 +17,14 @@ use Rattle.near.proofs.BitsMade.{Gathering, gather-none, gather-fits, g
 abbrev pub wordWith : ℕ → List ℕ → List ℕ → ℕ → ℕ
 wordWith limit row near v = 2 * getD near v 0 + cond (leb (getD row v 0) limit) 1 0
 
--- The root is added to the words of the first v vertices, the others are as they came.
-pub record RootAdding (limit : ℕ) (row : List ℕ) (v : ℕ) (before after : List ℕ) : Type 0 where
-  pub size : length after ≡ length before
-  pub done : (u : ℕ) → u < v → getD after u 0 ≡ wordWith limit row before u
-  pub rest : (u : ℕ) → v ≤ u → getD after u 0 ≡ getD before u 0
+-- The root is added to the words one after the other: to the next,
+module _ (limit : ℕ) (row : List ℕ) {v : ℕ} {before after : List ℕ} (m : SetUpTo (wordWith limit row before) v before after) where
+  pub root-more : {x : ℕ} → v < length after → x ≡ wordWith limit row after v → SetUpTo (wordWith limit row before) (v + 1) before (set after v x)
+  root-more h q = set-more m h (q ∙ ap (λ w. 2 * w + cond (leb (getD row v 0) limit) 1 0) (m .rest v (omega arith)))
 
-module _ {limit : ℕ} {row : List ℕ} where
-  pub root-none : (before : List ℕ) → RootAdding limit row 0 before before
-  root-none before = record { size = refl; done = λ u h. absurd (omega arith); rest = λ u h. refl }
-
-  module _ {v : ℕ} {before after : List ℕ} (m : RootAdding limit row v before after) where
-    pub root-more : {x : ℕ} → v < length after → x ≡ wordWith limit row after v → RootAdding limit row (v + 1) before (set after v x)
-    root-more {x} h q =
-        record {
-          size = length-set after v x ∙ m .size;
-          done =
-              λ u l.
-              at-or-not (λ u. u < v + 1 → getD (set after v x) u 0 ≡ wordWith limit row before u) v u
-              (λ _. getD-set-same after v x 0 h ∙ q ∙ ap (λ w. 2 * w + cond (leb (getD row v 0) limit) 1 0) (m .rest v (omega arith)))
-              (λ away l. getD-set-other after v u x 0 away ∙ m .done u (omega arith)) l;
-          rest = λ u l. getD-set-other after v u x 0 (omega arith) ∙ m .rest u (omega arith);
-        }
-
-    pub root-all : length after ≤ v → RootAdded limit row before after
-    root-all h = record { size = m .size; each = λ u l. m .done u (omega (arith, m .size)) }
+  -- and to all.
+  pub root-all : length after ≤ v → RootAdded limit row before after
+  root-all h = record { size = m .size; each = λ u l. m .done u (omega (arith, m .size)) }
 
 -- The roots from j on are added to the word of each vertex.
 pub record RootsAdding (k limit : ℕ) (table : List ℕ) (j : ℕ) (before after : List ℕ) : Type 0 where

@@ -18,7 +18,7 @@ use Rattle.lists.proofs.Zeros.{zeros-at}
 use Rattle.edges.specs.Around.{arcEdge, arcHead, arcWeight}
 use Rattle.steps.specs.Touched.{Sweep, touchesPiece, sweepStep, sweep, partsTouched}
 use Rattle.near.specs.Bits.{bitAt}
-use Rattle.near.specs.Parts.{PartsAsked, NearParts}
+use Rattle.near.specs.Parts.{NearPartsAsked, NearParts}
 use Rattle.near.proofs.BitsLaws.{bit-none, bit-or, bit-at, bits-stored, bits-none}
 use Rattle.near.proofs.SweepWays.{sweep-alone, sweep-full, sweep-joins, sweep-grows}
 
@@ -70,7 +70,7 @@ module _ {H : ℕ} {steps near before parts left beside : List ℕ} {r i : ℕ}
       let nothing : drop i steps ≡ [] = ap (λ k. drop k steps) q ∙ drop-length steps in
       record { each = λ j. rw nothing at (c .rest j); within = c .count; rest = c .only }
 
-  module _ (asked : PartsAsked H steps near before) (more : i < length steps) {child above piece own : ℕ}
+  module _ (asked : NearPartsAsked H steps near before) (more : i < length steps) {child above piece own : ℕ}
       (a : AtStep near left beside (getD steps i 0) child above piece own) where
     abbrev step : ℕ
     step = getD steps i 0

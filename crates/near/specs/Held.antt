@@ -35,7 +35,7 @@ pub record TreeHeld (n : ℕ) (starts cuts flat : List ℕ) (c : ℕ) : Type 0 w
   pub start-inside : getD starts c 0 < n
 
 -- What looking at several asks: each place's tree, and room for a word for each.
-pub record PiecesAsked (b near starts cuts flat places words : List ℕ) : Type 0 where
+pub record NearPiecesAsked (b near starts cuts flat places words : List ℕ) : Type 0 where
   pub given : WordsGiven b near
   pub trees : (i : ℕ) → i < length places → TreeHeld (graphOf b .vertices) starts cuts flat (getD places i 0)
   pub words-room : length places ≤ length words

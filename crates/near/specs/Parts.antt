@@ -11,7 +11,7 @@ use Rattle.steps.specs.WalkPut.{Countable}
 use Rattle.near.specs.Bits.{bitAt}
 
 -- What is asked: steps among 256 vertices, a threshold above 0, a word for each vertex, and room for a word for each part.
-pub record PartsAsked (H : ℕ) (steps near parts : List ℕ) : Type 0 where
+pub record NearPartsAsked (H : ℕ) (steps near parts : List ℕ) : Type 0 where
   pub countable : Countable H steps
   pub threshold-some : 0 < H
   pub near-room : 256 ≤ length near

@@ -5,7 +5,7 @@ use pieces::pieces::element_at;
 use pieces::pieces::piece_edges;
 ghost use Rattle.graph.specs.Bytes.{graphOf};
 ghost use Rattle.pieces.specs.Pieces.{treeOf};
-ghost use Rattle.near.specs.Held.{PieceAsked, NearTree, PiecesAsked, NearPieces};
+ghost use Rattle.near.specs.Held.{PieceAsked, NearTree, NearPiecesAsked, NearPieces};
 
 // Those near the tree with this start and these edges: near the start, or near an end of an edge.
 fn near_piece(b: &[u8], near: &[u32], start: usize, edges: &[u16]) -> u32
@@ -34,7 +34,7 @@ pub fn near_pieces(
     places: &[u16],
     words: &mut [u32],
 )
-    requires { ⌜ PiecesAsked (now b) (now near) (now starts) (now cuts) (now flat) (now places) (now words) ⌝ }
+    requires { ⌜ NearPiecesAsked (now b) (now near) (now starts) (now cuts) (now flat) (now places) (now words) ⌝ }
     ensures { λ _. ⌜ NearPieces (graphOf (now (b .entry))) (now (near .entry)) (now (starts .entry)) (now (cuts .entry)) (now (flat .entry)) (now (places .entry))
         (now (words .entry)) (now (words .exit)) ⌝ }
 {

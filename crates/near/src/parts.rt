@@ -2,12 +2,12 @@
 use edges::arc::arc_edge;
 use edges::arc::arc_head;
 use edges::arc::arc_weight;
-ghost use Rattle.near.specs.Parts.{PartsAsked, NearParts};
+ghost use Rattle.near.specs.Parts.{NearPartsAsked, NearParts};
 
 // Splits the trees with threshold h, above 0, and writes for each part the roots that are near one of its vertices, by those near each vertex. Says how
 // many parts there are. What is left at a vertex is kept by its weight and the roots near it alone.
 pub fn near_parts(walk: &[u64], h: u64, near: &[u32], parts: &mut [u32]) -> usize
-    requires { ⌜ PartsAsked h (now walk) (now near) (now parts) ⌝ }
+    requires { ⌜ NearPartsAsked h (now walk) (now near) (now parts) ⌝ }
     ensures { λ r. ⌜ NearParts h (now (walk .entry)) (now (near .entry)) (now (parts .entry)) (now (parts .exit)) r ⌝ }
 {
     let mut left = [0u64; 256];

@@ -24,7 +24,7 @@ use Rattle.planner_laws.proofs.RootedPrepared.{pieces-of-whole}
 use Rattle.planner_laws.proofs.RootedPieces.{part-at}
 use Rattle.steps.specs.Touched.{partsTouched}
 use Rattle.near.specs.Bits.{bitAt}
-use Rattle.near.specs.Parts.{PartsAsked, NearParts}
+use Rattle.near.specs.Parts.{NearPartsAsked, NearParts}
 use Rattle.near.proofs.BitsLaws.{bit-at}
 use Rattle.rooted_parts.specs.Near.{VerticesNear, PartsNear}
 use Rattle.rooted_state.proofs.NearMeansMayGo.{tree-reaches}
@@ -63,7 +63,7 @@ module _ {b roots : List ℕ} {limit : ℕ} {table walk : List ℕ} (f : FewRead
   touched-many : (test : ℕ → Bool) → length (partsTouched limit test walk) ≡ length parts
   touched-many test = ap length (touched-parts test) ∙ length-map parts (λ part. any test (treeVertices g part))
 
-  pub near-parts-asked : {near words : List ℕ} → 256 ≤ length near → k ≤ length words → PartsAsked limit walk near words
+  pub near-parts-asked : {near words : List ℕ} → 256 ≤ length near → k ≤ length words → NearPartsAsked limit walk near words
   near-parts-asked near-room words-room =
       record {
         countable = count-asked (f .counted);

@@ -16,7 +16,7 @@ use Rattle.rules.specs.Distance.{treeVertices, reachesPart}
 use Rattle.rules.specs.Held.{treeAt}
 use Rattle.rules.specs.RootedTrial.{mayGo}
 use Rattle.near.specs.Bits.{bitAt}
-use Rattle.near.specs.Held.{PiecesAsked, NearPieces}
+use Rattle.near.specs.Held.{NearPiecesAsked, NearPieces}
 use Rattle.rooted_parts.specs.Near.{VerticesNear, PartsNear}
 use Rattle.rooted_parts.specs.Parts.{WordsAsked}
 use Rattle.rooted_state.proofs.NearMeansMayGo.{tree-reaches, reaches-risen}
@@ -29,7 +29,7 @@ module _ {b roots : List ℕ} {limit : ℕ} {table starts cuts flat places : Lis
   g = graphOf b
 
   -- What is asked for the words of the parts.
-  pub near-pieces-asked : {near : List ℕ} → 256 ≤ length near → PiecesAsked b near starts cuts flat (take p places) words
+  pub near-pieces-asked : {near : List ℕ} → 256 ≤ length near → NearPiecesAsked b near starts cuts flat (take p places) words
   near-pieces-asked room =
       let graph = a .held .ready .given .graph in
       let placed = a .held .placed in

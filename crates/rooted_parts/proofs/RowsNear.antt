@@ -15,7 +15,7 @@ use Rattle.matching.specs.Input.{allowedAt}
 use Rattle.rules.specs.RootedTrial.{mayGo, isAssignable}
 use Rattle.near.specs.Bits.{bitAt}
 use Rattle.near.specs.Rows.{RowsPut}
-use Rattle.near.proofs.BitsMade.{bit-says, bit-small}
+use Rattle.lists.proofs.OneOrZero.{bit-says, bit-small}
 use Rattle.distance_table.proofs.RowPlaces.{place-within, every-place}
 use Rattle.rooted_state.specs.Placed.{RowsAssigned}
 use Rattle.rooted_parts.specs.Near.{PartsNear}

@@ -5,9 +5,8 @@ use mathlib.Core.Path.{_≡_}
 use mathlib.Core.List.{List}
 use native.Mathlib.Omega.{arith}
 use borrow.Author.Needs.{needs}
-use lib.ListN.{length, getD, take, drop, length-drop}
-use lib.Seq.{length-take-le}
-use Rattle.distance_table.proofs.RowPlaces.{row-room}
+use lib.ListN.{length, getD, take, drop}
+use Rattle.distance_table.proofs.RowPlaces.{row-room, row-length}
 use Rattle.distance_table.proofs.RowsFilled.{TableUnderway, table-none, table-put, table-all}
 use Rattle.distance_table.proofs.table.fill_table.Statement.{statement}
 use Rattle.distance_table.proofs.table.fill_table.Tie as tie
@@ -44,8 +43,8 @@ module _ (t : tie.In-loop Inv-loop μ-loop) where
   size : j * n + n - j * n ≡ n
   size = omega arith
 
-  row-length : (rows : List ℕ) → j * n + n ≤ length rows → length (take (j * n + n - j * n) (drop (j * n) rows)) ≡ n
-  row-length rows h = rw size (length-take-le n (drop (j * n) rows) (simp length-drop (omega arith)))
+  row-is : (rows : List ℕ) → j * n + n ≤ length rows → length (take (j * n + n - j * n) (drop (j * n) rows)) ≡ n
+  row-is rows h = rw size (row-length rows (j * n) n h)
 
 -- Where the root was read.
 module _ (w : tie.After-wide Inv-loop μ-loop) where
@@ -105,8 +104,8 @@ distances-from-requires c κs =
     record {
       sound = p .sound;
       root-inside = omega (arith, root-is w, p .roots-inside (j u) (u .loop-test .taken));
-      dist-room = omega (arith, row-length u (l u .loop .table) (in-table u));
-      last-room = omega (arith, row-length u (l u .loop .lasts) (in-lasts u));
+      dist-room = omega (arith, row-is u (l u .loop .table) (in-table u));
+      last-room = omega (arith, row-is u (l u .loop .lasts) (in-lasts u));
     }
 
 add-j : tie.Need-add-j Inv-loop μ-loop

@@ -27,7 +27,7 @@ add-j : tie.Need-add-j Inv-loop μ-loop
 add-j c = search needs
 
 loop-less : tie.Need-loop-less Inv-loop μ-loop
-loop-less c = omega (arith, c .before .loop .inv .size)
+loop-less c = omega (arith, c .before .loop .inv .stored .size)
 
 loop-again : tie.Need-loop-again Inv-loop μ-loop
 loop-again c = row-more (c .before .loop .inv) (omega arith)

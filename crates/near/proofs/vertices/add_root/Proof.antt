@@ -6,13 +6,14 @@ use native.Mathlib.Omega.{arith}
 use borrow.Author.Needs.{needs}
 use lib.Dec.{leb}
 use lib.ListN.{length, getD}
-use Rattle.near.proofs.BitsMade.{bit-small}
-use Rattle.near.proofs.NearWords.{RootAdding, root-none, root-more, root-all}
+use Rattle.lists.proofs.OneOrZero.{bit-small}
+use Rattle.lists.proofs.SetUpTo.{SetUpTo, set-none}
+use Rattle.near.proofs.NearWords.{wordWith, root-more, root-all}
 use Rattle.near.proofs.vertices.add_root.Statement.{statement}
 use Rattle.near.proofs.vertices.add_root.Tie as tie
 
 abbrev Inv-loop : tie.InvT-loop
-Inv-loop row limit near₀ v₀ near v = RootAdding limit row v near₀ near
+Inv-loop row limit near₀ v₀ near v = SetUpTo (wordWith limit row near₀) v near₀ near
 
 abbrev μ-loop : tie.MeasureT-loop
 μ-loop row limit near₀ v₀ near v = length near₀ - v
@@ -32,7 +33,7 @@ module _ (t : tie.In-loop Inv-loop μ-loop) where
   low = omega (arith, s .pre .low (l .loop .v) inside, l .loop .inv .rest (l .loop .v) (omega arith))
 
 loop-holds : tie.Need-loop-holds Inv-loop μ-loop
-loop-holds c = root-none _
+loop-holds c = set-none _
 
 mul-near : tie.Need-mul-near Inv-loop μ-loop
 mul-near c = search needs
@@ -73,13 +74,13 @@ loop-less : tie.Need-loop-less Inv-loop μ-loop
 loop-less c = omega (arith, inside (c .before .before .before))
 
 loop-again : tie.Need-loop-again Inv-loop μ-loop
-loop-again c = let t = c .before .before .before in rw (c .within .ensures) (root-more (t .before .loop .inv) (t .loop-test .taken) refl)
+loop-again c = let t = c .before .before .before in rw (c .within .ensures) (root-more (s t .args .limit) (s t .args .row .now) (t .before .loop .inv) (t .loop-test .taken) refl)
 
 same-length : tie.Need-same-length Inv-loop μ-loop
 same-length c = search needs
 
 returns : tie.Need-returns Inv-loop μ-loop
-returns c = root-all (c .before .loop .inv) (c .loop-test .left)
+returns c = root-all _ _ (c .before .loop .inv) (c .loop-test .left)
 
 pub add-root-spec : {M : Type 1} → statement M
 add-root-spec =

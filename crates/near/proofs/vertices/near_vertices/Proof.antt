@@ -4,9 +4,8 @@ use Prim.Native.Nat.{ℕ, _+_, _*_, _-_, _≤_}
 use mathlib.Core.Path.{_≡_, refl}
 use native.Mathlib.Omega.{arith}
 use borrow.Author.Needs.{needs}
-use lib.ListN.{length, take, drop, length-drop}
-use lib.Seq.{length-take-le}
-use Rattle.distance_table.proofs.RowPlaces.{row-room}
+use lib.ListN.{length, take, drop}
+use Rattle.distance_table.proofs.RowPlaces.{row-room, row-length}
 use Rattle.near.proofs.NearWords.{RootsAdding, roots-none, root-asked, roots-more, roots-all}
 use Rattle.near.proofs.vertices.near_vertices.Statement.{statement}
 use Rattle.near.proofs.vertices.near_vertices.Tie as tie
@@ -37,8 +36,8 @@ module _ (t : tie.In-loop Inv-loop μ-loop) where
   size : from + n - from ≡ n
   size = omega arith
 
-  row-length : length (take (from + n - from) (drop from (s .args .table .now))) ≡ n
-  row-length = rw size (length-take-le n (drop from (s .args .table .now)) (simp length-drop (omega (arith, fits))))
+  row-is : length (take (from + n - from) (drop from (s .args .table .now))) ≡ n
+  row-is = rw size (row-length (s .args .table .now) from n fits)
 
 loop-holds : tie.Need-loop-holds Inv-loop μ-loop
 loop-holds c = roots-none (c .before .before .pre)
@@ -67,7 +66,7 @@ part-add-root-end c = fits c
 add-root-requires : tie.Need-add-root-requires Inv-loop μ-loop
 add-root-requires c κs =
     let t = c .before .before in
-    root-asked (l t .loop .inv) (t .loop-test .taken) (s t .pre .roots-few) (omega (arith, row-length t, l t .loop .inv .size))
+    root-asked (l t .loop .inv) (t .loop-test .taken) (s t .pre .roots-few) (omega (arith, row-is t, l t .loop .inv .size))
 
 loop-less : tie.Need-loop-less Inv-loop μ-loop
 loop-less c = search needs
