@@ -6,11 +6,12 @@ use mathlib.Core.Path.{_≡_, refl, sym, ap, _∙_}
 use mathlib.Core.Bool.{Bool, true, false, cond, true≢false}
 use mathlib.Core.List.{List}
 use native.Mathlib.Omega.{arith}
+use lib.ListN.{length}
 use Rattle.lists.proofs.InOrder.{rising-once}
 use Rattle.lists.proofs.Sums.{sum-within}
 use Rattle.lists.proofs.Largest.{largest-most}
 use Rattle.lists.proofs.Bounds.{sum-most}
-use Rattle.lists.proofs.Sorting.{sum-sort}
+use Rattle.lists.proofs.Sorting.{sort-length, sum-sort}
 use Rattle.lists.proofs.Below.{of-below}
 use Rattle.lists.proofs.Runs.{length-below}
 use Rattle.lists.specs.Count.{below}
@@ -53,6 +54,12 @@ sum-bounded {g} valid =
       sum-most (weightOf g) 1000000 (below (edgeCount g)) (λ e m. valid .each-edge e (of-below (edgeCount g) m) .weight-most),
       length-below (edgeCount g),
     )
+
+-- It has at most 2,048 edges in order.
+pub order-few : {g : Graph} {order : List ℕ} → Valid g → order ≡ ordered g → length order ≤ 2048
+unfolding ordered
+order-few {g} valid q =
+    omega (arith, ap length q, sort-length (comesBefore g) (below (edgeCount g)), length-below (edgeCount g), valid .edges-most)
 
 -- The search may take any number of steps that is enough,
 pub best-limit-steps : (g : Graph) (crews : Crews) (fuel : ℕ) → allWeights g ≤ 2 ^ fuel

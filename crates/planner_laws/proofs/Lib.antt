@@ -58,5 +58,7 @@ pub mod NoCover
 pub mod SearchSteps
 -- the best limit is accepted, and at most every cover's heaviest
 pub mod BestLimit
+-- it is within document 01's range
+pub mod BestRange
 -- what the replies mean
 pub mod Replies

@@ -3,5 +3,5 @@
 pub mod WalkWritten
 -- a decision at a limit, where the kind is known
 pub mod KindDecides
--- the search, trial by trial, and the sum at which it begins
+-- the search, trial by trial, and where it ends
 pub mod SearchLoop

@@ -1,30 +1,13 @@
 // The search for the best limit (document 01, "The best limit"): each trial in it only decides.
 use crate::decide::accepts_at;
 use cover::crews::Kind;
-use edges::index::weight_of;
+use cover::heaviest::edges_weight;
 use steps::put_walk;
 ghost use mathlib.Core.Path.{_≡_};
-ghost use Prim.Native.Nat.{_≤_};
-ghost use lib.ListN.{length};
 ghost use Rattle.graph.specs.Bytes.{graphOf};
-ghost use Rattle.rules.specs.Walk.{totalWeight};
 ghost use Rattle.rules.specs.Search.{bestLimit};
 ghost use Rattle.prepare.specs.Crews.{crewsWith};
 ghost use Rattle.search.specs.Searching.{searchEnd, SearchAsked, BestAsked, WalkedAsked, WalkGiven, WalkFor};
-
-// The weight of the edges together.
-fn sum_weights(b: &[u8], edges: &[u16]) -> u64
-    requires { ⌜ length (now edges) ≤ 2048 ⌝ }
-    ensures { λ r. ⌜ r ≡ totalWeight (graphOf (now (b .entry))) (now (edges .entry)) ⌝ }
-{
-    let mut sum = 0;
-    let mut i = 0;
-    while i < edges.len() {
-        sum += weight_of(b, edges[i]);
-        i += 1;
-    }
-    sum
-}
 
 // Halves what lies between low, which was not accepted, and high, which was, until they are neighbours or the trials are used up. Says high.
 fn search(
@@ -80,7 +63,7 @@ fn search_limit(
     if accepts_at(kind, k, b, roots, 0, kept, table, total, until, walk) {
         return 0;
     }
-    let sum = sum_weights(b, order);
+    let sum = edges_weight(b, order);
     search(kind, k, b, roots, kept, table, total, until, walk, sum, 31)
 }
 

@@ -2,8 +2,8 @@
 use mathlib.Core.Path.{sym, _∙_}
 use native.Mathlib.Omega.{arith}
 use Rattle.rules.specs.Cover.{Crews}
+use Rattle.planner_laws.proofs.BestRange.{best-limit-most}
 use Rattle.prepare.specs.Crews.{crewsWith}
-use Rattle.search.proofs.SearchLoop.{best-limit-most}
 use Rattle.answers.proofs.KindKnown.{forest-ready}
 use Rattle.asking.proofs.Answering.{choices-for, none-answered, best-answered}
 use borrow.Author.Needs.{needs}

@@ -7,9 +7,9 @@ use Rattle.graph.specs.Bytes.{graphOf}
 use Rattle.graph.specs.Valid.{Valid}
 use Rattle.rules.specs.Cover.{Crews}
 use Rattle.rules.specs.Walk.{totalWeight}
-use Rattle.planner_laws.proofs.BestLimit.{allWeights, sum-bounded}
+use Rattle.planner_laws.proofs.BestLimit.{allWeights, sum-bounded, order-few}
 use Rattle.prepare.specs.Crews.{crewsWith}
-use Rattle.search.proofs.SearchLoop.{best-at-zero, best-searched, order-few}
+use Rattle.search.proofs.SearchLoop.{best-at-zero, best-searched}
 use borrow.Author.Needs.{needs}
 use Rattle.search.proofs.limit.search_limit.Statement.{statement}
 use Rattle.search.proofs.limit.search_limit.Tie as tie
@@ -29,12 +29,12 @@ module _ (a : tie.After-accepts-at) where
   valid = s .pre .crews .ready .graph .valid
 
 -- Where the sum is known.
-module _ (w : tie.After-sum-weights) where
+module _ (w : tie.After-edges-weight) where
   abbrev tried : tie.After-accepts-at
   tried = w .before .before
 
-  sum-is : w .sum-weights .result ≡ allWeights (g tried)
-  sum-is = w .sum-weights .ensures ∙ ap (totalWeight (g tried)) (s tried .pre .in-order)
+  sum-is : w .edges-weight .result ≡ allWeights (g tried)
+  sum-is = w .edges-weight .ensures ∙ ap (totalWeight (g tried)) (s tried .pre .in-order)
 
 accepts-at-requires : tie.Need-accepts-at-requires
 accepts-at-requires c κs = search needs
@@ -42,8 +42,8 @@ accepts-at-requires c κs = search needs
 returns : tie.Need-returns
 returns c = best-at-zero (valid (c .before)) (crews (c .before)) (sym (c .before .accepts-at .ensures) ∙ c .if1 .taken)
 
-sum-weights-requires : tie.Need-sum-weights-requires
-sum-weights-requires c κs = order-few (valid (c .before)) (s (c .before) .pre .in-order)
+edges-weight-requires : tie.Need-edges-weight-requires
+edges-weight-requires c κs = omega (arith, order-few (valid (c .before)) (s (c .before) .pre .in-order))
 
 search-requires : tie.Need-search-requires
 search-requires c κs =
@@ -57,4 +57,4 @@ returns-2 c =
 
 pub search-limit-spec : {M : Type 1} → statement M
 search-limit-spec =
-    tie.close (tie.spec accepts-at-requires returns sum-weights-requires search-requires returns-2)
+    tie.close (tie.spec accepts-at-requires returns edges-weight-requires search-requires returns-2)
