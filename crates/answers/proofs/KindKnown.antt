@@ -36,6 +36,6 @@ module _ {kind : Kind} {k limit room : ℕ} {b roots order kept bounds arcs tabl
         most = a .answer .room-most;
       }
 
-  pub unrooted-answer-asked : kind ≡ Unrooted → unrooted.UnrootedAsked b k limit kept total until room
+  pub unrooted-answer-asked : kind ≡ Unrooted → unrooted.UnrootedAnswerAsked b k limit kept total until room
   unrooted-answer-asked q =
-      record { ready = a .answer .ready .history q; crews-few = a .answer .crews-few; small = a .limit-most; enough = a .answer .room-most }
+      record { ready = a .answer .ready .history q; crews-few = a .answer .crews-few; limit-most = a .limit-most; enough = a .answer .room-most }

@@ -5,15 +5,13 @@ use mathlib.Core.Path.{_≡_, sym, ap, _∙_}
 use mathlib.Core.List.{List, _++_}
 use native.Mathlib.Omega.{arith}
 use lib.ListN.{length, getD, take, drop, set}
-use lib.Seq.{drop-drop, getD-set-same, getD-set-other}
+use lib.Seq.{drop-drop}
 use borrow.Author.Count.{below-more}
-use Rattle.lists.specs.Lists.{sumOf}
 use Rattle.lists.specs.Put.{PutTo}
 use Rattle.lists.specs.Segments.{segment}
 use Rattle.lists.specs.Sort.{rise}
 use Rattle.lists.proofs.PutSlice.{put-slice, put-before}
-use Rattle.lists.proofs.NextPlace.{rest-next}
-use Rattle.lists.proofs.Put.{put-rest, put-length, put-fits, put-count, put-taken, put-dropped}
+use Rattle.lists.proofs.Put.{put-rest, put-length}
 use Rattle.lists.proofs.SegmentSizes.{slice-taken}
 use Rattle.lists.proofs.Segments.{segment-kept, segment-new, bounded-more}
 use Rattle.lists.proofs.Sorting.{rise-length}
@@ -60,26 +58,6 @@ laid-more {lists} {i} {at} {end} {cuts} {xs} {flat} {after} w room p q =
           (segment-new (w .bounded) end room after ∙ ap (λ n. drop at (take n after)) (p .behind) ∙ put-slice (p .put) ∙ q);
     }
 
--- Values stored one after the other.
-pub stored-more : (f : ℕ → ℕ) (a : List ℕ) (i x : ℕ) → i < length a → ((h : ℕ) → h < i → getD a h 0 ≡ f h) → x ≡ f i
-    → (h : ℕ) → h < i + 1 → getD (set a i x) h 0 ≡ f h
-stored-more f a i x room so-far q =
-    below-more (λ h. getD (set a i x) h 0 ≡ f h) i (λ h l. getD-set-other a i h x 0 (omega arith) ∙ so-far h l) (getD-set-same a i x 0 room ∙ q)
-
--- A sum over what is left of a list.
-pub sum-next : (f : ℕ → ℕ) (xs : List ℕ) (i : ℕ) → i < length xs → sumOf f (drop i xs) ≡ f (getD xs i 0) + sumOf f (drop (i + 1) xs)
-unfolding sumOf
-sum-next f xs i h = rw (rest-next xs i h)
-
 -- A list was put at the front of an array, and then sorted in place: the sorted list was put.
 pub front-then-risen : {r : ℕ} {xs ys a b : List ℕ} → PutTo 0 xs a b r → ys ≡ rise (take r b) → PutTo 0 (rise xs) a (ys ++ drop r b) r
-front-then-risen {r} {xs} {ys} {a} {b} p q =
-    let size = rise-length xs in
-    let fits = put-fits p in
-    let count = put-count p in
-    let place : r ≡ 0 + length (rise xs) = omega arith in
-    let rest : drop r b ≡ drop (0 + length (rise xs)) a = put-dropped p ∙ ap (λ n. drop n a) place in
-    record {
-      put = record { room = omega arith; is = rw (q, put-taken p, rest) };
-      behind = place;
-    }
+front-then-risen {r} {ys = ys} p q = let n : r - 0 ≡ r = omega arith in rw n at (put-then-risen {ys = ys} p (rw n q))

@@ -1,15 +1,14 @@
 -- The forest of the whole graph, from the labels at the start to its front within a limit: each step's record from those of the calls.
 -- Assumes nothing.
-use Prim.Native.Nat.{ℕ, _<_}
+use Prim.Native.Nat.{ℕ}
 use mathlib.Core.Path.{_≡_, refl, sym, _∙_}
-use mathlib.Core.List.{List, [], _∷_, headD}
-use lib.ListN.{length, getD}
-use Rattle.lists.specs.Member.{_∈_}
+use mathlib.Core.List.{List}
+use lib.ListN.{getD}
+use Rattle.lists.proofs.FirstElement.{head-at}
 use Rattle.lists.proofs.OnlyFirst.{only-first-on}
 use Rattle.graph.specs.Graph.{Graph}
 use Rattle.rules.specs.Order.{ByWeight, ordered}
 use Rattle.rules.specs.Labels.{together}
-use Rattle.forest_laws.proofs.Roots.{some-head}
 use Rattle.forest_laws.proofs.Ordering.{ordered-by-weight}
 use Rattle.forest_laws.proofs.Keeping.{kept-in-order}
 use Rattle.forest_laws.proofs.Limit.{forest-within}
@@ -39,21 +38,12 @@ module _ {g : Graph} {roots : List ℕ} {n : ℕ} (count : n ≡ g .vertices) wh
         fewer = k .fewer;
       }
 
--- The first root, as it is read, is one of the roots.
-first-root : (roots : List ℕ) → headD roots 0 ≡ getD roots 0 0
-unfolding headD
-first-root [] = refl
-first-root (r ∷ roots) = refl
-
-pub first-in : (roots : List ℕ) → 0 < length roots → getD roots 0 0 ∈ roots
-first-in roots h = rw (first-root roots) at (some-head roots h)
-
 -- The lowest vertex whose label is not the first root's.
 pub stop-found : {g : Graph} {roots edges label₀ label₁ : List ℕ} {n root : ℕ} {r : Found} → n ≡ g .vertices → root ≡ getD roots 0 0
     → EdgesLabelled g roots edges label₀ label₁ → Unjoined label₁ n root r → StopFound g roots edges label₀ label₁ r
 stop-found {g} {roots} {label₁ = label₁} {r = r} count first l u =
     let v : Unjoined label₁ (g .vertices) (getD roots 0 0) r = rw (count, first) at u in
-    record { is = v .is g roots _ refl (first-root roots) (l .labels); rest = l .rest }
+    record { is = v .is g roots _ refl (head-at roots) (l .labels); rest = l .rest }
 
 module _ {g : Graph} {kept : List ℕ} where
   -- The edges of a whole forest stand by weight,

@@ -1,15 +1,13 @@
--- The edges around each vertex over a forest's edges, by rising number.
+-- What putting the edges around each vertex asks, over a forest's edges by rising number.
 -- Assumes nothing.
 use Prim.Native.Nat.{ℕ, _*_, _≤_, _<_}
 use mathlib.Core.List.{List}
 use lib.ListN.{length}
 use Rattle.lists.specs.InOrder.{Once}
 use Rattle.lists.specs.Member.{_∈_}
-use Rattle.lists.specs.Sort.{rise}
-use Rattle.graph.specs.Graph.{Graph, edgeCount}
+use Rattle.graph.specs.Graph.{edgeCount}
 use Rattle.graph.specs.Bytes.{graphOf}
 use Rattle.graph.specs.Valid.{IsGraph}
-use Rattle.edges.specs.Around.{Around}
 
 -- The bytes are a graph's, the edges are as a forest has them, few and none twice, and there is room for their arcs.
 pub record ArcsAsked (b edges bounds arcs : List ℕ) : Type 0 where
@@ -19,7 +17,3 @@ pub record ArcsAsked (b edges bounds arcs : List ℕ) : Type 0 where
   pub few : length edges ≤ 256
   pub bounds-room : graphOf b .vertices < length bounds
   pub arcs-room : 2 * length edges ≤ length arcs
-
--- The arrays hold the edges around each vertex, by rising number.
-pub record ArcsPut (g : Graph) (edges bounds arcs : List ℕ) : Type 0 where
-  pub around : Around g (rise edges) bounds arcs

@@ -1,5 +1,6 @@
 // Lists of edges held one after the other in one array, cut by bounds: reading the list of a number, putting a list from a place on, and
 // writing runs of numbers.
+use cover::index::edges_at;
 use edges::index::wide;
 use order::order::rise_edges;
 ghost use mathlib.Core.Path.{_≡_};
@@ -27,10 +28,7 @@ pub fn piece_edges<'a>(cuts: &[u16], flat: &'a [u16], c: u16) -> &'a [u16]
     requires { ⌜ IsHeld (now cuts) (now flat) c ⌝ }
     ensures { λ r. ⌜ now r ≡ segment (now (cuts .entry)) (now (flat .entry)) c ⌝ }
 {
-    let at = wide(c);
-    let from = wide(element_at(cuts, at));
-    let to = wide(element_at(cuts, at + 1));
-    &flat[from..to]
+    edges_at(cuts, flat, wide(c))
 }
 
 // Puts the edges into the array from a place on, in their order. Says where they end.

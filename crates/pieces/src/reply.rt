@@ -1,4 +1,6 @@
 // What a trial or a best-limit question is answered, by cause.
+ghost use mathlib.Core.Path.{_≡_};
+ghost use Rattle.pieces.specs.Replies.{says};
 
 // The reply. What is written besides, the cover or the parts, stands in the buffer.
 pub enum Reply {
@@ -20,4 +22,21 @@ pub enum Reply {
     Needs(u64),
     // No cover exists at all.
     NoCover,
+}
+
+// Document 01's number of a refusal; the other cases are numbered from 0.
+pub fn number_of(reply: Reply) -> u32
+    ensures { λ r. ⌜ r ≡ says reply .number ⌝ }
+{
+    match reply {
+        Reply::Sheet(f) => graph_check::number(f) as u32,
+        Reply::Crews => 21,
+        Reply::Limit => 22,
+        Reply::Room => 23,
+        Reply::Cover(_, _, _) => 0,
+        Reply::Stop(_) => 1,
+        Reply::Parts(_, _) => 2,
+        Reply::Needs(_) => 3,
+        Reply::NoCover => 4,
+    }
 }

@@ -17,10 +17,10 @@ use Rattle.rules.specs.UnrootedTrial.{components}
 use Rattle.forest_laws.proofs.FewForest.{forest-few}
 use Rattle.forest_laws.proofs.Forest.{forest-light}
 use Rattle.split_laws.proofs.Lowest.{lowest-inside}
+use Rattle.edges.specs.PutAround.{AroundPut}
 use Rattle.split.specs.ForestSplit.{lent, Splittable, Splits, ForestSplit}
 use Rattle.needs.specs.Given.{ForestGiven}
 use Rattle.needs.specs.Roots.{RootsWritten}
-use Rattle.pieces.specs.Arcs.{ArcsPut}
 use Rattle.unrooted.specs.Unrooted.{SplitAsked, ComponentsSplit}
 
 -- The edges of the forest are the graph's, and fewer than its vertices.
@@ -31,8 +31,8 @@ module _ {b edges : List ℕ} {limit : ℕ} (f : ForestGiven b edges limit) wher
   pub forest-edges-inside : (e : ℕ) → e ∈ edges → e < edgeCount (graphOf b)
   forest-edges-inside e m = forest-light (graphOf b) apart limit e (rw (f .are) at m) .0
 
-module _ {b edges : List ℕ} {limit : ℕ} {starts cuts flat lefts roots₀ roots bounds arcs : List ℕ} {k n : ℕ} (a : SplitAsked b edges limit starts cuts flat lefts)
-    (w : RootsWritten (graphOf b) edges roots₀ roots k) (p : ArcsPut (graphOf b) edges bounds arcs) (q : n ≡ graphOf b .vertices) where
+module _ {b edges : List ℕ} {limit : ℕ} {starts cuts flat lefts roots₀ roots bounds₀ bounds arcs₀ arcs : List ℕ} {k n : ℕ} (a : SplitAsked b edges limit starts cuts flat lefts)
+    (w : RootsWritten (graphOf b) edges roots₀ roots k) (p : AroundPut (graphOf b) (rise edges) bounds₀ bounds arcs₀ arcs) (q : n ≡ graphOf b .vertices) where
   abbrev g : Graph
   g = graphOf b
 

@@ -13,7 +13,7 @@ use Rattle.lists.proofs.Put.{put-count, put-taken}
 use Rattle.lists.proofs.Sorting.{sort-length}
 use Rattle.graph.specs.Graph.{Graph}
 use Rattle.pieces.specs.Chosen.{byKey}
-use Rattle.unrooted_pieces.specs.Components.{PiecesGiven, SegmentsRisen, LowestSet, KeysWritten}
+use Rattle.unrooted_pieces.specs.Components.{PiecesGiven, SegmentsRisen, LowestSet, Keyed}
 use Rattle.unrooted_pieces.specs.TreePlaces.{treePlaces}
 use Rattle.unrooted.specs.Unrooted.{TreesOrdered}
 
@@ -31,7 +31,7 @@ given-on g q h =
 
 -- The steps that put the trees in order.
 pub trees-ordered : {g : Graph} {pieces : ℕ} {lefts starts₀ starts₁ cuts flat₀ flat₁ keys came mid last : List ℕ} {t : ℕ}
-    → SegmentsRisen cuts pieces flat₀ flat₁ → LowestSet g cuts flat₁ pieces starts₀ starts₁ → KeysWritten starts₁ cuts flat₁ pieces keys
+    → SegmentsRisen cuts pieces flat₀ flat₁ → LowestSet g cuts flat₁ pieces starts₀ starts₁ → Keyed starts₁ cuts flat₁ pieces keys
     → PutTo 0 (treePlaces cuts 0 lefts) came mid t → last ≡ sortBy (byKey keys) (take t mid)
     → TreesOrdered g pieces lefts starts₀ starts₁ cuts flat₀ flat₁ (last ++ drop t mid) t
 trees-ordered {lefts = lefts} {cuts = cuts} {keys = keys} {mid = mid} {last = last} {t = t} risen low keyed put sorted =

@@ -3,20 +3,19 @@
 use Prim.Native.Nat.{ℕ, _-_, _≤_, _<_}
 use mathlib.Core.Path.{_≡_, refl, sym, ap, ap₂, _∙_}
 use mathlib.Core.Bool.{false}
-use mathlib.Core.List.{List, [], _∷_, _++_}
-use native.Mathlib.Nat.{zero-add}
-use lib.ListN.{length, drop}
+use mathlib.Core.List.{List, [], _∷_}
+use lib.ListN.{length}
 use lib.Dec.{leb, ltb}
 use borrow.Author.Tests.{le-leb, lt-leb}
+use Rattle.lists.proofs.PutPlaces.{put-at-front}
 use Rattle.graph.specs.Graph.{Graph}
 use Rattle.graph.specs.Bytes.{graphOf}
 use Rattle.rules.specs.Cover.{unrooted, heaviest}
-use Rattle.rules.specs.CoverBytes.{encode}
 use Rattle.rules.specs.Order.{ordered}
 use Rattle.rules.specs.Labels.{apart, mergeAll}
 use Rattle.rules.specs.Forest.{lowest}
 use Rattle.rules.specs.Reply as rules
-use Rattle.rules.specs.RootedTrial.{Choices}
+use Rattle.rules.specs.RootedTrial.{noChoices}
 use Rattle.rules.specs.UnrootedTrial.{needed, unrootedTrees, unrootedTrial}
 use Rattle.rules.specs.Search.{accepts, trial, noCover}
 use Rattle.rules.specs.Questions.{written, bufferAfter}
@@ -48,37 +47,32 @@ module _ (g : Graph) (k limit : ℕ) {C : ℕ} (sum : C ≡ needed g limit) wher
   pub refused : k < C → false ≡ accepts g (unrooted k) limit
   refused h = sym (lt-leb C k h) ∙ decided
 
-  -- There is nothing to choose.
-  nothing : Choices
-  nothing = record { assignment = []; paths = []; marks = [] }
-
   -- "If the sum C exceeds k: too low, needs C", and nothing is written.
-  trial-too-low : k < C → trial g (unrooted k) limit nothing ≡ rules.too-low-needs C
+  trial-too-low : k < C → trial g (unrooted k) limit noChoices ≡ rules.too-low-needs C
   unfolding trial unrootedTrial
   trial-too-low h = rw (sym sum, lt-leb C k h)
 
   pub too-low : k < C → (buffer : List ℕ) → Answers g (unrooted k) limit buffer buffer (Needs C)
   unfolding bufferAfter written
   too-low h buffer =
-      record { choices = nothing; good = tt; replied = rw (trial-too-low h) (record { same = refl; buffer = refl }) }
+      record { choices = noChoices; good = tt; replied = rw (trial-too-low h) (record { same = refl; buffer = refl }) }
 
   -- Otherwise the trees are the answer.
-  trial-covered : C ≤ k → trial g (unrooted k) limit nothing ≡ rules.covered limit (heaviest g (unrootedTrees g limit)) (unrootedTrees g limit)
+  trial-covered : C ≤ k → trial g (unrooted k) limit noChoices ≡ rules.covered limit (heaviest g (unrootedTrees g limit)) (unrootedTrees g limit)
   unfolding trial unrootedTrial
   trial-covered h = rw (sym sum, le-leb C k h)
 
   pub covered : C ≤ k → {before after : List ℕ} {w : Written} → TreesWritten g limit before after w
       → Answers g (unrooted k) limit before after (Cover limit (w .heaviest) (w .trees))
   unfolding bufferAfter written
-  covered h {before} {after} {w} t =
-      let trees = unrootedTrees g limit in
+  covered h t =
       record {
-        choices = nothing;
+        choices = noChoices;
         good = tt;
         replied =
             rw (trial-covered h)
             (record {
               same = ap₂ (λ x y. said 0 (limit ∷ x ∷ y ∷ [])) (t .heaviest-is) (t .trees-are);
-              buffer = t .put .is ∙ ap (λ n. encode trees ++ drop n before) (zero-add (length (encode trees)));
+              buffer = put-at-front (t .put);
             });
       }

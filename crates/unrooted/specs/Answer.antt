@@ -26,8 +26,8 @@ pub record LimitKnown (g : Graph) (kept : List ℕ) (limit : ℕ) (r : AtLimit) 
   pub needs : r .trees ≡ needed g limit
 
 -- The same, crews and a limit that 21 and 22 do not refuse, and room for the bytes of any cover.
-pub record UnrootedAsked (b : List ℕ) (k limit : ℕ) (kept total until : List ℕ) (room : ℕ) : Type 0 where
+pub record UnrootedAnswerAsked (b : List ℕ) (k limit : ℕ) (kept total until : List ℕ) (room : ℕ) : Type 0 where
   pub ready : HistoryReady b kept total until
   pub crews-few : k ≤ 32
-  pub small : limit ≤ 2048000000
+  pub limit-most : limit ≤ 2048000000
   pub enough : 32708 ≤ room

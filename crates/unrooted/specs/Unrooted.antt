@@ -19,7 +19,7 @@ use Rattle.rules.specs.UnrootedTrial.{components, needed, unrootedTrees}
 use Rattle.split.specs.Pieces.{piecesOf, leftPlaces}
 use Rattle.needs.specs.Given.{ForestGiven}
 use Rattle.pieces.specs.Chosen.{byKey}
-use Rattle.unrooted_pieces.specs.Components.{PiecesGiven, SegmentsRisen, LowestSet, KeysWritten}
+use Rattle.unrooted_pieces.specs.Components.{PiecesGiven, SegmentsRisen, LowestSet, Keyed}
 use Rattle.unrooted_pieces.specs.TreePlaces.{treePlaces, PlacesAsked}
 use Rattle.unrooted.specs.declared.unrooted.Split.{Split}
 use Rattle.unrooted.specs.declared.unrooted.Written.{Written}
@@ -27,7 +27,7 @@ use Rattle.unrooted.specs.declared.unrooted.Written.{Written}
 -- The forest at the limit, and room for the pieces of any.
 pub record SplitAsked (b edges : List ℕ) (limit : ℕ) (starts cuts flat lefts : List ℕ) : Type 0 where
   pub forest-given : ForestGiven b edges limit
-  pub small : limit ≤ 2048000000
+  pub limit-most : limit ≤ 2048000000
   pub starts-room : 512 ≤ length starts
   pub cuts-room : 512 < length cuts
   pub flat-room : 256 ≤ length flat
@@ -52,16 +52,16 @@ pub record TreesOrdered (g : Graph) (pieces : ℕ) (lefts starts₀ starts₁ cu
   pub rising : SegmentsRisen cuts pieces flat₀ flat₁
   pub from-lowest : LowestSet g cuts flat₁ pieces starts₀ starts₁
   pub keys : List ℕ
-  pub keyed : KeysWritten starts₁ cuts flat₁ pieces keys
+  pub keyed : Keyed starts₁ cuts flat₁ pieces keys
   pub are : take t chosen ≡ sortBy (byKey keys) (treePlaces cuts 0 lefts)
   pub count : t ≡ length (treePlaces cuts 0 lefts)
   pub room : t ≤ length chosen
 
 -- The forest at a limit whose components need at most 32 trees, and room for the bytes of any such cover.
-pub record TrialAsked (b edges : List ℕ) (limit : ℕ) (buf : List ℕ) : Type 0 where
+pub record UnrootedTreesAsked (b edges : List ℕ) (limit : ℕ) (buf : List ℕ) : Type 0 where
   pub forest-given : ForestGiven b edges limit
   pub needs-few : needed (graphOf b) limit ≤ 32
-  pub small : limit ≤ 2048000000
+  pub limit-most : limit ≤ 2048000000
   pub room : 32708 ≤ length buf
 
 -- The bytes of the answer's trees were written, with everything behind them as it came; r says the weight of the heaviest and how many.

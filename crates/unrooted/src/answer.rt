@@ -11,7 +11,7 @@ ghost use Rattle.rules.specs.Cover.{unrooted};
 ghost use Rattle.rules.specs.Search.{accepts, noCover};
 ghost use Rattle.pieces.specs.Replies.{Answers};
 ghost use Rattle.needs.specs.Given.{ForestKept};
-ghost use Rattle.unrooted.specs.Answer.{HistoryReady, LimitKnown, UnrootedAsked};
+ghost use Rattle.unrooted.specs.Answer.{HistoryReady, LimitKnown, UnrootedAnswerAsked};
 
 // What a limit makes of the whole forest: how many of its edges are within the limit, and how many trees the components there need.
 pub struct AtLimit {
@@ -39,7 +39,7 @@ pub fn answer_unrooted(
     until: &[u16],
     buf: &mut [u8],
 ) -> Reply
-    requires { ⌜ UnrootedAsked (now b) k limit (now kept) (now total) (now until) (length (now buf)) ⌝ }
+    requires { ⌜ UnrootedAnswerAsked (now b) k limit (now kept) (now total) (now until) (length (now buf)) ⌝ }
     ensures { λ r. ⌜ Answers (graphOf (now (b .entry))) (unrooted k) limit (now (buf .entry)) (now (buf .exit)) r ⌝ }
 {
     let at = at_limit(b, limit, kept, total, until);

@@ -11,7 +11,7 @@ use unrooted_pieces::components::set_lowest;
 use unrooted_pieces::components::write_keys;
 use unrooted_pieces::tree_places::tree_places;
 ghost use Rattle.graph.specs.Bytes.{graphOf};
-ghost use Rattle.unrooted.specs.Unrooted.{SplitAsked, ComponentsSplit, OrderAsked, TreesOrdered, TrialAsked, TreesWritten};
+ghost use Rattle.unrooted.specs.Unrooted.{SplitAsked, ComponentsSplit, OrderAsked, TreesOrdered, UnrootedTreesAsked, TreesWritten};
 
 // How many pieces the components were split into, and how many components there are.
 pub struct Split {
@@ -84,7 +84,7 @@ fn order_trees(
 // The trees of the answer at a limit, as the buffer's first bytes: the components at the limit, from the edges of the forest there, split
 // into at most 32 trees. Everything behind the bytes stays.
 pub(crate) fn unrooted_trees(b: &[u8], edges: &[u16], limit: u64, buf: &mut [u8]) -> Written
-    requires { ⌜ TrialAsked (now b) (now edges) limit (now buf) ⌝ }
+    requires { ⌜ UnrootedTreesAsked (now b) (now edges) limit (now buf) ⌝ }
     ensures { λ r. ⌜ TreesWritten (graphOf (now (b .entry))) limit (now (buf .entry)) (now (buf .exit)) r ⌝ }
 {
     let mut starts = [0u16; 512];

@@ -1,5 +1,5 @@
 -- Laws that belong to no one function, in reading order.
--- the lowest vertex of a tree, edge by edge; edges that rise, starts and keys, piece by piece
+-- the lowest vertex of a tree, edge by edge; edges that rise, piece by piece
 pub mod ComponentPieces
 -- the numbers of an answer's trees among the pieces, and what stands at them
 pub mod TreesPlaced

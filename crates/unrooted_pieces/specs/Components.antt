@@ -4,7 +4,7 @@ use Prim.Native.Nat.{ℕ, _+_, _*_, _≤_, _<_, min}
 use mathlib.Core.Path.{_≡_}
 use mathlib.Core.List.{List, foldr}
 use lib.ListN.{length, getD}
-use Rattle.lists.specs.Put.{Put}
+use Rattle.lists.specs.Put.{Put, OnlyFirst}
 use Rattle.lists.specs.Segments.{segment}
 use Rattle.lists.specs.Sort.{rise}
 use Rattle.graph.specs.Graph.{Graph}
@@ -52,16 +52,23 @@ pub record KeysAsked (starts cuts flat : List ℕ) (k : ℕ) (keys : List ℕ) :
 pub record SegmentRisen (cuts : List ℕ) (i : ℕ) (before after : List ℕ) : Type 0 where
   pub put : Put (getD cuts i 0) (rise (segment cuts before i)) before after
 
--- The edges of each of the first k pieces rise now.
+-- The edges of each of the first k pieces rise now, and what stands behind them is as it came.
 pub record SegmentsRisen (cuts : List ℕ) (k : ℕ) (before after : List ℕ) : Type 0 where
   pub size : length after ≡ length before
   pub each : (i : ℕ) → i < k → segment cuts after i ≡ rise (segment cuts before i)
+  pub rest : OnlyFirst (getD cuts k 0) before after
 
--- Each of the first k pieces starts at its lowest vertex now.
+-- Each of the first k pieces starts at its lowest vertex now; the other starts are as they came.
 pub record LowestSet (g : Graph) (cuts flat : List ℕ) (k : ℕ) (before after : List ℕ) : Type 0 where
   pub size : length after ≡ length before
   pub each : (i : ℕ) → i < k → getD after i 0 ≡ lowestOf g (treeAt before cuts flat i)
+  pub rest : OnlyFirst k before after
 
--- The key of each of the first k pieces was written.
-pub record KeysWritten (starts cuts flat : List ℕ) (k : ℕ) (keys : List ℕ) : Type 0 where
+-- The keys are those of the first k pieces.
+pub record Keyed (starts cuts flat : List ℕ) (k : ℕ) (keys : List ℕ) : Type 0 where
   pub each : (i : ℕ) → i < k → getD keys i 0 ≡ keyOf (treeAt starts cuts flat i)
+
+-- They were written, and nothing behind them.
+pub record KeysWritten (starts cuts flat : List ℕ) (k : ℕ) (before after : List ℕ) : Type 0 where
+  pub keyed : Keyed starts cuts flat k after
+  pub rest : OnlyFirst k before after

@@ -1,7 +1,9 @@
 // The pieces of the components as trees (document 01, step 7: "start is the lowest stop of the tree, and order is by start, then by smallest
 // line"). Piece i has the start starts[i] and the edges flat[cuts[i] .. cuts[i + 1]].
+use cover::index::edges_at;
 use edges::index::wide;
 use order::order::rise_edges;
+use pieces::pieces::element_at;
 ghost use mathlib.Core.Path.{_≡_};
 ghost use Prim.Native.Nat.{min};
 ghost use Rattle.graph.specs.Bytes.{graphOf};
@@ -61,9 +63,7 @@ fn piece_lowest(b: &[u8], start: u16, cuts: &[u16], flat: &[u16], i: usize) -> u
     requires { ⌜ PieceHeld (now cuts) (now flat) i ⌝ }
     ensures { λ r. ⌜ LowestFound (graphOf (now (b .entry))) start (segment (now (cuts .entry)) (now (flat .entry)) i) r ⌝ }
 {
-    let from = wide(cuts[i]);
-    let to = wide(cuts[i + 1]);
-    lowest_vertex(b, wide(start), &flat[from..to]) as u16
+    lowest_vertex(b, wide(start), edges_at(cuts, flat, i)) as u16
 }
 
 // Each of the first k pieces starts at its lowest vertex now.
@@ -78,24 +78,19 @@ pub fn set_lowest(b: &[u8], starts: &mut [u16], cuts: &[u16], flat: &[u16], k: u
     }
 }
 
-// A piece's key: its start, then its smallest edge, which is its first.
+// A piece's key: its start, then its smallest edge, which is its first; 0 stands for it where there is none.
 fn piece_key(start: u16, cuts: &[u16], flat: &[u16], i: usize) -> u32
     requires { ⌜ PieceHeld (now cuts) (now flat) i ⌝ }
     ensures { λ r. ⌜ r ≡ keyOf (treeOf start (segment (now (cuts .entry)) (now (flat .entry)) i)) ⌝ }
 {
-    let from = wide(cuts[i]);
-    let to = wide(cuts[i + 1]);
     let by_start = wide(start) * 65536;
-    if from < to {
-        return (by_start + wide(flat[from])) as u32;
-    }
-    by_start as u32
+    (by_start + wide(element_at(edges_at(cuts, flat, i), 0))) as u32
 }
 
 // The keys of the first k pieces.
 pub fn write_keys(starts: &[u16], cuts: &[u16], flat: &[u16], k: usize, keys: &mut [u32])
     requires { ⌜ KeysAsked (now starts) (now cuts) (now flat) k (now keys) ⌝ }
-    ensures { λ _. ⌜ KeysWritten (now (starts .entry)) (now (cuts .entry)) (now (flat .entry)) k (now (keys .exit)) ⌝ }
+    ensures { λ _. ⌜ KeysWritten (now (starts .entry)) (now (cuts .entry)) (now (flat .entry)) k (now (keys .entry)) (now (keys .exit)) ⌝ }
 {
     let mut i = 0;
     while i < k {

@@ -14,7 +14,8 @@ use Rattle.lists.proofs.Put.{put-length}
 use Rattle.lists.proofs.Sorting.{rise-length}
 use Rattle.pieces.specs.Pieces.{Laid}
 use Rattle.deficient.specs.TooLowParts.{edgesOf}
-use Rattle.pieces.proofs.LaidLists.{laid-none, laid-more, sum-next}
+use Rattle.lists.proofs.SumLeft.{sum-next}
+use Rattle.pieces.proofs.LaidLists.{laid-none, laid-more}
 use Rattle.deficient.proofs.lay_edges.Statement.{statement}
 use Rattle.deficient.proofs.lay_edges.Tie as tie
 

@@ -8,7 +8,7 @@ use lib.ListN.{length, getD, length-set}
 use lib.Seq.{slice}
 use borrow.Author.Needs.{needs}
 use Rattle.lists.specs.Segments.{segment}
-use Rattle.pieces.proofs.LaidLists.{stored-more}
+use Rattle.lists.proofs.SetUpTo.{stored-more}
 use Rattle.deficient.proofs.take_keys.Statement.{statement}
 use Rattle.deficient.proofs.take_keys.Tie as tie
 

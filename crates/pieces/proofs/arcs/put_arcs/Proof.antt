@@ -63,7 +63,7 @@ returns : tie.Need-returns
 returns c =
     let p = c .before .before .before .before in
     let r = let d = p .before .before .before in d .before .before in
-    record { around = rw (rises r) at (p .put-around .ensures .around) }
+    rw (rises r) at (p .put-around .ensures)
 
 pub put-arcs-spec : {M : Type 1} → statement M
 put-arcs-spec =

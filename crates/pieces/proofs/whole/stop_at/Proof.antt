@@ -1,7 +1,8 @@
 -- `pieces::whole::stop_at` meets its contract: the labels that the edges make are held against the first root's. Assumes nothing.
 use native.Mathlib.Omega.{arith}
 use borrow.Author.Needs.{needs}
-use Rattle.pieces.proofs.WholeForest.{first-in, stop-found}
+use Rattle.lists.proofs.Places.{at-place}
+use Rattle.pieces.proofs.WholeForest.{stop-found}
 use Rattle.pieces.proofs.whole.stop_at.Statement.{statement}
 use Rattle.pieces.proofs.whole.stop_at.Tie as tie
 
@@ -25,7 +26,7 @@ lowest-unjoined-requires : tie.Need-lowest-unjoined-requires
 lowest-unjoined-requires c κs =
     let s = start c in
     let roots = s .args .roots .now in
-    (omega (arith, s .pre .roots-inside _ (first-in roots (s .pre .roots-some))), omega arith)
+    (omega (arith, s .pre .roots-inside _ (at-place 0 roots 0 (s .pre .roots-some))), omega arith)
 
 same-length : tie.Need-same-length
 same-length c = search needs

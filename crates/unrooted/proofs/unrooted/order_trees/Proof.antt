@@ -83,7 +83,7 @@ returns c =
     let k = let d = o .before .before in d .before .before in
     let w = lowered k in
     let r = raised w in
-    trees-ordered (r .rise-segments .ensures) (w .set-lowest .ensures) (k .write-keys .ensures) (placed r .tree-places .ensures) (o .sort-chosen .ensures)
+    trees-ordered (r .rise-segments .ensures) (w .set-lowest .ensures) (k .write-keys .ensures .keyed) (placed r .tree-places .ensures) (o .sort-chosen .ensures)
 
 pub order-trees-spec : {M : Type 1} → statement M
 order-trees-spec =

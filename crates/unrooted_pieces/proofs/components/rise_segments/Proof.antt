@@ -44,7 +44,7 @@ same-length : tie.Need-same-length Inv-loop μ-loop
 same-length c = search needs
 
 returns : tie.Need-returns Inv-loop μ-loop
-returns c = let u = c .before .loop .inv .1 in record { size = u .size; each = λ j h. u .done j (omega arith) }
+returns c = let u = c .before .loop .inv .1 in record { size = u .size; each = λ j h. u .done j (omega arith); rest = u .only }
 
 pub rise-segments-spec : {M : Type 1} → statement M
 rise-segments-spec =

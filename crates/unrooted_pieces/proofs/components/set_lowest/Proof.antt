@@ -10,7 +10,8 @@ use Rattle.graph.specs.Bytes.{graphOf}
 use Rattle.rules.specs.Held.{treeAt}
 use Rattle.pieces.specs.Pieces.{treeOf}
 use Rattle.unrooted_pieces.specs.Components.{lowestOf}
-use Rattle.unrooted_pieces.proofs.ComponentPieces.{SetUpTo, set-none, set-more}
+use Rattle.lists.proofs.SetUpTo.{SetUpTo, set-none, set-more, set-only-first}
+use Rattle.lists.proofs.OnlyFirst.{only-first-of-more}
 use Rattle.unrooted_pieces.proofs.components.set_lowest.Statement.{statement}
 use Rattle.unrooted_pieces.proofs.components.set_lowest.Tie as tie
 
@@ -66,7 +67,7 @@ same-length c = search needs
 
 returns : tie.Need-returns Inv-loop μ-loop
 unfolding treeAt
-returns c = let u = c .before .loop .inv .1 in record { size = u .size; each = λ j h. u .done j (omega arith) }
+returns c = let u = c .before .loop .inv .1 in record { size = u .size; each = λ j h. u .done j (omega arith); rest = only-first-of-more (set-only-first u) _ (c .before .loop .inv .0) }
 
 pub set-lowest-spec : {M : Type 1} → statement M
 set-lowest-spec =

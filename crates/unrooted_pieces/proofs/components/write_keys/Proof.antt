@@ -8,7 +8,8 @@ use Rattle.lists.specs.Segments.{segment}
 use Rattle.rules.specs.Held.{treeAt}
 use Rattle.pieces.specs.Pieces.{treeOf}
 use Rattle.unrooted_pieces.specs.Components.{keyOf}
-use Rattle.unrooted_pieces.proofs.ComponentPieces.{SetUpTo, set-none, set-more}
+use Rattle.lists.proofs.SetUpTo.{SetUpTo, set-none, set-more, set-only-first}
+use Rattle.lists.proofs.OnlyFirst.{only-first-of-more}
 use Rattle.unrooted_pieces.proofs.components.write_keys.Statement.{statement}
 use Rattle.unrooted_pieces.proofs.components.write_keys.Tie as tie
 
@@ -55,7 +56,9 @@ same-length c = search needs
 
 returns : tie.Need-returns Inv-loop μ-loop
 unfolding treeAt
-returns c = record { each = λ j h. c .before .loop .inv .1 .done j (omega arith) }
+returns c =
+    let v = c .before .loop .inv in
+    record { keyed = record { each = λ j h. v .1 .done j (omega arith) }; rest = only-first-of-more (set-only-first (v .1)) _ (v .0) }
 
 pub write-keys-spec : {M : Type 1} → statement M
 write-keys-spec =

@@ -4,10 +4,11 @@ use Prim.Native.Nat.{ℕ, _+_, _-_, _≤_}
 use mathlib.Core.Path.{_≡_, ap, _∙_}
 use mathlib.Core.List.{_++_}
 use native.Mathlib.Omega.{arith}
-use lib.ListN.{length, getD, drop, length-append}
+use lib.ListN.{length, getD, drop}
 use borrow.Author.Needs.{needs}
 use Rattle.lists.proofs.NextPlace.{rest-next, rest-none}
-use Rattle.lists.proofs.PutOneByOne.{PutSoFar, so-far-none, so-far-on, so-far-all, so-far-behind}
+use Rattle.lists.proofs.PutOneByOne.{PutSoFar, so-far-none, so-far-on, so-far-all}
+use Rattle.lists.proofs.RoomLeft.{so-far-room}
 use Rattle.lists.proofs.Runs.{length-from}
 use Rattle.unrooted_pieces.specs.TreePlaces.{run, treeEnd, treePlaces}
 use Rattle.unrooted_pieces.proofs.TreesPlaced.{end-most, places-next, places-none}
@@ -45,14 +46,9 @@ module _ (w : tie.After-wide Inv-loop μ-loop) where
   -- there is room for its component's numbers
   room : l .loop .next + (ending - l .loop .first) ≤ length (l .loop .out)
   room =
-      let putting = l .loop .inv in
       omega (
         arith,
-        so-far-behind putting,
-        putting .same,
-        s .pre .room,
-        ap length next-is,
-        length-append (run (l .loop .first) ending) (treePlaces (s .args .cuts .now) (left + 1) (drop (l .loop .j + 1) (s .args .lefts .now))),
+        so-far-room (l .loop .inv) (run (l .loop .first) ending) _ next-is (omega (arith, s .pre .room)),
         length-from (l .loop .first) (ending - l .loop .first),
       )
 
