@@ -9,9 +9,10 @@ use native.Mathlib.Omega.{arith}
 use lib.ListN.{length, getD, take}
 use lib.Seq.{take-all}
 use borrow.Author.Tests.{eq-eqb}
-use Rattle.lists.specs.Count.{count}
+use Rattle.lists.specs.Count.{count, below}
+use Rattle.lists.specs.Lists.{sumOf}
 use Rattle.lists.proofs.Pigeonhole.{count-same, count-all}
-use Rattle.lists.proofs.SumsAlike.{length-sum}
+use Rattle.lists.proofs.SumsAlike.{sum-same, sum-plus, length-sum}
 use Rattle.graph.specs.Graph.{Graph, oneEnd, otherEnd}
 use Rattle.graph.specs.Valid.{Valid}
 use Rattle.graph.proofs.Ranges.{one-end-below, other-end-below}
@@ -22,9 +23,9 @@ use Rattle.forest_laws.proofs.Merging.{JoinsEnds}
 use Rattle.forest_laws.proofs.VertexLabels.{VertexLabels, own, merge-vertices, apart-vertices, merged-vertices}
 use Rattle.forest_laws.proofs.Loops.{AllKept, all-none, all-next}
 use Rattle.planner_laws.proofs.OwnLabels.{sum-by-own, needed-by-own}
-use Rattle.needs.specs.Given.{labelWeight}
-use Rattle.needs.specs.History.{sumTo, componentsSum, valueAt, neededBy}
-use Rattle.needs.proofs.SumsTo.{sum-to-same, sum-to-plus, sum-to-count, sum-to-filter}
+use Rattle.needs.specs.History.{valueAt, neededBy}
+use Rattle.needs.proofs.ComponentWeights.{labelWeight, componentsSum}
+use Rattle.needs.proofs.SumsBelow.{sum-below-count, sum-filter}
 use Rattle.needs.proofs.MergedWeights.{own-fewer}
 
 module _ {g : Graph} where
@@ -62,8 +63,8 @@ module _ {g : Graph} where
           arith,
           length-sum (lowest g label),
           sum-by-own g label (merged-vertices valid (apart-vertices (g .vertices)) kept) (λ _. 1),
-          sum-to-filter (own label) (λ _. 1) (g .vertices),
-          sum-to-count (g .vertices) (own label),
+          sum-filter (own label) (λ _. 1) (below (g .vertices)),
+          sum-below-count (g .vertices) (own label),
           ap (λ l. count (g .vertices) (own (mergeAll g apart l))) all,
           own-left k (apart-vertices (g .vertices)) (length kept) (omega arith),
           own-apart,
@@ -76,11 +77,11 @@ module _ {g : Graph} where
         let label = mergeAll g apart E in
         let more : ℕ → ℕ = λ v. labelWeight g label E v / (2 * limit) in
         needed-by-own valid limit E are
-        ∙ sum-to-filter (own label) (λ v. 1 + more v) (g .vertices)
-        ∙ sum-to-same (g .vertices) (λ v. cond (own label v) (1 + more v) 0) (λ v. cond (own label v) 1 0 + cond (own label v) (more v) 0)
-        (λ v l. both (own label v) (more v))
-        ∙ sum-to-plus (g .vertices) (λ v. cond (own label v) 1 0) (λ v. cond (own label v) (more v) 0)
-        ∙ ap (λ k. k + componentsSum g label E (λ w. w / (2 * limit))) (sym (sum-to-count (g .vertices) (own label)))
+        ∙ sum-filter (own label) (λ v. 1 + more v) (below (g .vertices))
+        ∙ sum-same (λ v. cond (own label v) (1 + more v) 0) (λ v. cond (own label v) 1 0 + cond (own label v) (more v) 0) (below (g .vertices))
+        (λ v m. both (own label v) (more v))
+        ∙ sum-plus (λ v. cond (own label v) 1 0) (λ v. cond (own label v) (more v) 0) (below (g .vertices))
+        ∙ ap (λ k. k + componentsSum g label E (λ w. w / (2 * limit))) (sym (sum-below-count (g .vertices) (own label)))
       where
         both : (b : Bool) (x : ℕ) → cond b (1 + x) 0 ≡ cond b 1 0 + cond b x 0
         both true x = refl
@@ -88,7 +89,7 @@ module _ {g : Graph} where
 
     -- So does the history, whose sums are those of the components' weights.
     pub history-needs : {kept : List ℕ} (total until : List ℕ) → AllKept g apart kept → (limit light : ℕ) → light ≤ length kept → take light kept ≡ forest g apart limit
-        → sumTo (light + 1) (valueAt (λ w. w / (2 * limit)) (λ i. getD total i 0) (λ i. getD until i 0) light)
+        → sumOf (valueAt (λ w. w / (2 * limit)) (λ i. getD total i 0) (λ i. getD until i 0) light) (below (light + 1))
         ≡ componentsSum g (mergeAll g apart (take light kept)) (take light kept) (λ w. w / (2 * limit))
         → neededBy (g .vertices) total until light limit ≡ needed g limit
     history-needs {kept} total until k limit light h are sums =

@@ -9,8 +9,13 @@ use native.Mathlib.Omega.{arith}
 use lib.ListN.{getD}
 use lib.Dec.{ltb}
 use borrow.Author.Tests.{lt-ltb, le-ltb}
-use Rattle.needs.specs.History.{sumTo, valueAt, neededBy, ReadAsked}
-use Rattle.needs.proofs.SumsTo.{sum-to-more, sum-to-most}
+use Rattle.lists.specs.Count.{from, below}
+use Rattle.lists.specs.Lists.{sumOf}
+use Rattle.lists.proofs.Below.{of-below}
+use Rattle.lists.proofs.Bounds.{sum-most}
+use Rattle.lists.proofs.Runs.{length-below}
+use Rattle.needs.specs.History.{valueAt, neededBy, ReadAsked}
+use Rattle.needs.proofs.SumsBelow.{sum-below-more}
 
 -- What one merge's tree needs: nothing where it is taken up, nothing at the limit 0, and otherwise one for each 2 B, where halving may come last.
 module _ (weight until light limit : ℕ) where
@@ -43,12 +48,12 @@ value total until light limit = valueAt (λ w. w / (2 * limit)) (λ i. getD tota
 
 -- The merges before i were summed, beside the number of components.
 pub record Reading (n : ℕ) (total until : List ℕ) (light limit i sum : ℕ) : Type 0 where
-  pub so-far : sum ≡ n - light + sumTo i (value total until light limit)
+  pub so-far : sum ≡ n - light + sumOf (value total until light limit) (below i)
   pub passed : i ≤ light + 1
 
 module _ {n light : ℕ} {total until : List ℕ} (asked : ReadAsked n total until light) (limit : ℕ) where
   pub reading-none : Reading n total until light limit 0 (n - light)
-  unfolding sumTo
+  unfolding below from sumOf
   reading-none = record { so-far = omega arith; passed = omega arith }
 
   value-most : (i : ℕ) → i ≤ light → value total until light limit i ≤ 256000000
@@ -62,15 +67,16 @@ module _ {n light : ℕ} {total until : List ℕ} (asked : ReadAsked n total unt
             arith,
             r .so-far,
             value-most i h,
-            sum-to-most i (value total until light limit) 256000000 (λ k l. value-most k (omega arith)),
+            sum-most (value total until light limit) 256000000 (below i) (λ k m. let l = of-below i m in value-most k (omega arith)),
+            length-below i,
             asked .vertices-most,
             asked .light-few,
           )
 
       pub reading-more : Reading n total until light limit (i + 1) (sum + value total until light limit i)
-      reading-more = record { so-far = omega (arith, r .so-far, sum-to-more i (value total until light limit)); passed = omega arith }
+      reading-more = record { so-far = omega (arith, r .so-far, sum-below-more i (value total until light limit)); passed = omega arith }
 
     pub reading-all : light < i → sum ≡ neededBy n total until light limit
     reading-all h =
         let all : i ≡ light + 1 = omega (arith, r .passed) in
-        r .so-far ∙ ap (λ k. n - light + sumTo k (value total until light limit)) all
+        r .so-far ∙ ap (λ k. n - light + sumOf (value total until light limit) (below k)) all

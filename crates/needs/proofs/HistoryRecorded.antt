@@ -7,10 +7,13 @@ use mathlib.Core.List.{List, [], _∷_, _++_}
 use native.Mathlib.Nat.{zero-div}
 use native.Mathlib.Omega.{arith}
 use lib.ListN.{length, getD, take}
+use Rattle.lists.specs.Count.{from, below}
 use Rattle.lists.specs.Lists.{filter, sumOf}
+use Rattle.lists.specs.Put.{OnlyFirst}
 use Rattle.lists.proofs.AfterStore.{at-or-not}
 use Rattle.lists.proofs.Bounds.{sum-most}
 use Rattle.lists.proofs.OneMore.{sum-first}
+use Rattle.lists.proofs.SumsAlike.{sum-zero}
 use Rattle.lists.proofs.TakeDrop.{take-more}
 use Rattle.graph.specs.Graph.{Graph, oneEnd, otherEnd, weightOf}
 use Rattle.graph.specs.Valid.{Valid}
@@ -21,12 +24,12 @@ use Rattle.forest_laws.proofs.Merging.{merged-append}
 use Rattle.forest_laws.proofs.VertexLabels.{VertexLabels, own, apart-vertices, merged-vertices}
 use Rattle.forest_laws.proofs.Loops.{AllKept}
 use Rattle.forest.specs.Arrays.{Agrees}
-use Rattle.needs.specs.Given.{labelWeight}
-use Rattle.needs.specs.History.{sumTo, componentsSum, valueAt, HistoryKept, NoteAsked, EdgeMerged}
-use Rattle.needs.proofs.SumsTo.{sum-to-more, sum-to-zero}
+use Rattle.needs.specs.History.{valueAt, HistoryKept, NoteAsked, EdgeMerged}
+use Rattle.needs.proofs.ComponentWeights.{labelWeight, componentsSum}
+use Rattle.needs.proofs.SumsBelow.{sum-below-more}
 use Rattle.needs.proofs.MergedWeights.{label-no-more, own-kept}
 use Rattle.needs.proofs.MergeHistory.{Alive, Noted, value-none, alive-more, sum-earlier, sum-now}
-use Rattle.needs.proofs.NotedPlaces.{at, note-of, noted-of, noted-places}
+use Rattle.needs.proofs.NotedPlaces.{at, note-of, noted-of, noted-places, noted-only}
 use Rattle.needs.proofs.HistoryNeeds.{ends-apart, history-needs}
 
 -- The labels that the first j edges make.
@@ -38,7 +41,7 @@ pub record Recorded (g : Graph) (kept : List ℕ) (j : ℕ) (label made total un
   pub labels : Agrees (g .vertices) label (labelsAfter g kept j)
   pub alive : Alive g (labelsAfter g kept j) (take j kept) j (at made) (at total) (at until)
   pub sums : (φ : ℕ → ℕ) → φ 0 ≡ 0 → (light : ℕ) → light ≤ j
-      → sumTo (light + 1) (valueAt φ (at total) (at until) light) ≡ componentsSum g (labelsAfter g kept light) (take light kept) φ
+      → sumOf (valueAt φ (at total) (at until) light) (below (light + 1)) ≡ componentsSum g (labelsAfter g kept light) (take light kept) φ
   pub small : (i : ℕ) → i ≤ j → at total i ≤ 256000000
 
 -- There is room for a label and a merge of each vertex, and for 256 merges.
@@ -48,12 +51,14 @@ pub record Room (n : ℕ) (label made total until : List ℕ) : Type 0 where
   pub totals : 256 ≤ length total
   pub untils : 256 ≤ length until
 
--- The arrays are as long as they came.
-pub record Sizes (label₀ made₀ total₀ until₀ label made total until : List ℕ) : Type 0 where
+-- The arrays are as long as they came, and of the history only the first m places changed.
+pub record Sizes (m : ℕ) (label₀ made₀ total₀ until₀ label made total until : List ℕ) : Type 0 where
   pub labels : length label ≡ length label₀
   pub mades : length made ≡ length made₀
   pub totals : length total ≡ length total₀
   pub untils : length until ≡ length until₀
+  pub total-only : OnlyFirst m total₀ total
+  pub until-only : OnlyFirst m until₀ until
 
 module _ {g : Graph} (valid : Valid g) {kept : List ℕ} (k : AllKept g apart kept) (few : length kept < g .vertices) where
   -- No tree weighs more than 256 edges can.
@@ -107,6 +112,9 @@ module _ {g : Graph} (valid : Valid g) {kept : List ℕ} (k : AllKept g apart ke
       m : EdgeMerged g e (j + 1) label label' made made' total total' until until'
       m = subst (λ d. EdgeMerged g d (j + 1) label label' made made' total total' until until') q n
 
+      pub merged-only : (b : ℕ) → j + 1 < b → OnlyFirst b total total' × OnlyFirst b until until'
+      merged-only = noted-only j asked (noted-of one-label other-label refl (m .noted))
+
       noted : Noted (before (oneEnd g e)) (before (otherEnd g e)) (weightOf g e) j (at made) (at made') (at total) (at total') (at until) (at until')
       noted = noted-places j asked (noted-of one-label other-label refl (m .noted))
 
@@ -127,9 +135,9 @@ module _ {g : Graph} (valid : Valid g) {kept : List ℕ} (k : AllKept g apart ke
       alive-next = alive-more g before vertices e (one-end-below valid e) (other-end-below valid e) apart-ends few-more (r .alive) noted
 
       sums-next : (φ : ℕ → ℕ) → φ 0 ≡ 0 → (light : ℕ) → light ≤ j + 1
-          → sumTo (light + 1) (valueAt φ (at total') (at until') light) ≡ componentsSum g (labelsAfter g kept light) (take light kept) φ
+          → sumOf (valueAt φ (at total') (at until') light) (below (light + 1)) ≡ componentsSum g (labelsAfter g kept light) (take light kept) φ
       sums-next φ zero light l =
-          at-or-not (λ i. i ≤ j + 1 → sumTo (i + 1) (valueAt φ (at total') (at until') i) ≡ componentsSum g (labelsAfter g kept i) (take i kept) φ) (j + 1) light
+          at-or-not (λ i. i ≤ j + 1 → sumOf (valueAt φ (at total') (at until') i) (below (i + 1)) ≡ componentsSum g (labelsAfter g kept i) (take i kept) φ) (j + 1) light
           (λ _.
           rw (labels-more, edges-more)
           (sum-now g before vertices e (one-end-below valid e) (other-end-below valid e) apart-ends few-more (r .alive) noted φ zero (r .sums φ zero j (omega arith))))
@@ -181,7 +189,7 @@ module _ (g : Graph) where
   no-weight v = refl
 
   no-sum : (φ : ℕ → ℕ) → φ 0 ≡ 0 → componentsSum g apart [] φ ≡ 0
-  no-sum φ zero = sum-to-zero (g .vertices) (λ v. cond (own apart v) (φ (labelWeight g apart [] v)) 0) (λ v l. go (own apart v) v)
+  no-sum φ zero = sum-zero (λ v. cond (own apart v) (φ (labelWeight g apart [] v)) 0) (below (g .vertices)) (λ v m. go (own apart v) v)
     where
       go : (b : Bool) (v : ℕ) → cond b (φ (labelWeight g apart [] v)) 0 ≡ 0
       go true v = ap φ (no-weight v) ∙ zero
@@ -189,9 +197,9 @@ module _ (g : Graph) where
 
   module _ (kept : List ℕ) (label made total until : List ℕ) (labels : Agrees (g .vertices) label apart) (made-none : (v : ℕ) → at made v ≡ 0)
       (none : at total 0 ≡ 0) where
-    first-sum : (φ : ℕ → ℕ) → φ 0 ≡ 0 → sumTo (0 + 1) (valueAt φ (at total) (at until) 0) ≡ componentsSum g (labelsAfter g kept 0) (take 0 kept) φ
-    unfolding mergeAll sumTo
-    first-sum φ zero = omega (arith, sum-to-more 0 (valueAt φ (at total) (at until) 0), value-none φ (at total) (at until) 0 0 zero none, no-sum φ zero)
+    first-sum : (φ : ℕ → ℕ) → φ 0 ≡ 0 → sumOf (valueAt φ (at total) (at until) 0) (below (0 + 1)) ≡ componentsSum g (labelsAfter g kept 0) (take 0 kept) φ
+    unfolding mergeAll below from sumOf
+    first-sum φ zero = omega (arith, sum-below-more 0 (valueAt φ (at total) (at until) 0), value-none φ (at total) (at until) 0 0 zero none, no-sum φ zero)
 
     pub recorded-none : Recorded g kept 0 label made total until
     unfolding mergeAll
@@ -209,7 +217,7 @@ module _ (g : Graph) where
               };
           sums =
               λ φ zero light l.
-              at-or-not (λ i. i ≤ 0 → sumTo (i + 1) (valueAt φ (at total) (at until) i) ≡ componentsSum g (labelsAfter g kept i) (take i kept) φ) 0 light
+              at-or-not (λ i. i ≤ 0 → sumOf (valueAt φ (at total) (at until) i) (below (i + 1)) ≡ componentsSum g (labelsAfter g kept i) (take i kept) φ) 0 light
               (λ _. first-sum φ zero) (λ away q. absurd (omega arith)) l;
           small = λ i l. at-or-not (λ x. x ≤ 0 → at total x ≤ 256000000) 0 i (λ _. omega (arith, none)) (λ away q. absurd (omega arith)) l;
         }

@@ -2,7 +2,9 @@
 -- what the labels of edges show of the components
 pub mod ComponentsLabelled
 -- sums over the numbers below a bound
-pub mod SumsTo
+pub mod SumsBelow
+-- the weights of the components by their labels
+pub mod ComponentWeights
 -- what one merge makes of the components' weights
 pub mod MergedWeights
 -- the history of merges, one merge after the other

@@ -10,13 +10,17 @@ use native.Mathlib.Decide.{ℕ-discrete}
 use native.Mathlib.Omega.{arith}
 use lib.Dec.{ltb}
 use borrow.Author.Tests.{ltb-true, ltb-false, lt-ltb, le-ltb}
+use Rattle.lists.specs.Count.{below}
+use Rattle.lists.specs.Lists.{sumOf}
 use Rattle.lists.proofs.AfterStore.{at-or-not}
+use Rattle.lists.proofs.Below.{of-below}
+use Rattle.lists.proofs.SumsAlike.{sum-same}
 use Rattle.graph.specs.Graph.{Graph, oneEnd, otherEnd, weightOf}
 use Rattle.rules.specs.Labels.{Labels, mergeEdge}
 use Rattle.forest_laws.proofs.VertexLabels.{VertexLabels, own}
-use Rattle.needs.specs.Given.{labelWeight}
-use Rattle.needs.specs.History.{sumTo, componentsSum, valueAt}
-use Rattle.needs.proofs.SumsTo.{sum-to-more, sum-to-same, sum-to-two}
+use Rattle.needs.specs.History.{valueAt}
+use Rattle.needs.proofs.ComponentWeights.{labelWeight, componentsSum}
+use Rattle.needs.proofs.SumsBelow.{sum-below-more, sum-below-two}
 use Rattle.needs.proofs.MergedWeights.{is-own, own-lost, own-other, added-kept, added-other, sum-merged}
 
 -- After j merges: `made` has, at each vertex that is its own label, the merge that completed its component's tree, 0 where there was none. No merge
@@ -169,8 +173,8 @@ module _ (g : Graph) (label : Labels) (s : VertexLabels (g .vertices) label) (e 
             dite (ℕ-discrete i (made c)) (λ q. rw q (earlier-at c c-below own-c (omega arith) (t .until-other))) λ dc.
             ap₂ (λ x y. cond (ltb light x) (φ y) 0) (t .until-old i (omega arith) da dc) (t .total-old i (omega arith)))
 
-        pub sum-earlier : sumTo (light + 1) (valueAt φ total' until' light) ≡ sumTo (light + 1) (valueAt φ total until light)
-        sum-earlier = sum-to-same (light + 1) (valueAt φ total' until' light) (valueAt φ total until light) earlier-each
+        pub sum-earlier : sumOf (valueAt φ total' until' light) (below (light + 1)) ≡ sumOf (valueAt φ total until light) (below (light + 1))
+        sum-earlier = sum-same (valueAt φ total' until' light) (valueAt φ total until light) (below (light + 1)) (λ i m. earlier-each i (of-below (light + 1) m))
 
       -- The sum after this merge loses the values of the two trees that it takes up, and gains that of the tree that it completes.
       abbrev now : ℕ → ℕ
@@ -210,7 +214,7 @@ module _ (g : Graph) (label : Labels) (s : VertexLabels (g .vertices) label) (e 
       both-one : made a ≡ made c → now (made a) ≡ was (made a)
       both-one q = dite (ℕ-discrete (made a) 0) (both-none (made a)) (λ some. absurd (apart (m .differ a c a-below c-below own-a own-c q (omega arith))))
 
-      pub sum-now : sumTo (j + 1) was ≡ componentsSum g label edges φ → sumTo (j + 1 + 1) now ≡ componentsSum g after (edges ++ (e ∷ [])) φ
+      pub sum-now : sumOf was (below (j + 1)) ≡ componentsSum g label edges φ → sumOf now (below (j + 1 + 1)) ≡ componentsSum g after (edges ++ (e ∷ [])) φ
       sum-now so-far =
           let new : now (j + 1) ≡ φ (weightOf g e + (labelWeight g label edges a + labelWeight g label edges c)) =
           value-there φ total' until' (j + 1) (j + 1) (omega (arith, t .until-new))
@@ -219,11 +223,11 @@ module _ (g : Graph) (label : Labels) (s : VertexLabels (g .vertices) label) (e 
             arith,
             new,
             so-far,
-            sum-to-more (j + 1) now,
+            sum-below-more (j + 1) now,
             value-gone φ total' until' (j + 1) (made a) (omega (arith, t .until-one)),
             value-gone φ total' until' (j + 1) (made c) (omega (arith, t .until-other)),
             was-there a a-below own-a,
             was-there c c-below own-c,
-            sum-to-two (j + 1) now was (made a) (made c) (omega (arith, m .before a a-below)) (omega (arith, m .before c c-below)) both-same both-one,
+            sum-below-two (j + 1) now was (made a) (made c) (omega (arith, m .before a a-below)) (omega (arith, m .before c c-below)) both-same both-one,
             sum-merged g label s e apart one other edges φ,
           )

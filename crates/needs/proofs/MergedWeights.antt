@@ -19,9 +19,8 @@ use Rattle.graph.specs.Graph.{Graph, oneEnd, otherEnd, weightOf}
 use Rattle.rules.specs.Walk.{totalWeight}
 use Rattle.rules.specs.Labels.{Labels, merge, mergeEdge}
 use Rattle.forest_laws.proofs.VertexLabels.{VertexLabels, own, Cases, merge-each}
-use Rattle.needs.specs.Given.{labelWeight}
-use Rattle.needs.specs.History.{componentsSum}
-use Rattle.needs.proofs.SumsTo.{sum-next, sum-to-but, sum-to-two, sum-to-count}
+use Rattle.needs.proofs.ComponentWeights.{labelWeight, componentsSum}
+use Rattle.needs.proofs.SumsBelow.{sum-filter-next, sum-below-but, sum-below-two, sum-below-count}
 
 -- No label has more weight than all edges together.
 pub label-no-more : (g : Graph) (label : Labels) (edges : List ℕ) (x : ℕ) → labelWeight g label edges x ≤ totalWeight g edges
@@ -96,9 +95,9 @@ module _ (g : Graph) (label : Labels) (s : VertexLabels (g .vertices) label) (e 
     weight-kept (x ∷ E) =
         omega (
           arith,
-          sum-next (λ d. eqb a (after (oneEnd g d))) (weightOf g) x E,
-          sum-next (λ d. eqb a (label (oneEnd g d))) (weightOf g) x E,
-          sum-next (λ d. eqb c (label (oneEnd g d))) (weightOf g) x E,
+          sum-filter-next (λ d. eqb a (after (oneEnd g d))) (weightOf g) x E,
+          sum-filter-next (λ d. eqb a (label (oneEnd g d))) (weightOf g) x E,
+          sum-filter-next (λ d. eqb c (label (oneEnd g d))) (weightOf g) x E,
           part-kept (oneEnd g x) (weightOf g x),
           weight-kept E,
         )
@@ -124,7 +123,7 @@ module _ (g : Graph) (label : Labels) (s : VertexLabels (g .vertices) label) (e 
           arith,
           ap (sumOf (weightOf g)) (filter-append (λ d. eqb x (after (oneEnd g d))) E (e ∷ [])),
           sum-append (weightOf g) (filter (λ d. eqb x (after (oneEnd g d))) E) (filter (λ d. eqb x (after (oneEnd g d))) (e ∷ [])),
-          sum-next (λ d. eqb x (after (oneEnd g d))) (weightOf g) e [],
+          sum-filter-next (λ d. eqb x (after (oneEnd g d))) (weightOf g) e [],
         )
 
     pub added-kept : (E : List ℕ) → labelWeight g after (E ++ (e ∷ [])) a ≡ weightOf g e + (labelWeight g label E a + labelWeight g label E c)
@@ -144,9 +143,9 @@ module _ (g : Graph) (label : Labels) (s : VertexLabels (g .vertices) label) (e 
           let was : here c ≡ 1 = rw (is-own (otherEnd g e)) in
           omega (
             arith,
-            sum-to-count n (own after),
-            sum-to-count n (own label),
-            sum-to-but n there here c (s .below (otherEnd g e) other) (λ v l d. ap (λ t. cond t 1 0) (own-other v d)),
+            sum-below-count n (own after),
+            sum-below-count n (own label),
+            sum-below-but n there here c (s .below (otherEnd g e) other) (λ v l d. ap (λ t. cond t 1 0) (own-other v d)),
           )
 
       -- The sum of a value loses those of the two weights, and gains that of the new one.
@@ -163,7 +162,7 @@ module _ (g : Graph) (label : Labels) (s : VertexLabels (g .vertices) label) (e 
           let was-c : here c ≡ φ (labelWeight g label E c) = rw (is-own (otherEnd g e)) in
           omega (
             arith,
-            sum-to-two n there here a c (s .below (oneEnd g e) one) (s .below (otherEnd g e) other)
+            sum-below-two n there here a c (s .below (oneEnd g e) one) (s .below (otherEnd g e) other)
                 (λ v l da dc. ap₂ (λ t w. cond t (φ w) 0) (own-other v dc) (added-other E v da dc))
                 (λ q. absurd (differ q)),
           )

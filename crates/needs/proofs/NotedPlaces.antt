@@ -1,12 +1,14 @@
 -- What a merge's note changes in the arrays, place by place.
 -- Assumes nothing.
-use Prim.Native.Nat.{ℕ, _+_, _≤_}
+use Prim.Native.Nat.{ℕ, _+_, _≤_, _<_}
 use mathlib.Core.Path.{_≡_, refl, sym, ap, subst, _∙_}
 use mathlib.Core.List.{List}
 use native.Mathlib.Omega.{arith}
 use lib.ListN.{length, getD, set, length-set}
 use lib.Seq.{getD-set-same, getD-set-other}
+use Rattle.lists.specs.Put.{OnlyFirst}
 use Rattle.lists.proofs.AfterStore.{after-store}
+use Rattle.lists.proofs.OnlyFirst.{only-first-none, only-first-store}
 use Rattle.needs.specs.History.{NoteAsked, MergeNoted}
 use Rattle.needs.proofs.MergeHistory.{Noted}
 
@@ -74,3 +76,13 @@ module _ {a c w : ℕ} (j : ℕ) {made₀ made₁ total₀ total₁ until₀ unt
         made-new = ap (λ l. getD l a 0) (n .made-is) ∙ getD-set-same made₀ a (j + 1) 0 (asked .one-label);
         made-old = λ v away. ap (λ l. getD l v 0) (n .made-is) ∙ getD-set-other made₀ a v (j + 1) 0 away;
       }
+
+  -- Places behind the merge's number are as they were.
+  pub noted-only : (m : ℕ) → j + 1 < m → OnlyFirst m total₀ total₁ × OnlyFirst m until₀ until₁
+  noted-only m h = (
+    rw (n .total-is) (only-first-store (only-first-none m total₀) (j + 1) (w + (at total₀ one + at total₀ other)) h),
+    rw (n .until-is)
+        (only-first-store
+        (only-first-store (only-first-store (only-first-none m until₀) one (j + 1) (omega (arith, asked .one-before))) other (j + 1) (omega (arith, asked .other-before)))
+        (j + 1) 256 h),
+  )

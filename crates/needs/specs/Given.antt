@@ -1,21 +1,13 @@
--- The forest that is given, at a limit or whole, and the components by their labels: the weight of the edges with each.
+-- The forest that is given, at a limit or whole.
 -- Assumes nothing.
 use Prim.Native.Nat.{ℕ}
 use mathlib.Core.Path.{_≡_}
 use mathlib.Core.List.{List, []}
-use lib.Dec.{eqb}
-use Rattle.lists.specs.Lists.{filter}
-use Rattle.graph.specs.Graph.{Graph, oneEnd}
 use Rattle.graph.specs.Bytes.{graphOf}
 use Rattle.graph.specs.Valid.{IsGraph}
-use Rattle.rules.specs.Walk.{totalWeight}
 use Rattle.rules.specs.Order.{ordered}
-use Rattle.rules.specs.Labels.{Labels, apart, together}
+use Rattle.rules.specs.Labels.{apart, together}
 use Rattle.rules.specs.Forest.{keep, forest}
-
--- The weight of the edges with a label.
-abbrev pub labelWeight : Graph → Labels → List ℕ → ℕ → ℕ
-labelWeight g label edges x = totalWeight g (filter (λ e. eqb x (label (oneEnd g e))) edges)
 
 -- A graph's bytes, and the edges of its forest at the limit, where all vertices begin apart.
 pub record ForestGiven (b edges : List ℕ) (limit : ℕ) : Type 0 where

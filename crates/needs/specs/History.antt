@@ -3,12 +3,15 @@
 -- Merges are numbered from 1. Of merge i, `total` has the weight of the tree that it completes, and `until` the number of the merge that takes this
 -- tree up, or 256 where none does. Number 0 stands for "no merge yet", a tree without edges, which weighs 0.
 -- Assumes nothing.
-use Prim.Native.Nat.{ℕ, zero, suc, _+_, _-_, _*_, _/_, _^_, _≤_, _<_}
+use Prim.Native.Nat.{ℕ, _+_, _-_, _*_, _/_, _^_, _≤_, _<_}
 use mathlib.Core.Path.{_≡_}
 use mathlib.Core.Bool.{cond}
 use mathlib.Core.List.{List}
 use lib.ListN.{length, getD, take, set}
 use lib.Dec.{ltb}
+use Rattle.lists.specs.Count.{below}
+use Rattle.lists.specs.Lists.{sumOf}
+use Rattle.lists.specs.Put.{OnlyFirst}
 use Rattle.graph.specs.Graph.{Graph, oneEnd, otherEnd, weightOf}
 use Rattle.graph.specs.Bytes.{graphOf}
 use Rattle.rules.specs.Labels.{Labels, apart, mergeEdge}
@@ -16,17 +19,7 @@ use Rattle.rules.specs.Forest.{forest}
 use Rattle.rules.specs.UnrootedTrial.{needed}
 use Rattle.forest.specs.Arrays.{Agrees}
 use Rattle.forest.specs.Keeping.{Labelable}
-use Rattle.forest_laws.proofs.VertexLabels.{own}
-use Rattle.needs.specs.Given.{labelWeight, ForestKept}
-
--- The sum of a value over the numbers below n.
-unfoldable pub sumTo : ℕ → (ℕ → ℕ) → ℕ
-sumTo zero f = 0
-sumTo (suc n) f = f n + sumTo n f
-
--- The sum of a value of the components' weights, by the vertices that are their own label.
-abbrev pub componentsSum : Graph → Labels → List ℕ → (ℕ → ℕ) → ℕ
-componentsSum g label edges φ = sumTo (g .vertices) (λ v. cond (own label v) (φ (labelWeight g label edges v)) 0)
+use Rattle.needs.specs.Given.{ForestKept}
 
 -- A value of the tree that merge i completes, where it is there after `light` merges: no merge up to that one took it up.
 abbrev pub valueAt : (ℕ → ℕ) → (ℕ → ℕ) → (ℕ → ℕ) → ℕ → ℕ → ℕ
@@ -35,7 +28,7 @@ valueAt φ total until light i = cond (ltb light (until i)) (φ (total i)) 0
 -- How many trees the components need by the history, where the first `light` edges are within the limit: n - light components are there, and of
 -- those with edges each needs one more for each 2 B that its tree weighs. (A number divided by 0 is 0.)
 abbrev pub neededBy : ℕ → List ℕ → List ℕ → ℕ → ℕ → ℕ
-neededBy n total until light limit = n - light + sumTo (light + 1) (valueAt (λ w. w / (2 * limit)) (λ i. getD total i 0) (λ i. getD until i 0) light)
+neededBy n total until light limit = n - light + sumOf (valueAt (λ w. w / (2 * limit)) (λ i. getD total i 0) (λ i. getD until i 0) light) (below (light + 1))
 
 -- The history of a whole forest: where the first `light` of its edges are the forest at a limit, it tells "the sum C" there. No tree in it weighs more
 -- than 256 edges can.
@@ -44,6 +37,12 @@ pub record HistoryKept (g : Graph) (kept total until : List ℕ) : Type 0 where
   pub until-room : length kept < length until
   pub small : (i : ℕ) → i ≤ length kept → getD total i 0 ≤ 256000000
   pub needs : (limit light : ℕ) → light ≤ length kept → take light kept ≡ forest g apart limit → neededBy (g .vertices) total until light limit ≡ needed g limit
+
+-- It was recorded, in the places of the merges and of "no merge yet"; what stands behind them is as it came.
+pub record HistoryWritten (g : Graph) (kept total total-after until until-after : List ℕ) : Type 0 where
+  pub history : HistoryKept g kept total-after until-after
+  pub total-rest : OnlyFirst (length kept + 1) total total-after
+  pub until-rest : OnlyFirst (length kept + 1) until until-after
 
 -- A merge that is to be noted: of the components whose labels are a and c, by an edge of weight w. There is room, and the weights are not too large.
 pub record NoteAsked (a c w number : ℕ) (made total until : List ℕ) : Type 0 where

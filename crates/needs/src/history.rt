@@ -10,7 +10,7 @@ ghost use mathlib.Core.Bool.{cond};
 ghost use Prim.Native.Nat.{_*_, _/_};
 ghost use lib.Dec.{ltb};
 ghost use Rattle.graph.specs.Bytes.{graphOf};
-ghost use Rattle.needs.specs.History.{neededBy, HistoryKept, HistoryAsked, MergesAsked, NoteAsked, MergeNoted, EdgeAsked, EdgeMerged, ReadAsked};
+ghost use Rattle.needs.specs.History.{neededBy, HistoryWritten, HistoryAsked, MergesAsked, NoteAsked, MergeNoted, EdgeAsked, EdgeMerged, ReadAsked};
 
 // Notes a merge: of the components whose labels are a and c, by an edge of that weight. a stays the label.
 fn note_merge(
@@ -64,7 +64,7 @@ fn merge_all(
     until: &mut [u16],
 )
     requires { ⌜ MergesAsked (now b) (now kept) (now label) (now made) (now total) (now until) ⌝ }
-    ensures { λ _. ⌜ HistoryKept (graphOf (now (b .entry))) (now (kept .entry)) (now (total .exit)) (now (until .exit)) ⌝ }
+    ensures { λ _. ⌜ HistoryWritten (graphOf (now (b .entry))) (now (kept .entry)) (now (total .entry)) (now (total .exit)) (now (until .entry)) (now (until .exit)) ⌝ }
 {
     let mut i = 0;
     while i < kept.len() {
@@ -76,7 +76,7 @@ fn merge_all(
 // The history of the whole forest, where no vertex is a root.
 pub fn record_merges(b: &[u8], kept: &[u16], total: &mut [u64], until: &mut [u16])
     requires { ⌜ HistoryAsked (now b) (now kept) (now total) (now until) ⌝ }
-    ensures { λ _. ⌜ HistoryKept (graphOf (now (b .entry))) (now (kept .entry)) (now (total .exit)) (now (until .exit)) ⌝ }
+    ensures { λ _. ⌜ HistoryWritten (graphOf (now (b .entry))) (now (kept .entry)) (now (total .entry)) (now (total .exit)) (now (until .entry)) (now (until .exit)) ⌝ }
 {
     let mut label = [0u16; 256];
     let mut made = [0u16; 256];

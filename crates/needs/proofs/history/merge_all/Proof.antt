@@ -1,23 +1,24 @@
 -- `needs::history::merge_all` meets its contract. The loop's invariant: the edges before i are merged and noted.
 -- The measure is how many are left. Assumes nothing.
-use Prim.Native.Nat.{_-_, _<_}
+use Prim.Native.Nat.{_+_, _-_, _<_}
 use mathlib.Core.Path.{refl}
 use native.Mathlib.Omega.{arith}
 use lib.ListN.{length}
 use borrow.Author.Needs.{needs}
+use Rattle.lists.proofs.OnlyFirst.{only-first-none, only-first-on}
 use Rattle.graph.specs.Graph.{Graph}
 use Rattle.graph.specs.Bytes.{graphOf}
 use Rattle.graph.specs.Valid.{Valid}
 use Rattle.rules.specs.Labels.{apart}
 use Rattle.forest_laws.proofs.Loops.{AllKept}
-use Rattle.needs.proofs.HistoryRecorded.{Recorded, Room, Sizes, recorded-none, note-asked, recorded-more, recorded-all}
+use Rattle.needs.proofs.HistoryRecorded.{Recorded, Room, Sizes, recorded-none, note-asked, merged-only, recorded-more, recorded-all}
 use Rattle.needs.proofs.WholeForest.{all-kept, kept-fewer}
 use Rattle.needs.proofs.history.merge_all.Statement.{statement}
 use Rattle.needs.proofs.history.merge_all.Tie as tie
 
 abbrev Inv-loop : tie.InvT-loop
 Inv-loop b kept label₀ made₀ total₀ until₀ i₀ label made total until i =
-    Recorded (graphOf b) kept i label made total until × Sizes label₀ made₀ total₀ until₀ label made total until
+    Recorded (graphOf b) kept i label made total until × Sizes (length kept + 1) label₀ made₀ total₀ until₀ label made total until
 
 abbrev μ-loop : tie.MeasureT-loop
 μ-loop b kept label₀ made₀ total₀ until₀ i₀ label made total until i = length kept - i
@@ -59,7 +60,14 @@ loop-holds c =
     let s = c .before .before .before .before .before .before in
     let a = s .args in (
       recorded-none (graphOf (a .b .now)) (a .kept .now) (a .label .now) (a .made .now) (a .total .now) (a .until .now) (s .pre .labels) (s .pre .made-none) (s .pre .none),
-      record { labels = refl; mades = refl; totals = refl; untils = refl },
+      record {
+        labels = refl;
+        mades = refl;
+        totals = refl;
+        untils = refl;
+        total-only = only-first-none _ (a .total .now);
+        until-only = only-first-none _ (a .until .now);
+      },
     )
 
 mul-wide : tie.Need-mul-wide Inv-loop μ-loop
@@ -94,10 +102,20 @@ loop-again : tie.Need-loop-again Inv-loop μ-loop
 loop-again c =
     let m = c .before .before .before .before .before .before .before .before in
     let w = m .before .before .before .before .before in
-    let same = turn w .loop .inv .1 in (
+    let same = turn w .loop .inv .1 in
+    let only =
+    merged-only (valid (turn w)) (edges-kept (turn w)) (edges-few (turn w)) (turn w .loop .i) (omega arith) (room (turn w)) (turn w .loop .inv .0)
+    (w .wide .ensures .is) (m .merge-edge .ensures) (length (start (turn w) .args .kept .now) + 1) (omega arith) in (
       recorded-more (valid (turn w)) (edges-kept (turn w)) (edges-few (turn w)) (turn w .loop .i) (omega arith) (room (turn w)) (turn w .loop .inv .0)
           (w .wide .ensures .is) (m .merge-edge .ensures),
-      record { labels = omega (arith, same .labels); mades = omega (arith, same .mades); totals = omega (arith, same .totals); untils = omega (arith, same .untils) },
+      record {
+        labels = omega (arith, same .labels);
+        mades = omega (arith, same .mades);
+        totals = omega (arith, same .totals);
+        untils = omega (arith, same .untils);
+        total-only = only-first-on (same .total-only) (only .0);
+        until-only = only-first-on (same .until-only) (only .1);
+      },
     )
 
 same-length : tie.Need-same-length Inv-loop μ-loop
@@ -113,7 +131,13 @@ same-length-4 : tie.Need-same-length-4 Inv-loop μ-loop
 same-length-4 c = search needs
 
 returns : tie.Need-returns Inv-loop μ-loop
-returns c = let t = c .before in recorded-all (valid t) (edges-kept t) (edges-few t) (room t) (t .loop .inv .0) (omega arith)
+returns c =
+    let t = c .before in
+    record {
+      history = recorded-all (valid t) (edges-kept t) (edges-few t) (room t) (t .loop .inv .0) (omega arith);
+      total-rest = t .loop .inv .1 .total-only;
+      until-rest = t .loop .inv .1 .until-only;
+    }
 
 pub merge-all-spec : {M : Type 1} → statement M
 merge-all-spec =

@@ -3,6 +3,7 @@ use mathlib.Core.Path.{ap, _∙_}
 use native.Mathlib.Omega.{arith}
 use lib.ListN.{length-set}
 use lib.Seq.{getD-set-same}
+use Rattle.lists.proofs.OnlyFirst.{only-first-none, only-first-store, only-first-on}
 use Rattle.lists.proofs.Zeros.{zeros-at}
 use Rattle.forest_laws.proofs.Roots.{together-none}
 use borrow.Author.Needs.{needs}
@@ -58,7 +59,15 @@ same-length-2 : tie.Need-same-length-2
 same-length-2 c = search needs
 
 returns : tie.Need-returns
-returns c = search needs
+returns c =
+    let m = c .before .before .before .before .before .before in
+    let total = start (m .before .before .before .before .before .before) .args .total .now in
+    let w = m .merge-all .ensures in
+    record {
+      history = w .history;
+      total-rest = only-first-on (only-first-store (only-first-none _ total) 0 0 (omega arith)) (w .total-rest);
+      until-rest = w .until-rest;
+    }
 
 pub record-merges-spec : {M : Type 1} → statement M
 record-merges-spec =
