@@ -1,7 +1,7 @@
 -- The check test by test, in the order of document 01: what each test that fails, and each that passes, makes of the answer.
 -- Assumes nothing.
 use Prim.Native.Nat.{ℕ, _≤_, _<_}
-use mathlib.Core.Path.{_≡_, refl, sym, ap, _∙_}
+use mathlib.Core.Path.{_≡_, sym, ap, _∙_}
 use mathlib.Core.Bool.{true, false, _&&_}
 use mathlib.Core.List.{List, [], _∷_}
 use mathlib.Core.Option.{some, none}
@@ -10,8 +10,9 @@ use lib.ListN.{length}
 use borrow.Author.Tests.{le-leb, lt-leb, eq-eqb, ne-eqb}
 use Rattle.graph.specs.Graph.{Graph, edgeCount}
 use Rattle.graph.specs.Bytes.{graphOf}
+use Rattle.graph.proofs.Faults.{one-fault}
 use Rattle.graph_check.specs.Check as sheet
-use Rattle.graph.specs.Fault.{Fault, faultUnless, firstFault, refusedOr}
+use Rattle.graph.specs.Fault.{faultUnless, firstFault, refusedOr}
 use Rattle.rules.specs.Cover.{Crews, heaviest}
 use Rattle.rules.specs.CoverBytes.{coverLength, decode}
 use Rattle.rules.specs.CheckCover.{startsRight, startsBelow, entriesRight, treesRight, verticesCovered, coverFault}
@@ -91,11 +92,6 @@ module _ (b : List ℕ) (crews : Crews) (c : List ℕ) where
     pub crews-refused : crewFault crews (graphOf b .vertices) ≡ some 21 → reply.number 21 ≡ askCheck b crews c
     unfolding askCheck sheetFault numberIn firstFault refusedOr
     crews-refused t = rw (q, t)
-
-    one-fault : (f : Fault) → firstFault (f ∷ []) ≡ f
-    unfolding firstFault
-    one-fault none = refl
-    one-fault (some k) = refl
 
     pub cover-decides : crewFault crews (graphOf b .vertices) ≡ none → {said : reply.Verdict} → said ≡ answer (graphOf b) c (coverFault (graphOf b) crews c)
         → said ≡ askCheck b crews c

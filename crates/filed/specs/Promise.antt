@@ -29,6 +29,11 @@ says Entries = reply.number 33
 says Trees = reply.number 34
 says Vertices = reply.number 35
 
+-- The number of a verdict, 0 where it is yes.
+abbrev pub numberOr0 : reply.Verdict → ℕ
+numberOr0 (reply.yes heaviest) = 0
+numberOr0 (reply.number number) = number
+
 -- The number where there is one, and otherwise yes with the weight of the heaviest tree.
 abbrev pub answer : Graph → List ℕ → Fault → reply.Verdict
 answer g c fault = refusedOr reply.number fault (reply.yes (cover.heaviest g (decode c)))

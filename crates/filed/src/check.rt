@@ -16,7 +16,7 @@ ghost use Rattle.graph.specs.Valid.{IsGraph};
 ghost use Rattle.rules.specs.CheckCover.{startsRight, coverFault};
 ghost use Rattle.cover.specs.Runs.{CoverGiven};
 ghost use Rattle.cover.specs.Crews.{crewsOf};
-ghost use Rattle.filed.specs.Promise.{says, answer, treesFault, CheckPromise};
+ghost use Rattle.filed.specs.Promise.{says, numberOr0, answer, treesFault, CheckPromise};
 
 // What the check answers, by cause.
 pub enum Verdict {
@@ -36,6 +36,22 @@ pub enum Verdict {
     Trees,
     // A vertex is not covered.
     Vertices,
+}
+
+// Document 01's number of a verdict; 0 for yes.
+pub fn number_of(verdict: Verdict) -> u32
+    ensures { λ r. ⌜ r ≡ numberOr0 (says verdict) ⌝ }
+{
+    match verdict {
+        Verdict::Yes(_) => 0,
+        Verdict::Sheet(f) => graph_check::number(f) as u32,
+        Verdict::Crews => 21,
+        Verdict::Length => 31,
+        Verdict::Starts => 32,
+        Verdict::Entries => 33,
+        Verdict::Trees => 34,
+        Verdict::Vertices => 35,
+    }
 }
 
 // Says whether the number of trees and their starts keep the kind's rule.

@@ -7,13 +7,14 @@ use mathlib.Core.Bool.{true, false, cond, false≢true}
 use mathlib.Core.List.{List, [], _∷_, headD}
 use native.Mathlib.Omega.{arith}
 use lib.ListN.{length, getD, set, length-set}
-use lib.Seq.{getD-set-same, getD-set-other}
+use lib.Seq.{getD-set-other}
 use lib.Dec.{eqb}
-use borrow.Author.Count.{below-none, below-more}
+use borrow.Author.Count.{below-none}
 use borrow.Author.Tests.{eq-eqb, ne-eqb}
 use Rattle.lists.specs.Lists.{any, member}
 use Rattle.lists.specs.Put.{OnlyFirst}
 use Rattle.lists.proofs.OnlyFirst.{only-first-none, only-first-store}
+use Rattle.lists.proofs.SetUpTo.{stored-more}
 use Rattle.graph.specs.Graph.{Graph}
 use Rattle.graph.specs.Valid.{Valid}
 use Rattle.rules.specs.Labels.{Labels, joined, merge, together, mergeAll}
@@ -54,14 +55,6 @@ labels-below {g} valid edges array agrees v h =
     let made : VertexLabels (g .vertices) (mergeAll g (together []) edges) = rw together-none (merged-vertices valid (apart-vertices (g .vertices)) edges) in
     rw (agrees v h) (made .below v h)
 
--- One label more: the array agrees below x, and x's label is stored.
-pub agrees-more : (label : Labels) (array : List ℕ) (x y : ℕ) → x < length array → Agrees x array label → y ≡ label x
-    → Agrees (x + 1) (set array x y) label
-agrees-more label array x y h agrees q =
-    below-more _ x
-    (λ k l. getD-set-other array x k y 0 (omega arith) ∙ agrees k l)
-    (getD-set-same array x y 0 h ∙ q)
-
 -- Below x the labels of the start are stored, and only labels of the n vertices changed.
 pub record Starting (roots : List ℕ) (n x : ℕ) (before after : List ℕ) : Type 0 where
   pub labels : Agrees x after (together roots)
@@ -76,7 +69,7 @@ module _ {roots : List ℕ} {n : ℕ} where
     pub starting-more : {y : ℕ} → x < n → n ≤ length before → y ≡ together roots x → Starting roots n (x + 1) before (set after x y)
     starting-more {y} h room q =
         record {
-          labels = agrees-more (together roots) after x y (omega arith) (s .labels) q;
+          labels = stored-more (together roots) after x y (omega arith) (s .labels) q;
           rest = only-first-store (s .rest) x y h;
           same = length-set after x y ∙ s .same;
         }
@@ -108,7 +101,7 @@ module _ {n u v : ℕ} where
         record {
           labels =
               λ label a.
-              agrees-more (merge label u v) after x y (omega arith) (m .labels label a)
+              stored-more (merge label u v) after x y (omega arith) (m .labels label a)
               (q ∙ merged-label label hu hv hx a);
           ahead = λ k l. getD-set-other after x k y 0 (omega arith) ∙ m .ahead k (omega arith);
           rest = only-first-store (m .rest) x y hx;

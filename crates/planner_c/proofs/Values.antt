@@ -8,20 +8,27 @@ use native.Mathlib.Omega.{arith}
 use lib.ListN.{length, set}
 use types.Run.{OneOf, miss}
 use denote.Enum.Declared.{tagOf}
+use Rattle.rules.specs.Reply as rules
 use Rattle.filed.proofs.check.Verdict as verdict
 use Rattle.cover.specs.declared.crews.Kind.the-variants.{Unrooted}
 use Rattle.filed.specs.declared.check.Verdict.{Verdict}
 use Rattle.filed.specs.declared.check.Verdict.the-variants.{Yes, Sheet, Crews, Length, Starts, Entries, Trees, Vertices}
+use Rattle.filed.specs.Promise.{numberOr0}
 use Rattle.pieces.proofs.reply.Reply as reply
 use Rattle.pieces.specs.declared.reply.Reply.{Reply}
 use Rattle.pieces.specs.declared.reply.Reply.the-variants as replies
 use Rattle.pieces.specs.Replies.{said, says}
-use Rattle.planner_c.specs.Numbers.{kindOf, sayingOf, Puts}
+use Rattle.planner_c.specs.Numbers.{kindOf, saidOf, sayingOf, Puts}
 
 -- A number that is not 0 names the unrooted kind.
 pub unrooted : (kind : ℕ) → (kind ≡ 0 → ⊥) → Unrooted ≡ kindOf kind
 unrooted zero other = absurd (other refl)
 unrooted (suc kind) other = refl
+
+-- The number of a verdict is that of its case.
+pub verdict-number : (v : rules.Verdict) → numberOr0 v ≡ saidOf v .number
+verdict-number (rules.yes heaviest) = refl
+verdict-number (rules.number number) = refl
 
 -- One value, two and three, stored in a list of three.
 pub puts-one : {number x : ℕ} (before : List ℕ) → length before ≡ 3 → Puts (said number (x ∷ [])) before (set before 0 x)

@@ -2,10 +2,9 @@
 pub mod said;
 
 use crate::said::kind_of;
-use crate::said::number_of;
 use crate::said::put_heaviest;
 use crate::said::put_values;
-use crate::said::verdict_number;
+use pieces::reply::number_of;
 ghost use Rattle.planner_c.specs.Promise.{TrialExported, BestExported, CheckExported};
 
 // A trial at a limit, with its reply as a number and values.
@@ -54,5 +53,5 @@ pub extern "C" fn planner_check(
 {
     let verdict = filed::check::check_cover(kind_of(kind), k, graph, cover);
     put_heaviest(verdict, values);
-    verdict_number(verdict)
+    filed::check::number_of(verdict)
 }

@@ -17,23 +17,6 @@ pub(crate) fn kind_of(kind: u32) -> Kind
     }
 }
 
-// The number of a reply's case.
-pub(crate) fn number_of(reply: Reply) -> u32
-    ensures { λ r. ⌜ r ≡ says reply .number ⌝ }
-{
-    match reply {
-        Reply::Sheet(f) => graph_check::number(f) as u32,
-        Reply::Crews => 21,
-        Reply::Limit => 22,
-        Reply::Room => 23,
-        Reply::Cover(_, _, _) => 0,
-        Reply::Stop(_) => 1,
-        Reply::Parts(_, _) => 2,
-        Reply::Needs(_) => 3,
-        Reply::NoCover => 4,
-    }
-}
-
 // Writes the values of a reply's case, from the first on.
 pub(crate) fn put_values(reply: Reply, values: &mut [u64])
     requires { ⌜ length (now values) ≡ 3 ⌝ }
@@ -56,22 +39,6 @@ pub(crate) fn put_values(reply: Reply, values: &mut [u64])
             values[0] = trees;
         }
         _ => {}
-    }
-}
-
-// The number of a verdict: 0 for yes.
-pub(crate) fn verdict_number(verdict: Verdict) -> u32
-    ensures { λ r. ⌜ r ≡ sayingOf verdict .number ⌝ }
-{
-    match verdict {
-        Verdict::Yes(_) => 0,
-        Verdict::Sheet(f) => graph_check::number(f) as u32,
-        Verdict::Crews => 21,
-        Verdict::Length => 31,
-        Verdict::Starts => 32,
-        Verdict::Entries => 33,
-        Verdict::Trees => 34,
-        Verdict::Vertices => 35,
     }
 }
 

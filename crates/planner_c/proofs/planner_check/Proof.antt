@@ -1,5 +1,8 @@
 -- `planner_c::planner_check` meets its contract: what the check promises, said in numbers. Assumes nothing.
+use mathlib.Core.Path.{_∙_}
 use borrow.Author.Needs.{needs}
+use Rattle.filed.specs.Promise.{says}
+use Rattle.planner_c.proofs.Values.{verdict-number}
 use Rattle.planner_c.proofs.planner_check.Statement.{statement}
 use Rattle.planner_c.proofs.planner_check.Tie as tie
 
@@ -12,8 +15,8 @@ check-cover-requires c κs = search needs
 put-heaviest-requires : tie.Need-put-heaviest-requires
 put-heaviest-requires c κs = search needs
 
-verdict-number-requires : tie.Need-verdict-number-requires
-verdict-number-requires c κs = search needs
+number-of-requires : tie.Need-number-of-requires
+number-of-requires c κs = search needs
 
 returns : tie.Need-returns
 returns c =
@@ -22,7 +25,7 @@ returns c =
     record {
       verdict = checked .check-cover .result;
       promise = rw (checked .before .kind-of .ensures) at (checked .check-cover .ensures);
-      number = c .verdict-number .ensures;
+      number = c .number-of .ensures ∙ verdict-number (says (checked .check-cover .result));
       puts = put .put-heaviest .ensures;
     }
 
@@ -33,5 +36,5 @@ planner-check-spec =
     kind-of-requires
     check-cover-requires
     put-heaviest-requires
-    verdict-number-requires
+    number-of-requires
     returns)

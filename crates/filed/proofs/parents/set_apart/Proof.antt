@@ -7,7 +7,7 @@ use lib.ListN.{length, length-set}
 use borrow.Author.Count.{below-none}
 use borrow.Author.Needs.{needs}
 use Rattle.forest.specs.Arrays.{Agrees}
-use Rattle.forest.proofs.Labelling.{agrees-more}
+use Rattle.lists.proofs.SetUpTo.{stored-more}
 use Rattle.filed.proofs.parents.set_apart.Statement.{statement}
 use Rattle.filed.proofs.parents.set_apart.Tie as tie
 
@@ -35,7 +35,7 @@ loop-less c = search needs
 loop-again : tie.Need-loop-again Inv-loop μ-loop
 loop-again c =
     let l = c .before .loop in
-    (length-set (l .parents) (l .v) (l .v) ∙ l .inv .0, agrees-more (λ x. x) (l .parents) (l .v) (l .v) (omega arith) (l .inv .1) refl)
+    (length-set (l .parents) (l .v) (l .v) ∙ l .inv .0, stored-more (λ x. x) (l .parents) (l .v) (l .v) (omega arith) (l .inv .1) refl)
 
 same-length : tie.Need-same-length Inv-loop μ-loop
 same-length c = search needs
