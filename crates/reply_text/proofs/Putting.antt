@@ -1,13 +1,12 @@
--- Texts put one behind the other: the room that is left, digit by digit, and part by part of a whole.
+-- Texts put one behind the other: the room that is left, and a number digit by digit.
 -- Assumes nothing.
 use Prim.Native.Nat.{ℕ, _+_, _/_, _%_, _≤_, _<_}
-use mathlib.Core.Path.{_≡_, refl, sym, ap, _∙_}
-use mathlib.Core.List.{List, [], _∷_, _++_, append-assoc}
+use mathlib.Core.Path.{refl}
+use mathlib.Core.List.{List, [], _∷_, _++_}
 use native.Mathlib.Omega.{arith}
 use lib.ListN.{length, set, length-append}
 use Rattle.lists.specs.Put.{PutTo}
-use Rattle.lists.proofs.Put.{put-one, put-more, put-behind, put-length}
-use Rattle.lists.proofs.PutOneByOne.{PutSoFar, so-far-behind}
+use Rattle.lists.proofs.Put.{put-one, put-more, put-length}
 use Rattle.reply_text.specs.Lines.{digit, digits}
 use Rattle.reply_text.proofs.Digits.{digits-last, digits-more}
 
@@ -18,20 +17,6 @@ room-first xs ys at room = omega (arith, length-append xs ys)
 pub room-then : {at next : ℕ} {before now : List ℕ} (xs ys : List ℕ) → at + length (xs ++ ys) ≤ length before → PutTo at xs before now next
     → next + length ys ≤ length now
 room-then xs ys room p = omega (arith, p .behind, put-length (p .put), length-append xs ys)
-
--- Of a whole, the next list is put too; and there is room for it where there is room for the whole.
-module _ {at next : ℕ} {whole rest before now : List ℕ} (w : PutSoFar at whole rest before now next) (xs other : List ℕ) (next-is : rest ≡ xs ++ other) where
-  pub part-room : at + length whole ≤ length before → next + length xs ≤ length now
-  part-room room = omega (arith, so-far-behind w, w .same, ap length next-is, length-append xs other)
-
-  pub part-put : {after : List ℕ} {behind : ℕ} → PutTo next xs now after behind → PutSoFar at whole other before after behind
-  part-put p =
-      record {
-        done = w .done ++ xs;
-        put = put-behind (w .put) p;
-        whole-is = w .whole-is ∙ ap (λ l. w .done ++ l) next-is ∙ sym (append-assoc (w .done) xs other);
-        same = put-length (p .put) ∙ w .same;
-      }
 
 -- There is a place for a number's only digit, or for its last one behind those of its tenth.
 pub last-room : (x at : ℕ) {n : ℕ} → x < 10 → at + length (digits x) ≤ n → at + 1 ≤ n

@@ -18,7 +18,7 @@ abbrev pub runTree : List ℕ → ℕ → ℕ → ℕ → Tree
 runTree c j from to = record { start = startIn c j; edges = runEdges c from to }
 
 -- There is room for its line from a place on.
-pub record TreeAsked (b c : List ℕ) (j from to at room : ℕ) : Type 0 where
+pub record TreeTextAsked (b c : List ℕ) (j from to at room : ℕ) : Type 0 where
   pub run : InEntries c from to
   pub fits : at + length (treeLine (graphOf b) (runTree c j from to)) ≤ room
 

@@ -15,7 +15,7 @@ ghost use Rattle.rules.specs.CoverBytes.{decode};
 ghost use Rattle.cover.specs.Runs.{runEdges};
 ghost use Rattle.reply_text.specs.Lines.{allSpaced};
 ghost use Rattle.reply_text.specs.Text.{treeLine, treeLines};
-ghost use Rattle.reply_text.specs.Trees.{runTree, TreeAsked, TreesAsked};
+ghost use Rattle.reply_text.specs.Trees.{runTree, TreeTextAsked, TreesAsked};
 
 // The edges of a run of entries, each behind a space, from a place on.
 fn put_run(c: &[u8], from: usize, to: usize, out: &mut [u8], at: usize) -> usize
@@ -41,7 +41,7 @@ fn put_tree(
     out: &mut [u8],
     at: usize,
 ) -> usize
-    requires { ⌜ TreeAsked (now b) (now c) j from to at (length (now out)) ⌝ }
+    requires { ⌜ TreeTextAsked (now b) (now c) j from to at (length (now out)) ⌝ }
     ensures { λ r. ⌜ PutTo at (treeLine (graphOf (now (b .entry))) (runTree (now (c .entry)) j from to)) (now (out .entry)) (now (out .exit)) r ⌝ }
 {
     let weight = run_weight(b, c, from, to);

@@ -6,8 +6,8 @@ use mathlib.Core.List.{List, _++_}
 use native.Mathlib.Omega.{arith}
 use lib.ListN.{length, drop, getD}
 use Rattle.lists.proofs.NextPlace.{rest-next, rest-none}
-use Rattle.lists.proofs.PutOneByOne.{PutSoFar, so-far-none, so-far-all}
-use Rattle.reply_text.proofs.Putting.{part-room, part-put}
+use Rattle.lists.proofs.PutOneByOne.{PutSoFar, so-far-none, so-far-on, so-far-all}
+use Rattle.lists.proofs.RoomLeft.{so-far-room}
 use Rattle.gate_replies.specs.Fields.{field, fields}
 use Rattle.gate_replies.proofs.FieldLaws.{fields-length, fields-none, fields-next}
 use borrow.Author.Needs.{needs}
@@ -52,7 +52,7 @@ unfolding field
 put-field-requires c κs =
     let t = c .before .before in
     let l = t .before in
-    part-room (l .loop .inv .putting) (field 8 (getD (values l) (l .loop .i) 0)) _ (next-value l (t .loop-test .taken)) (room l)
+    so-far-room (l .loop .inv .putting) (field 8 (getD (values l) (l .loop .i) 0)) _ (next-value l (t .loop-test .taken)) (room l)
 
 add-i : tie.Need-add-i Inv-loop μ-loop
 add-i c = search needs
@@ -65,7 +65,7 @@ loop-again c =
     let p = c .before .before in
     let t = p .before .before .before in
     let l = t .before in
-    record { within = omega arith; putting = part-put (l .loop .inv .putting) _ _ (next-value l (t .loop-test .taken)) (p .put-field .ensures) }
+    record { within = omega arith; putting = so-far-on (l .loop .inv .putting) (next-value l (t .loop-test .taken)) (p .put-field .ensures) }
 
 same-length : tie.Need-same-length Inv-loop μ-loop
 same-length c = search needs

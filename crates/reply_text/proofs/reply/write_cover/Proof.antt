@@ -5,9 +5,9 @@ use mathlib.Core.Path.{refl, sym}
 use mathlib.Core.List.{List, [], _∷_, _++_, append-nil}
 use native.Mathlib.Omega.{arith}
 use lib.ListN.{length}
-use Rattle.lists.proofs.PutOneByOne.{PutSoFar, so-far-none, so-far-all}
+use Rattle.lists.proofs.PutOneByOne.{PutSoFar, so-far-none, so-far-on, so-far-all}
 use Rattle.reply_text.specs.Lines.{bytesOf, spaced, ended}
-use Rattle.reply_text.proofs.Putting.{part-room, part-put}
+use Rattle.lists.proofs.RoomLeft.{so-far-room}
 use Rattle.reply_text.proofs.TextLengths as text
 use borrow.Author.Needs.{needs}
 use Rattle.reply_text.proofs.reply.write_cover.Statement.{statement}
@@ -44,7 +44,7 @@ module _ (c : tie.After-put-word) where
   start = let k = c .before .before .before in k .before .before .before
 
   word-put : PutSoFar 0 (whole start) (limit-on start) (start .args .out .now) (c .put-word .last .1 .0) (c .put-word .result)
-  word-put = part-put (begun start) (bytesOf "cover") (limit-on start) refl (c .put-word .ensures)
+  word-put = so-far-on (begun start) {xs = bytesOf "cover"} {other = limit-on start} refl (c .put-word .ensures)
 
 -- The limit is put.
 module _ (c : tie.After-put-spaced) where
@@ -55,7 +55,7 @@ module _ (c : tie.After-put-spaced) where
   s₂ = start worded
 
   limit-put : PutSoFar 0 (whole s₂) (heaviest-on s₂) (s₂ .args .out .now) (c .put-spaced .last .1 .0) (c .put-spaced .result)
-  limit-put = part-put (word-put worded) (spaced (s₂ .args .limit)) (heaviest-on s₂) refl (c .put-spaced .ensures)
+  limit-put = so-far-on (word-put worded) {xs = spaced (s₂ .args .limit)} {other = heaviest-on s₂} refl (c .put-spaced .ensures)
 
 -- The heaviest weight is put.
 module _ (c : tie.After-put-spaced2) where
@@ -66,7 +66,7 @@ module _ (c : tie.After-put-spaced2) where
   s₃ = s₂ limited
 
   heaviest-put : PutSoFar 0 (whole s₃) (count-on s₃) (s₃ .args .out .now) (c .put-spaced2 .last .1 .0) (c .put-spaced2 .result)
-  heaviest-put = part-put (limit-put limited) (spaced (s₃ .args .heaviest)) (count-on s₃) refl (c .put-spaced2 .ensures)
+  heaviest-put = so-far-on (limit-put limited) {xs = spaced (s₃ .args .heaviest)} {other = count-on s₃} refl (c .put-spaced2 .ensures)
 
 -- The number of trees is put.
 module _ (c : tie.After-put-last) where
@@ -77,7 +77,7 @@ module _ (c : tie.After-put-last) where
   s₄ = s₃ weighed
 
   count-put : PutSoFar 0 (whole s₄) (trees s₄) (s₄ .args .out .now) (c .put-last .last .1 .0) (c .put-last .result)
-  count-put = part-put (heaviest-put weighed) (ended (s₄ .args .t ∷ [])) (trees s₄) refl (c .put-last .ensures)
+  count-put = so-far-on (heaviest-put weighed) {xs = ended (s₄ .args .t ∷ [])} {other = trees s₄} refl (c .put-last .ensures)
 
 slice-aggregate-put-word : tie.Need-slice-aggregate-put-word
 slice-aggregate-put-word c = search needs
@@ -89,25 +89,25 @@ put-spaced-requires : tie.Need-put-spaced-requires
 put-spaced-requires c κs =
     let w = c .before .before .before in
     let s = start w in
-    part-room (word-put w) (spaced (s .args .limit)) (heaviest-on s) refl (room s)
+    so-far-room (word-put w) (spaced (s .args .limit)) (heaviest-on s) refl (room s)
 
 put-spaced-requires-2 : tie.Need-put-spaced-requires-2
 put-spaced-requires-2 c κs =
     let p = c .before .before .before in
     let s = s₂ p in
-    part-room (limit-put p) (spaced (s .args .heaviest)) (count-on s) refl (room s)
+    so-far-room (limit-put p) (spaced (s .args .heaviest)) (count-on s) refl (room s)
 
 put-last-requires : tie.Need-put-last-requires
 put-last-requires c κs =
     let p = c .before .before .before in
     let s = s₃ p in
-    part-room (heaviest-put p) (ended (s .args .t ∷ [])) (trees s) refl (room s)
+    so-far-room (heaviest-put p) (ended (s .args .t ∷ [])) (trees s) refl (room s)
 
 put-trees-requires : tie.Need-put-trees-requires
 put-trees-requires c κs =
     let p = c .before .before .before in
     let s = s₄ p in
-    record { entries = s .pre .entries; fits = part-room (count-put p) (trees s) [] (sym (append-nil (trees s))) (room s) }
+    record { entries = s .pre .entries; fits = so-far-room (count-put p) (trees s) [] (sym (append-nil (trees s))) (room s) }
 
 same-length : tie.Need-same-length
 same-length c = search needs
@@ -118,7 +118,7 @@ returns c =
     let p = t .before .before .before .before in
     let s = s₄ p in
     rw (text.cover-parts (s .args .b .now) (s .args .limit) (s .args .heaviest) (s .args .t) (s .args .c .now))
-    (so-far-all (part-put (count-put p) (trees s) [] (sym (append-nil (trees s))) (t .put-trees .ensures)) refl)
+    (so-far-all (so-far-on (count-put p) {xs = trees s} {other = []} (sym (append-nil (trees s))) (t .put-trees .ensures)) refl)
 
 pub write-cover-spec : {M : Type 1} → statement M
 write-cover-spec =

@@ -5,9 +5,9 @@ use mathlib.Core.Path.{refl, sym}
 use mathlib.Core.List.{List, [], _++_, append-nil}
 use native.Mathlib.Omega.{arith}
 use lib.ListN.{length}
-use Rattle.lists.proofs.PutOneByOne.{PutSoFar, so-far-none, so-far-all}
+use Rattle.lists.proofs.PutOneByOne.{PutSoFar, so-far-none, so-far-on, so-far-all}
 use Rattle.reply_text.specs.Lines.{bytesOf, spaced, line}
-use Rattle.reply_text.proofs.Putting.{part-room, part-put}
+use Rattle.lists.proofs.RoomLeft.{so-far-room}
 use Rattle.reply_text.proofs.TextLengths.{fromParts, fromYards, parts-room}
 use borrow.Author.Needs.{needs}
 use Rattle.reply_text.proofs.reply.write_parts.Statement.{statement}
@@ -36,7 +36,7 @@ module _ (c : tie.After-put-word) where
   start = c .before .before .before .before
 
   words-put : PutSoFar 0 (whole start) (rest start) (start .args .out .now) (c .put-word .last .1 .0) (c .put-word .result)
-  words-put = part-put (begun start) (bytesOf "too low parts") (rest start) refl (c .put-word .ensures)
+  words-put = so-far-on (begun start) {xs = bytesOf "too low parts"} {other = rest start} refl (c .put-word .ensures)
 
 -- The number of parts is put.
 module _ (c : tie.After-put-spaced) where
@@ -47,7 +47,7 @@ module _ (c : tie.After-put-spaced) where
   s₂ = start worded
 
   parts-put : PutSoFar 0 (whole s₂) (yards s₂) (s₂ .args .out .now) (c .put-spaced .last .1 .0) (c .put-spaced .result)
-  parts-put = part-put (words-put worded) (spaced (s₂ .args .parts)) (yards s₂) refl (c .put-spaced .ensures)
+  parts-put = so-far-on (words-put worded) {xs = spaced (s₂ .args .parts)} {other = yards s₂} refl (c .put-spaced .ensures)
 
 slice-aggregate-put-word : tie.Need-slice-aggregate-put-word
 slice-aggregate-put-word c = search needs
@@ -59,7 +59,7 @@ put-spaced-requires : tie.Need-put-spaced-requires
 put-spaced-requires c κs =
     let w = c .before .before .before in
     let s = start w in
-    part-room (words-put w) (spaced (s .args .parts)) (yards s) refl (room s)
+    so-far-room (words-put w) (spaced (s .args .parts)) (yards s) refl (room s)
 
 slice-aggregate-put-line : tie.Need-slice-aggregate-put-line
 slice-aggregate-put-line c = search needs
@@ -68,7 +68,7 @@ put-line-requires : tie.Need-put-line-requires
 unfolding line
 put-line-requires c κs =
     let p = c .before .before .before .before in
-    part-room (parts-put p) (yards (s₂ p)) [] (sym (append-nil (yards (s₂ p)))) (room (s₂ p))
+    so-far-room (parts-put p) (yards (s₂ p)) [] (sym (append-nil (yards (s₂ p)))) (room (s₂ p))
 
 same-length : tie.Need-same-length
 same-length c = search needs
@@ -79,7 +79,7 @@ returns c =
     let l = c .before .before in
     let k = l .before .before .before in
     let p = k .before .before in
-    so-far-all (part-put (parts-put p) (yards (s₂ p)) [] (sym (append-nil (yards (s₂ p)))) (l .put-line .ensures)) refl
+    so-far-all (so-far-on (parts-put p) {xs = yards (s₂ p)} {other = []} (sym (append-nil (yards (s₂ p)))) (l .put-line .ensures)) refl
 
 pub write-parts-spec : {M : Type 1} → statement M
 write-parts-spec =

@@ -5,10 +5,10 @@ use mathlib.Core.Path.{_≡_}
 use mathlib.Core.List.{_++_}
 use native.Mathlib.Omega.{arith}
 use lib.ListN.{length}
-use Rattle.lists.proofs.PutOneByOne.{PutSoFar, so-far-none, so-far-all}
+use Rattle.lists.proofs.PutOneByOne.{PutSoFar, so-far-none, so-far-on, so-far-all}
 use Rattle.cover.specs.Runs.{runEdges}
 use Rattle.reply_text.specs.Lines.{spaced, allSpaced}
-use Rattle.reply_text.proofs.Putting.{part-room, part-put}
+use Rattle.lists.proofs.RoomLeft.{so-far-room}
 use Rattle.reply_text.proofs.TreeLines.{run-spaced, run-done}
 use Rattle.reply_text.proofs.trees.put_run.Statement.{statement}
 use Rattle.reply_text.proofs.trees.put_run.Tie as tie
@@ -46,7 +46,7 @@ put-spaced-requires : tie.Need-put-spaced-requires Inv-loop μ-loop
 put-spaced-requires c κs =
     let t = c .before in
     let l = turn t in
-    part-room (l .loop .inv .putting) (spaced (t .entry-edge .result)) _ (next-is t) (l .loop .inv .room)
+    so-far-room (l .loop .inv .putting) (spaced (t .entry-edge .result)) _ (next-is t) (l .loop .inv .room)
 
 add-i : tie.Need-add-i Inv-loop μ-loop
 add-i c = omega arith
@@ -61,7 +61,7 @@ loop-again c =
     let l = turn t in
     record {
       room = l .loop .inv .room;
-      putting = part-put (l .loop .inv .putting) (spaced (t .entry-edge .result)) _ (next-is t) (p .put-spaced .ensures);
+      putting = so-far-on (l .loop .inv .putting) {xs = spaced (t .entry-edge .result)} (next-is t) (p .put-spaced .ensures);
     }
 
 same-length : tie.Need-same-length Inv-loop μ-loop

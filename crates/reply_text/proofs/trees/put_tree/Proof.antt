@@ -5,13 +5,13 @@ use mathlib.Core.Path.{_≡_, refl}
 use mathlib.Core.List.{List, [], _++_}
 use native.Mathlib.Omega.{arith}
 use lib.ListN.{length}
-use Rattle.lists.proofs.PutOneByOne.{PutSoFar, so-far-none, so-far-all}
+use Rattle.lists.proofs.PutOneByOne.{PutSoFar, so-far-none, so-far-on, so-far-all}
 use Rattle.graph.specs.Graph.{Graph}
 use Rattle.graph.specs.Bytes.{graphOf}
 use Rattle.rules.specs.Cover.{Tree, treeWeight}
 use Rattle.reply_text.specs.Lines.{bytesOf, spaced, allSpaced}
 use Rattle.reply_text.specs.Trees.{runTree}
-use Rattle.reply_text.proofs.Putting.{part-room, part-put}
+use Rattle.lists.proofs.RoomLeft.{so-far-room}
 use Rattle.reply_text.proofs.TreeLines.{fromStart, fromWeight, fromEdges, tree-parts}
 use borrow.Author.Needs.{needs}
 use Rattle.reply_text.proofs.trees.put_tree.Statement.{statement}
@@ -47,7 +47,7 @@ module _ (c : tie.After-put-word) where
   weight-is = weighed .run-weight .ensures
 
   word-put : PutSoFar (start .args .at) (whole start) (fromStart (g start) (tree start)) (start .args .out .now) (c .put-word .last .1 .0) (c .put-word .result)
-  word-put = part-put (begun start) (bytesOf "tree") (fromStart (g start) (tree start)) refl (c .put-word .ensures)
+  word-put = so-far-on (begun start) {xs = bytesOf "tree"} {other = fromStart (g start) (tree start)} refl (c .put-word .ensures)
 
 -- The start is put.
 module _ (c : tie.After-put-spaced) where
@@ -59,7 +59,7 @@ module _ (c : tie.After-put-spaced) where
 
   start-put : PutSoFar (s₂ .args .at) (whole s₂) (fromWeight (g s₂) (tree s₂)) (s₂ .args .out .now) (c .put-spaced .last .1 .0) (c .put-spaced .result)
   start-put =
-      part-put (word-put worded) (spaced (tree s₂ .start)) (fromWeight (g s₂) (tree s₂)) refl
+      so-far-on (word-put worded) {xs = spaced (tree s₂ .start)} {other = fromWeight (g s₂) (tree s₂)} refl
       (rw (c .before .before .start-in .ensures .is) at (c .put-spaced .ensures))
 
 -- The weight is put.
@@ -72,7 +72,7 @@ module _ (c : tie.After-put-spaced2) where
 
   weight-put : PutSoFar (s₃ .args .at) (whole s₃) (fromEdges (g s₃) (tree s₃)) (s₃ .args .out .now) (c .put-spaced2 .last .1 .0) (c .put-spaced2 .result)
   weight-put =
-      part-put (start-put started) (spaced (treeWeight (g s₃) (tree s₃))) (fromEdges (g s₃) (tree s₃)) refl
+      so-far-on (start-put started) {xs = spaced (treeWeight (g s₃) (tree s₃))} {other = fromEdges (g s₃) (tree s₃)} refl
       (rw (weight-is (worded started)) at (c .put-spaced2 .ensures))
 
 -- The edges are put.
@@ -84,7 +84,7 @@ module _ (c : tie.After-put-run) where
   s₄ = s₃ weight-written
 
   edges-put : PutSoFar (s₄ .args .at) (whole s₄) (bytesOf "\n") (s₄ .args .out .now) (c .put-run .last .1 .1 .1 .0) (c .put-run .result)
-  edges-put = part-put (weight-put weight-written) (allSpaced (tree s₄ .edges)) (bytesOf "\n") refl (c .put-run .ensures)
+  edges-put = so-far-on (weight-put weight-written) {xs = allSpaced (tree s₄ .edges)} {other = bytesOf "\n"} refl (c .put-run .ensures)
 
 run-weight-requires : tie.Need-run-weight-requires
 run-weight-requires c κs = search needs
@@ -96,7 +96,7 @@ put-word-requires : tie.Need-put-word-requires
 put-word-requires c κs =
     let k = c .before .before .before .before in
     let s = k .before .before in
-    part-room (begun s) (bytesOf "tree") (fromStart (g s) (tree s)) refl (room s)
+    so-far-room (begun s) (bytesOf "tree") (fromStart (g s) (tree s)) refl (room s)
 
 start-in-requires : tie.Need-start-in-requires
 start-in-requires c κs = search needs
@@ -106,19 +106,19 @@ put-spaced-requires c κs =
     let r = c .before in
     let w = r .before .before .before in
     let s = start w in
-    rw (r .start-in .ensures .is) (part-room (word-put w) (spaced (tree s .start)) (fromWeight (g s) (tree s)) refl (room s))
+    rw (r .start-in .ensures .is) (so-far-room (word-put w) (spaced (tree s .start)) (fromWeight (g s) (tree s)) refl (room s))
 
 put-spaced-requires-2 : tie.Need-put-spaced-requires-2
 put-spaced-requires-2 c κs =
     let p = c .before .before .before in
     let s = s₂ p in
-    rw (weight-is (worded p)) (part-room (start-put p) (spaced (treeWeight (g s) (tree s))) (fromEdges (g s) (tree s)) refl (room s))
+    rw (weight-is (worded p)) (so-far-room (start-put p) (spaced (treeWeight (g s) (tree s))) (fromEdges (g s) (tree s)) refl (room s))
 
 put-run-requires : tie.Need-put-run-requires
 put-run-requires c κs =
     let p = c .before .before .before in
     let s = s₃ p in
-    part-room (weight-put p) (allSpaced (tree s .edges)) (bytesOf "\n") refl (room s)
+    so-far-room (weight-put p) (allSpaced (tree s .edges)) (bytesOf "\n") refl (room s)
 
 slice-aggregate-put-word-2 : tie.Need-slice-aggregate-put-word-2
 slice-aggregate-put-word-2 c = search needs
@@ -126,7 +126,7 @@ slice-aggregate-put-word-2 c = search needs
 put-word-requires-2 : tie.Need-put-word-requires-2
 put-word-requires-2 c κs =
     let p = c .before .before .before .before in
-    part-room (edges-put p) (bytesOf "\n") [] refl (room (s₄ p))
+    so-far-room (edges-put p) (bytesOf "\n") [] refl (room (s₄ p))
 
 same-length : tie.Need-same-length
 same-length c = search needs
@@ -137,7 +137,7 @@ returns c =
     let k = w .before .before .before in
     let p = k .before .before in
     let s = s₄ p in
-    rw (tree-parts (g s) (tree s)) (so-far-all (part-put (edges-put p) (bytesOf "\n") [] refl (w .put-word2 .ensures)) refl)
+    rw (tree-parts (g s) (tree s)) (so-far-all (so-far-on (edges-put p) {xs = bytesOf "\n"} {other = []} refl (w .put-word2 .ensures)) refl)
 
 pub put-tree-spec : {M : Type 1} → statement M
 put-tree-spec =

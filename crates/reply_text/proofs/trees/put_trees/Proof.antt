@@ -5,7 +5,7 @@ use mathlib.Core.Path.{_≡_, ap, _∙_}
 use mathlib.Core.List.{List, _++_}
 use native.Mathlib.Omega.{arith}
 use lib.ListN.{length}
-use Rattle.lists.proofs.PutOneByOne.{PutSoFar, so-far-none, so-far-all}
+use Rattle.lists.proofs.PutOneByOne.{PutSoFar, so-far-none, so-far-on, so-far-all}
 use Rattle.graph.specs.Graph.{Graph, edgeCount}
 use Rattle.graph.specs.Bytes.{graphOf}
 use Rattle.rules.specs.CoverBytes.{treesIn}
@@ -13,7 +13,7 @@ use Rattle.cover.specs.Runs.{BeginsAt}
 use Rattle.cover.proofs.TreeRuns.{begins-first, begins-next, tree-is-run}
 use Rattle.reply_text.specs.Text.{treeLine, treeLines}
 use Rattle.reply_text.specs.Trees.{runTree}
-use Rattle.reply_text.proofs.Putting.{part-room, part-put}
+use Rattle.lists.proofs.RoomLeft.{so-far-room}
 use Rattle.reply_text.proofs.TreeLines.{treesFrom, trees-all, lines-next, lines-done}
 use Rattle.reply_text.proofs.trees.put_trees.Statement.{statement}
 use Rattle.reply_text.proofs.trees.put_trees.Tie as tie
@@ -80,7 +80,7 @@ put-tree-requires : tie.Need-put-tree-requires Inv-loop μ-loop
 put-tree-requires c κs =
     let t = c .before in
     let l = turn t in
-    record { run = t .run-end .ensures .run; fits = part-room (l .loop .inv .putting) (this-line t) (later t) (next-is t) (l .loop .inv .room) }
+    record { run = t .run-end .ensures .run; fits = so-far-room (l .loop .inv .putting) (this-line t) (later t) (next-is t) (l .loop .inv .room) }
 
 add-j : tie.Need-add-j Inv-loop μ-loop
 add-j c = omega arith
@@ -97,7 +97,7 @@ loop-again c =
     record {
       begins = begins-next (s .args .c .now) (edgeCount (g l)) (s .pre .entries) (l .loop .inv .begins) (t .run-end .ensures);
       room = l .loop .inv .room;
-      putting = part-put (l .loop .inv .putting) (this-line t) (later t) (next-is t) (p .put-tree .ensures);
+      putting = so-far-on (l .loop .inv .putting) {xs = this-line t} {other = later t} (next-is t) (p .put-tree .ensures);
     }
 
 same-length : tie.Need-same-length Inv-loop μ-loop
