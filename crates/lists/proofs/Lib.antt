@@ -121,8 +121,6 @@ pub mod SegmentOf
 pub mod FirstElement
 -- a segment as code takes it
 pub mod SegmentTaken
--- room for the next part of a list that is put part by part
-pub mod RoomLeft
 -- elements and parts of an array that a list was put into
 pub mod PutPlaces
 -- values stored one after the other

@@ -11,7 +11,7 @@ use Rattle.lists.specs.Put.{Put}
 use Rattle.lists.proofs.Put.{put-rest, put-length}
 use Rattle.lists.proofs.PutSlice.{put-before, put-slice}
 use Rattle.lists.proofs.SegmentSizes.{slice-taken}
-use Rattle.lists.proofs.Stores.{slice-same}
+use Rattle.lists.proofs.Slices.{slice-same}
 
 -- Put at the front, it stands before the rest of what was there.
 pub put-at-front : {A : Type 0} {xs before after : List A} → Put 0 xs before after → after ≡ xs ++ drop (length xs) before

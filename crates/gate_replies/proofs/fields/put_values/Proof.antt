@@ -6,8 +6,7 @@ use mathlib.Core.List.{List, _++_}
 use native.Mathlib.Omega.{arith}
 use lib.ListN.{length, drop, getD}
 use Rattle.lists.proofs.NextPlace.{rest-next, rest-none}
-use Rattle.lists.proofs.PutOneByOne.{PutSoFar, so-far-none, so-far-on, so-far-all}
-use Rattle.lists.proofs.RoomLeft.{so-far-room}
+use Rattle.lists.proofs.PutOneByOne.{PutSoFar, so-far-none, so-far-on, so-far-all, so-far-room}
 use Rattle.gate_replies.specs.Fields.{field, fields}
 use Rattle.gate_replies.proofs.FieldLaws.{fields-length, fields-none, fields-next}
 use borrow.Author.Needs.{needs}

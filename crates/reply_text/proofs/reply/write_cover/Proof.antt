@@ -5,9 +5,8 @@ use mathlib.Core.Path.{refl, sym}
 use mathlib.Core.List.{List, [], _∷_, _++_, append-nil}
 use native.Mathlib.Omega.{arith}
 use lib.ListN.{length}
-use Rattle.lists.proofs.PutOneByOne.{PutSoFar, so-far-none, so-far-on, so-far-all}
+use Rattle.lists.proofs.PutOneByOne.{PutSoFar, so-far-none, so-far-on, so-far-all, so-far-room}
 use Rattle.reply_text.specs.Lines.{bytesOf, spaced, ended}
-use Rattle.lists.proofs.RoomLeft.{so-far-room}
 use Rattle.reply_text.proofs.TextLengths as text
 use borrow.Author.Needs.{needs}
 use Rattle.reply_text.proofs.reply.write_cover.Statement.{statement}

@@ -5,10 +5,9 @@ use mathlib.Core.Path.{_≡_}
 use mathlib.Core.List.{_++_}
 use native.Mathlib.Omega.{arith}
 use lib.ListN.{length}
-use Rattle.lists.proofs.PutOneByOne.{PutSoFar, so-far-none, so-far-on, so-far-all}
+use Rattle.lists.proofs.PutOneByOne.{PutSoFar, so-far-none, so-far-on, so-far-all, so-far-room}
 use Rattle.cover.specs.Runs.{runEdges}
 use Rattle.reply_text.specs.Lines.{spaced, allSpaced}
-use Rattle.lists.proofs.RoomLeft.{so-far-room}
 use Rattle.reply_text.proofs.TreeLines.{run-spaced, run-done}
 use Rattle.reply_text.proofs.trees.put_run.Statement.{statement}
 use Rattle.reply_text.proofs.trees.put_run.Tie as tie

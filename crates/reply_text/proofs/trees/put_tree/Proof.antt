@@ -5,13 +5,12 @@ use mathlib.Core.Path.{_≡_, refl}
 use mathlib.Core.List.{List, [], _++_}
 use native.Mathlib.Omega.{arith}
 use lib.ListN.{length}
-use Rattle.lists.proofs.PutOneByOne.{PutSoFar, so-far-none, so-far-on, so-far-all}
+use Rattle.lists.proofs.PutOneByOne.{PutSoFar, so-far-none, so-far-on, so-far-all, so-far-room}
 use Rattle.graph.specs.Graph.{Graph}
 use Rattle.graph.specs.Bytes.{graphOf}
 use Rattle.rules.specs.Cover.{Tree, treeWeight}
 use Rattle.reply_text.specs.Lines.{bytesOf, spaced, allSpaced}
 use Rattle.reply_text.specs.Trees.{runTree}
-use Rattle.lists.proofs.RoomLeft.{so-far-room}
 use Rattle.reply_text.proofs.TreeLines.{fromStart, fromWeight, fromEdges, tree-parts}
 use borrow.Author.Needs.{needs}
 use Rattle.reply_text.proofs.trees.put_tree.Statement.{statement}

@@ -5,7 +5,7 @@ use mathlib.Core.Path.{_≡_, ap, _∙_}
 use mathlib.Core.List.{List, _++_}
 use native.Mathlib.Omega.{arith}
 use lib.ListN.{length}
-use Rattle.lists.proofs.PutOneByOne.{PutSoFar, so-far-none, so-far-on, so-far-all}
+use Rattle.lists.proofs.PutOneByOne.{PutSoFar, so-far-none, so-far-on, so-far-all, so-far-room}
 use Rattle.graph.specs.Graph.{Graph, edgeCount}
 use Rattle.graph.specs.Bytes.{graphOf}
 use Rattle.rules.specs.CoverBytes.{treesIn}
@@ -13,7 +13,6 @@ use Rattle.cover.specs.Runs.{BeginsAt}
 use Rattle.cover.proofs.TreeRuns.{begins-first, begins-next, tree-is-run}
 use Rattle.reply_text.specs.Text.{treeLine, treeLines}
 use Rattle.reply_text.specs.Trees.{runTree}
-use Rattle.lists.proofs.RoomLeft.{so-far-room}
 use Rattle.reply_text.proofs.TreeLines.{treesFrom, trees-all, lines-next, lines-done}
 use Rattle.reply_text.proofs.trees.put_trees.Statement.{statement}
 use Rattle.reply_text.proofs.trees.put_trees.Tie as tie

@@ -8,8 +8,7 @@ use borrow.Author.Needs.{needs}
 use lib.ListN.{length, getD, drop}
 use Rattle.lists.specs.Count.{from}
 use Rattle.lists.specs.Put.{PutTo}
-use Rattle.lists.proofs.PutOneByOne.{PutSoFar, so-far-none, so-far-on, so-far-all}
-use Rattle.lists.proofs.RoomLeft.{so-far-room}
+use Rattle.lists.proofs.PutOneByOne.{PutSoFar, so-far-none, so-far-on, so-far-all, so-far-room}
 use Rattle.lists.proofs.Runs.{length-from}
 use Rattle.graph.specs.Bytes.{Reads}
 use Rattle.pieces.specs.Pieces.{RunAsked}

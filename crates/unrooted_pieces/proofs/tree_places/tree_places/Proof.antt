@@ -7,8 +7,7 @@ use native.Mathlib.Omega.{arith}
 use lib.ListN.{length, getD, drop}
 use borrow.Author.Needs.{needs}
 use Rattle.lists.proofs.NextPlace.{rest-next, rest-none}
-use Rattle.lists.proofs.PutOneByOne.{PutSoFar, so-far-none, so-far-on, so-far-all}
-use Rattle.lists.proofs.RoomLeft.{so-far-room}
+use Rattle.lists.proofs.PutOneByOne.{PutSoFar, so-far-none, so-far-on, so-far-all, so-far-room}
 use Rattle.lists.proofs.Runs.{length-from}
 use Rattle.unrooted_pieces.specs.TreePlaces.{run, treeEnd, treePlaces}
 use Rattle.unrooted_pieces.proofs.TreesPlaced.{end-most, places-next, places-none}
