@@ -14,7 +14,7 @@ use Rattle.rules.specs.Labels.{together}
 use Rattle.rules.specs.Forest.{keep}
 use Rattle.rules.specs.RootedTrial.{unjoinedAt}
 use Rattle.edges.specs.Around.{Around}
-use Rattle.steps.specs.WalkPut.{Walk}
+use Rattle.steps.specs.WalkPut.{TreeSteps}
 use Rattle.distance_table.specs.Tabled.{DistancesTabled, LastsTabled}
 
 -- A graph's bytes, and roots among its vertices, at least one and at most 32.
@@ -36,7 +36,7 @@ WholeAround b roots bounds arcs = Around (graphOf b) (rise (keep (graphOf b) (to
 
 -- The walk of the whole forest's trees, by which every limit's parts are counted, and their vertices passed.
 abbrev pub WholeWalked : List ℕ → List ℕ → List ℕ → Type 0
-WholeWalked b roots walk = Walk (graphOf b) (rise (keep (graphOf b) (together roots) (ordered (graphOf b)))) roots walk
+WholeWalked b roots walk = TreeSteps (graphOf b) (rise (keep (graphOf b) (together roots) (ordered (graphOf b)))) roots walk
 
 -- What writing an answer takes besides: the edges around each vertex, all edges in order, and the last edges of the shortest paths.
 pub record Prepared (b roots order kept bounds arcs table lasts : List ℕ) : Type 0 where

@@ -51,7 +51,7 @@ pub record StepsInside (steps : List ℕ) : Type 0 where
 
 -- The steps of the trees that are grown along the edges from the roots: one pass counts the parts at every threshold, and one tells at which of
 -- them a test holds.
-pub record Walk (g : Graph) (edges roots steps : List ℕ) : Type 0 where
+pub record TreeSteps (g : Graph) (edges roots steps : List ℕ) : Type 0 where
   pub inside : StepsInside steps
   pub counts : (H : ℕ) → partsCounted H steps ≡ length (allParts (map (split g H) (grow g edges roots)))
   pub touches : (H : ℕ) (test : ℕ → Bool) → partsTouched H test steps ≡ map (λ part. any test (treeVertices g part)) (allParts (map (split g H) (grow g edges roots)))
@@ -60,7 +60,7 @@ pub record Walk (g : Graph) (edges roots steps : List ℕ) : Type 0 where
 pub record WalkPut (n : ℕ) (bounds arcs roots walk walk′ : List ℕ) (r : ℕ) : Type 0 where
   pub steps : List ℕ
   pub put : PutTo 0 steps walk walk′ r
-  pub of-graph : (g : Graph) (edges : List ℕ) → Around g edges bounds arcs → g .vertices ≡ n → Walk g edges roots steps
+  pub of-graph : (g : Graph) (edges : List ℕ) → Around g edges bounds arcs → g .vertices ≡ n → TreeSteps g edges roots steps
 
 -- What counting asks: steps among 256 vertices, and a threshold below 2 to the 32nd, so that no sum wraps.
 pub record Countable (H : ℕ) (steps : List ℕ) : Type 0 where
