@@ -7,7 +7,7 @@ use native.Mathlib.Omega.{arith}
 use lib.Dec.{leb}
 use lib.ListN.{length, take, drop, replicate, length-replicate, List·getD-append}
 use lib.Seq.{getD-take, length-take-le}
-use Rattle.lists.proofs.Put.{only-front}
+use Rattle.lists.proofs.OnlyFirst.{only-front}
 use Rattle.lists.proofs.Zeros.{zeros-at}
 use Rattle.graph.specs.Graph.{Graph}
 use Rattle.graph.specs.Bytes.{graphOf}
