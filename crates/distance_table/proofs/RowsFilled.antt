@@ -8,8 +8,8 @@ use native.Mathlib.Omega.{arith}
 use borrow.Author.Count.{below-none, below-more}
 use lib.ListN.{length, getD, take, drop}
 use Rattle.lists.specs.Count.{below}
-use Rattle.lists.specs.Put.{Put, OnlyFirst}
-use Rattle.lists.proofs.OnlyFirst.{only-first-none, only-first-then, only-first-put}
+use Rattle.lists.specs.Put.{OnlyFirst}
+use Rattle.lists.proofs.OnlyFirst.{only-first-none}
 use Rattle.lists.proofs.Put.{put-length, only-first-length}
 use Rattle.graph.specs.Graph.{Graph, edgeCount}
 use Rattle.rules.specs.Distance.{distances}
@@ -17,16 +17,12 @@ use Rattle.edges.specs.Around.{Around}
 use Rattle.distance.specs.Shortest.{SaysDistance, Shortest, Searched}
 use Rattle.distance_table.specs.Tabled.{rowOf}
 use Rattle.distance_table.specs.Table.{TableFilled}
-use Rattle.distance_table.proofs.RowPlaces.{row-length, row-behind, part-at}
-use Rattle.distance_table.proofs.RowsPut.{row-put, row-here, row-earlier}
+use Rattle.distance_table.proofs.RowPlaces.{row-length, part-at}
+use Rattle.distance_table.proofs.RowsPut.{row-put, row-here, row-earlier, only-first-row}
 
 -- The distances and the last edges of one root are those that were searched, of whatever graph the arcs are.
 pub record RootSearched (n : ℕ) (bounds arcs : List ℕ) (root : ℕ) (row last : List ℕ) : Type 0 where
   pub of-graph : (g : Graph) → Around g (below (edgeCount g)) bounds arcs → g .vertices ≡ n → Shortest g root row last
-
--- One row more was put behind those that changed.
-only-first-row : (j n : ℕ) {rows now row after : List ℕ} → OnlyFirst (j * n) rows now → Put (j * n) row now after → length row ≡ n → OnlyFirst ((j + 1) * n) rows after
-only-first-row j n o p size = rw (← row-behind j n) (only-first-then o (only-first-put p (j * n + n) (omega arith)) (omega arith))
 
 -- The rows of the first j roots are filled, and nothing behind them changed.
 pub record TableUnderway (n : ℕ) (bounds arcs roots : List ℕ) (j : ℕ) (table table-now lasts lasts-now : List ℕ) : Type 0 where
@@ -67,8 +63,8 @@ module _ (n : ℕ) (bounds arcs roots : List ℕ) where
           within = omega arith;
           table-size = put-length in-place ∙ m .table-size;
           lasts-size = put-length last-in-place ∙ m .lasts-size;
-          table-only = only-first-row j n (m .table-only) in-place dist-size;
-          lasts-only = only-first-row j n (m .lasts-only) last-in-place last-size;
+          table-only = only-first-row j n in-place dist-size (m .table-only);
+          lasts-only = only-first-row j n last-in-place last-size (m .lasts-only);
           each =
               below-more (λ i. RootSearched n bounds arcs (getD roots i 0) (rowOf n (next table-now dist size) i) (rowOf n (next lasts-now last size) i)) j
               (λ i l. rw (row-earlier j n in-place dist-size i l, row-earlier j n last-in-place last-size i l) (m .each i l))

@@ -11,12 +11,12 @@ use borrow.Author.Count.{below-more}
 use lib.Dec.{eqb}
 use lib.ListN.{length, getD, take, drop, set}
 use Rattle.lists.specs.Put.{OnlyFirst}
-use Rattle.lists.proofs.OnlyFirst.{only-first-none, only-first-then, only-first-put}
+use Rattle.lists.proofs.OnlyFirst.{only-first-none}
 use Rattle.lists.proofs.Put.{put-length}
 use Rattle.lists.proofs.PutPlaces.{put-at, put-at-before}
 use Rattle.lists.proofs.SetUpTo.{SetUpTo, set-none, set-more}
-use Rattle.distance_table.proofs.RowPlaces.{row-length, row-behind, row-before}
-use Rattle.distance_table.proofs.RowsPut.{row-put}
+use Rattle.distance_table.proofs.RowPlaces.{row-length, row-before}
+use Rattle.distance_table.proofs.RowsPut.{row-put, only-first-row}
 use Rattle.near.specs.Bits.{bitAt}
 use Rattle.near.specs.Rows.{RowPut, RowsPut}
 
@@ -81,7 +81,7 @@ module _ {k : ℕ} {parts : List ℕ} where
               below-more (λ h. (j : ℕ) → j < k → getD (take (i * k) after ++ (row ++ drop s (drop (i * k) after))) (h * k + j) 0 ≡ cond (bitAt j (getD parts h 0)) 1 0) i
               (λ h l j n. put-at-before p 0 (h * k + j) (omega (arith, row-before h i k l)) ∙ m .done h j l n)
               (λ j n. put-at p 0 j (omega arith) ∙ put .each j (omega (arith, came))) h l j n;
-          rest = rw (← row-behind i k) (only-first-then (m .rest) (only-first-put p (i * k + k) (omega arith)) (omega arith));
+          rest = only-first-row i k p count (m .rest);
         }
 
     pub rows-all : length parts ≤ i → RowsPut k parts before after
