@@ -39,7 +39,17 @@ same-length-6 : tie.Need-same-length-6
 same-length-6 c = search needs
 
 returns : tie.Need-returns
-returns c = search needs
+returns c =
+    let m = c .before .before .before .before in
+    let k = let d = m .before .before .before .before .before .before in d .before .before .before .before .before .before in
+    let s = let d = k .before .before .before .before .before .before in d .before .before .before .before .before .before .before in
+    let f = k .keep-forest .ensures in
+    record {
+      edges-room = f .edges-room;
+      forest-room = f .forest-room;
+      in-order = f .in-order;
+      history = record { forest-kept = record { graph = s .pre .for-forest .for-order .graph; forest-is = f .forest }; history = m .record-merges .ensures .history };
+    }
 
 pub prepare-unrooted-spec : {M : Type 1} → statement M
 prepare-unrooted-spec =
