@@ -32,7 +32,7 @@ use Rattle.pieces.specs.declared.reply.Reply.the-variants.{NoCover}
 use Rattle.pieces.specs.Replies.{Answers}
 use Rattle.asking.specs.declared.ask.Asked.{Asked}
 use Rattle.asking.specs.declared.ask.Asked.the-variants.{At, Best}
-use Rattle.rooted_state.proofs.LimitDecided.{roots-inside}
+use Rattle.rooted_state.proofs.RootsReady.{roots-inside}
 use Rattle.prepare.specs.Crews.{crewsWith, CrewsReady}
 use Rattle.asking.specs.Asking.{Answered, RootedAsked, UnrootedAsked, CrewsAsked}
 

@@ -8,7 +8,7 @@ use lib.ListN.{length, replicate, length-replicate}
 use Rattle.graph.specs.Bytes.{graphOf}
 use Rattle.rooted_state.specs.Prepared.{WholeAround, PartsReady}
 use Rattle.rooted_state.specs.Placed.{PieceArrays, arraysOf}
-use Rattle.rooted_state.proofs.LimitDecided.{limit-ready}
+use Rattle.rooted_state.proofs.RootsReady.{limit-ready}
 use Rattle.rooted_parts.specs.Parts.{PiecesAsked, PartsAsked}
 
 -- The arrays before the trial.

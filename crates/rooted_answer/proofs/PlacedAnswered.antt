@@ -22,7 +22,7 @@ use Rattle.rooted_cover.specs.CoverTrees.{CoverAsked, CoverAtLimits}
 use Rattle.rooted_state.specs.Prepared.{PartsReady}
 use Rattle.rooted_state.specs.Placed.{arraysOf, TrialArrays, trialArrays, PartsPlaced}
 use Rattle.deficient.specs.TooLowParts.{SetGiven, SetReplied}
-use Rattle.rooted_state.proofs.LimitDecided.{limit-ready}
+use Rattle.rooted_state.proofs.RootsReady.{limit-ready}
 use Rattle.rooted_state.proofs.PlacedPieces.{parts-count}
 use Rattle.rooted_answer.proofs.RootedAnswers.{answers-cover, answers-parts}
 use Rattle.deficient.proofs.TooLowPlaced.{too-low-given, too-low-written}

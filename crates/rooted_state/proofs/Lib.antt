@@ -1,4 +1,6 @@
 -- The laws of it that more than one crate cites, in reading order.
+-- the roots and the distances from them
+pub mod RootsReady
 -- what the whole forest says of a limit
 pub mod LimitDecided
 -- a root is near a part where it is within the limit of one of its vertices

@@ -9,10 +9,7 @@ use mathlib.Core.Option.{Option, some, none}
 use native.Mathlib.Omega.{arith}
 use lib.ListN.{length, take, replicate, length-replicate}
 use lib.Seq.{length-take-le, take-all}
-use Rattle.lists.specs.Member.{_∈_}
-use Rattle.lists.proofs.Places.{place-of}
 use Rattle.graph.specs.Graph.{Graph}
-use Rattle.graph.specs.Bytes.{graphOf}
 use Rattle.graph.specs.Valid.{Valid}
 use Rattle.rules.specs.Cover.{rooted}
 use Rattle.rules.specs.Order.{ordered}
@@ -26,11 +23,8 @@ use Rattle.forest.specs.Lowest.{vertexIn}
 use Rattle.forest.specs.declared.lowest.Found.{Found}
 use Rattle.forest.specs.declared.lowest.Found.the-variants.{At, Nothing}
 use Rattle.pieces.specs.Whole.{StopAsked, StopFound, LightForest}
-use Rattle.rooted_state.specs.Prepared.{RootsGiven, LimitReady, TrialAsked}
-
--- The roots are vertices.
-pub roots-inside : {b roots : List ℕ} → RootsGiven b roots → (r : ℕ) → r ∈ roots → r < graphOf b .vertices
-roots-inside given r m = let (j, h, q) = place-of 0 m in rw q at (given .inside j h)
+use Rattle.rooted_state.specs.Prepared.{RootsGiven}
+use Rattle.rooted_state.proofs.RootsReady.{roots-inside}
 
 -- A label for each of 256 vertices is enough to look for a vertex joined to no root.
 pub stop-asked : {b roots : List ℕ} → RootsGiven b roots → StopAsked b roots (replicate 256 0)
@@ -40,10 +34,6 @@ stop-asked given =
       roots-some = given .some;
       roots-inside = roots-inside given;
     }
-
--- A limit within document 01's range is ready for the roots' distances.
-pub limit-ready : {b roots : List ℕ} {limit : ℕ} {kept table : List ℕ} → TrialAsked b roots limit kept table → LimitReady b roots limit table
-limit-ready a = record { given = a .decidable .given; distances = a .decidable .distances; limit-most = a .limit-most }
 
 -- Where there is no such vertex, there is none.
 no-vertex-none : (o : Option ℕ) → not (noVertex o) ≡ false → o ≡ none

@@ -1,5 +1,5 @@
 -- What is prepared once a question: the order of the edges, the whole forest with the edges around each vertex, and the distances from all roots
--- with their last edges. One preparation serves every limit (document 01, steps 1, 2 and 5).
+-- with their last edges; and what a trial at a limit asks of it. One preparation serves every limit (document 01, steps 1, 2 and 5).
 -- Assumes nothing.
 use Prim.Native.Nat.{ℕ, _≤_, _<_}
 use mathlib.Core.Path.{_≡_}

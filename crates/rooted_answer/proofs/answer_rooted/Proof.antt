@@ -11,7 +11,8 @@ use Rattle.graph.specs.Bytes.{graphOf}
 use Rattle.rules.specs.RootedTrial.{unjoinedAt}
 use Rattle.forest.specs.Lowest.{vertexIn}
 use Rattle.rooted_answer.specs.Answer.{JoinedAsked}
-use Rattle.rooted_state.proofs.LimitDecided.{roots-inside, stop-asked, stop-is}
+use Rattle.rooted_state.proofs.RootsReady.{roots-inside}
+use Rattle.rooted_state.proofs.LimitDecided.{stop-asked, stop-is}
 use Rattle.rooted_answer.proofs.PlacedAnswered.{joined-asked}
 use Rattle.rooted_answer.proofs.RootedAnswers.{answers-stop}
 use Rattle.rooted_answer.proofs.answer_rooted.Statement.{statement}

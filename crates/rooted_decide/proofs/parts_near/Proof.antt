@@ -1,7 +1,7 @@
 -- `rooted_decide::parts_near` meets its contract: the vertices' words are made, and the parts' by one pass over the walk. Assumes nothing.
 use native.Mathlib.Omega.{arith}
 use borrow.Author.Needs.{needs}
-use Rattle.rooted_state.proofs.LimitDecided.{limit-ready}
+use Rattle.rooted_state.proofs.RootsReady.{limit-ready}
 use Rattle.rooted_parts.proofs.WordsWithin.{within-asked}
 use Rattle.rooted_decide.proofs.PartsNear.{near-parts-asked, parts-near}
 use Rattle.rooted_decide.proofs.parts_near.Statement.{statement}
