@@ -1,6 +1,6 @@
 -- The parts of a set that admits no assignment, laid out and written (document 01, step 5: "too low, parts T, yards D").
 -- Assumes nothing.
-use Prim.Native.Nat.{ℕ, _+_, _*_, _≤_, _<_}
+use Prim.Native.Nat.{ℕ, _*_, _≤_, _<_}
 use mathlib.Core.Path.{_≡_}
 use mathlib.Core.List.{List, map, headD}
 use lib.ListN.{length, getD, take}
@@ -13,7 +13,7 @@ use Rattle.matching.specs.Input.{allowedAt}
 use Rattle.rules.specs.CoverBytes.{encode}
 use Rattle.rules.specs.Held.{treesAt, risen}
 use Rattle.rules.specs.RootedTrial.{rootedParts, mayGo, chosenParts}
-use Rattle.cover.specs.Chosen.{AllHeld}
+use Rattle.cover.specs.Chosen.{IsHeld, AllHeld}
 use Rattle.pieces.specs.declared.reply.Reply.{Reply}
 use Rattle.pieces.specs.declared.reply.Reply.the-variants.{Parts}
 use Rattle.deficient.specs.declared.Deficient.{Deficient}
@@ -29,9 +29,9 @@ pub record LayGiven (cuts flat chosen : List ℕ) (bounds-room edges-room : ℕ)
   pub edges-fit : edgesOf cuts flat chosen ≤ edges-room
   pub small : edges-room < 65536
 
--- What taking the keys of t trees asks: no bound past the edges, and room for the keys.
+-- What taking the keys of t trees asks: each is held, and there is room for the keys.
 pub record KeysGiven (bounds edges : List ℕ) (t room : ℕ) : Type 0 where
-  pub inside : (i : ℕ) → i < t → getD bounds (i + 1) 0 ≤ length edges
+  pub held : (i : ℕ) → i < t → IsHeld bounds edges i
   pub fits : t ≤ room
 
 -- At the number of each tree stands its first edge.

@@ -1,6 +1,7 @@
 // The parts of a set that admits no assignment, written (document 01, step 5: "too low, parts T, yards D", the parts "ordered by smallest
 // line"). The pieces stand as the splitting left them; those chosen are laid out again with their edges rising.
 // The words of the contracts stand in specs/ and in the definitions of the crate `rules`.
+use cover::index::edges_at;
 use cover::write::write_cover;
 use edges::index::wide;
 use pieces::chosen::sort_chosen;
@@ -11,11 +12,9 @@ use pieces::pieces::put_risen;
 use pieces::reply::Reply;
 use unions::deficient::count_allowed;
 use unions::deficient::marked_places;
-ghost use mathlib.Core.Path.{_≡_};
-ghost use mathlib.Core.List.{map, headD};
+ghost use mathlib.Core.List.{map};
 ghost use Prim.Native.Nat.{_≤_};
 ghost use lib.ListN.{length, getD};
-ghost use lib.Seq.{slice};
 ghost use Rattle.lists.specs.Put.{PutTo};
 ghost use Rattle.lists.specs.Segments.{segment};
 ghost use Rattle.lists.specs.Sort.{rise};
@@ -60,17 +59,6 @@ fn lay_edges(cuts: &[u16], flat: &[u16], chosen: &[u16], bounds: &mut [u16], edg
     }
 }
 
-// The first of the edges from one place up to another; 0 where there are none.
-fn first_edge(edges: &[u16], from: usize, to: usize) -> u32
-    requires { ⌜ to ≤ length (now edges) ⌝ }
-    ensures { λ r. ⌜ r ≡ headD (slice from to (now (edges .entry))) 0 ⌝ }
-{
-    if to <= from {
-        return 0;
-    }
-    edges[from] as u32
-}
-
 // The key of each tree: its first edge, the smallest where they rise.
 fn take_keys(bounds: &[u16], edges: &[u16], t: usize, keys: &mut [u32])
     requires { ⌜ KeysGiven (now bounds) (now edges) t (length (now keys)) ⌝ }
@@ -78,9 +66,7 @@ fn take_keys(bounds: &[u16], edges: &[u16], t: usize, keys: &mut [u32])
 {
     let mut i = 0;
     while i < t {
-        let from = wide(element_at(bounds, i));
-        let to = wide(element_at(bounds, i + 1));
-        keys[i] = first_edge(edges, from, to);
+        keys[i] = wide(element_at(edges_at(bounds, edges, i), 0)) as u32;
         i += 1;
     }
 }

@@ -1,14 +1,14 @@
 -- The three answers of a rooted trial: a vertex is joined to no root, or else a cover was written, or else the parts of a deficient set.
 -- Assumes nothing.
-use Prim.Native.Nat.{ℕ, _+_, _<_}
-use mathlib.Core.Path.{_≡_, refl, sym, ap, _∙_}
+use Prim.Native.Nat.{ℕ, _<_}
+use mathlib.Core.Path.{_≡_, refl, sym, _∙_}
 use mathlib.Core.Bool.{true, false, true≢false}
-use mathlib.Core.List.{List, [], _++_}
+use mathlib.Core.List.{List, []}
 use mathlib.Core.Option.{some, none}
-use lib.ListN.{length, drop}
+use lib.ListN.{length}
 use Rattle.lists.specs.Member.{_∈_}
-use Rattle.lists.specs.Put.{Put, PutTo}
-use Rattle.lists.proofs.Put.{put-front, put-count}
+use Rattle.lists.specs.Put.{Put}
+use Rattle.lists.proofs.PutPlaces.{put-at-front}
 use Rattle.lists.proofs.Runs.{length-map-below}
 use Rattle.graph.specs.Graph.{Graph}
 use Rattle.graph.specs.Valid.{Valid}
@@ -24,10 +24,6 @@ use Rattle.pieces.specs.Replies.{Answers}
 use Rattle.pieces.specs.declared.reply.Reply.the-variants.{Cover, Stop, Parts}
 use Rattle.deficient.specs.declared.Deficient.{Deficient}
 use Rattle.deficient.specs.TooLowParts.{DeficientWritten}
-
--- What is put at the front stands before the rest of what was there.
-front-is : {xs before after : List ℕ} → Put 0 xs before after → after ≡ xs ++ drop (length xs) before
-front-is {xs} {before} {after} p = let t : PutTo 0 xs before after (0 + length xs) = record { put = p; behind = refl } in put-front t ∙ ap (λ n. xs ++ drop n before) (put-count t)
 
 -- A cover has a tree for each root.
 cover-many : (g : Graph) (roots : List ℕ) (limit : ℕ) (c : Choices) → length (rootedCover g roots limit c) ≡ length roots
@@ -71,7 +67,7 @@ module _ (g : Graph) (roots : List ℕ) (limit : ℕ) where
               rw (trial-cover c t)
               (record {
                 same = rw (is, cover-many g roots limit c) refl;
-                buffer = front-is put;
+                buffer = put-at-front put;
               });
         }
 
@@ -94,7 +90,7 @@ module _ (g : Graph) (roots : List ℕ) (limit : ℕ) where
               rw (trial-parts c f)
               (record {
                 same = rw (w .parts-are, w .roots-are) refl;
-                buffer = front-is (w .written .put);
+                buffer = put-at-front (w .written .put);
               });
         }
 

@@ -125,7 +125,7 @@ take-keys-requires : tie.Need-take-keys-requires
 take-keys-requires c κs =
     let l = laidBefore c in
     let w = l .lay-edges .ensures in
-    record { inside = λ i h. omega (arith, w .bounded .within (i + 1) (omega arith), w .inside); fits = omega (arith, start l .pre .few) }
+    record { held = λ i h. record { forward = w .bounded .rising i h; inside = omega (arith, w .bounded .within (i + 1) (omega arith), w .inside) }; fits = omega (arith, start l .pre .few) }
 
 slice-aggregate-number-up : tie.Need-slice-aggregate-number-up
 slice-aggregate-number-up c = search needs
