@@ -20,7 +20,7 @@ ghost use Rattle.distance.specs.Trail.{trailOf, CanGoBack};
 ghost use Rattle.distance.specs.Shortest.{Searchable, Searched};
 
 // What stands in `dist` for a vertex that no walk leads to. Every distance is below it.
-pub const UNREACHED: u32 = 4294967295;
+pub(crate) const UNREACHED: u32 = 4294967295;
 
 // The distance of each of n vertices from the root, and the last edge of a shortest path to each that is reached, with the vertex before it.
 pub fn distances_from(

@@ -13,7 +13,7 @@ use Rattle.graph.specs.Valid.{Valid}
 use Rattle.rules.specs.Walk.{Walk, totalWeight}
 use Rattle.rules.specs.Distance.{Distance, distances}
 use Rattle.distance_laws.proofs.Nearer.{AtMost}
-use Rattle.distance_laws.proofs.Reaching.{Reached, value-reached}
+use Rattle.distance_laws.proofs.Reaching.{ReachedAt, value-reached}
 use Rattle.distance_laws.proofs.Bounding.{looser, value-most}
 use Rattle.distance_laws.proofs.Shortening.{shortened}
 
@@ -29,7 +29,7 @@ abbrev pub distanceTo : Graph → ℕ → ℕ → Distance
 distanceTo g r v = getD (distances g r) v none
 
 -- Each distance is the weight of a walk along edges of the graph.
-pub distance-reached : (g : Graph) (r v : ℕ) {d : ℕ} → distanceTo g r v ≡ some d → Reached g r v d
+pub distance-reached : (g : Graph) (r v : ℕ) {d : ℕ} → distanceTo g r v ≡ some d → ReachedAt g r v d
 unfolding distances
 distance-reached g r v q = value-reached g r (g .vertices) v q
 

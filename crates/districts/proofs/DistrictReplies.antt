@@ -1,7 +1,7 @@
 -- What is written of a reply, whole or in part, and of the check's answer; and that it fits.
 -- Assumes nothing.
 use Prim.Native.Nat.{ℕ, _≤_}
-use mathlib.Core.Path.{_≡_, sym, ap, subst, _∙_}
+use mathlib.Core.Path.{_≡_, sym, subst}
 use mathlib.Core.Bool.{Bool, true, false}
 use mathlib.Core.List.{List, [], _∷_}
 use lib.ListN.{length}
@@ -33,11 +33,11 @@ district-fits true a w = text-fits a (w .text)
 district-fits false {reply = reply} a w = fixed-fits reply a (w .text)
 
 -- The check's answer: yes, or a number.
-module _ {v : Verdict} {before after : List ℕ} {r : ℕ} where
+module _ (v : Verdict) {before after : List ℕ} {r : ℕ} where
   pub yes-put : {heaviest : ℕ} → v ≡ Yes heaviest → PutTo 0 (line "yes" (heaviest ∷ [])) before after r → PutTo 0 (verdictText (says v)) before after r
   unfolding verdictText
   yes-put q p = subst (λ x. PutTo 0 (verdictText (says x)) before after r) (sym q) p
 
-  pub number-put : {w : Verdict} {n : ℕ} → v ≡ w → says w ≡ rules.number n → RefusalWritten n before after r → PutTo 0 (verdictText (says v)) before after r
+  pub number-put : {n : ℕ} → says v ≡ rules.number n → RefusalWritten n before after r → PutTo 0 (verdictText (says v)) before after r
   unfolding verdictText textOf
-  number-put q e p = subst (λ x. PutTo 0 (verdictText x) before after r) (sym (ap says q ∙ e)) (p .text (graphOf []))
+  number-put e p = subst (λ x. PutTo 0 (verdictText x) before after r) (sym e) (p .text (graphOf []))

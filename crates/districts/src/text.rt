@@ -1,6 +1,7 @@
 // What is printed of a reply, and of the check's answer.
 use cover::crews::Kind;
 use filed::check::Verdict;
+use filed::check::number_of;
 use gate_replies::fixed::write_fixed;
 use pieces::reply::Reply;
 use reply_text::lines::put_line;
@@ -41,26 +42,8 @@ pub(crate) fn write_verdict(verdict: Verdict, out: &mut [u8]) -> usize
         Verdict::Yes(heaviest) => {
             return put_line(b"yes", heaviest, out, 0);
         }
-        Verdict::Sheet(fault) => {
-            return write_refused(graph_check::number(fault) as u64, out);
-        }
-        Verdict::Crews => {
-            return write_refused(21, out);
-        }
-        Verdict::Length => {
-            return write_refused(31, out);
-        }
-        Verdict::Starts => {
-            return write_refused(32, out);
-        }
-        Verdict::Entries => {
-            return write_refused(33, out);
-        }
-        Verdict::Trees => {
-            return write_refused(34, out);
-        }
-        Verdict::Vertices => {
-            return write_refused(35, out);
+        _ => {
+            return write_refused(number_of(verdict) as u64, out);
         }
     }
 }

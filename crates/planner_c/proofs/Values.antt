@@ -12,8 +12,8 @@ use Rattle.rules.specs.Reply as rules
 use Rattle.filed.proofs.check.Verdict as verdict
 use Rattle.cover.specs.declared.crews.Kind.the-variants.{Unrooted}
 use Rattle.filed.specs.declared.check.Verdict.{Verdict}
-use Rattle.filed.specs.declared.check.Verdict.the-variants.{Yes, Sheet, Crews, Length, Starts, Entries, Trees, Vertices}
 use Rattle.filed.specs.Promise.{numberOr0}
+use Rattle.filed.proofs.VerdictNumbers.{refusals, refused-number}
 use Rattle.pieces.proofs.reply.Reply as reply
 use Rattle.pieces.specs.declared.reply.Reply.{Reply}
 use Rattle.pieces.specs.declared.reply.Reply.the-variants as replies
@@ -62,16 +62,6 @@ puts-no-value (replies.Parts T D) before case = absurd (miss withoutValues 6 tt 
 puts-no-value (replies.Needs C) before case = absurd (miss withoutValues 7 tt case)
 puts-no-value replies.NoCover before case = record { values = refl }
 
--- A verdict that is not yes (0).
-abbrev numbers : List ℕ
-numbers = 1 ∷ 2 ∷ 3 ∷ 4 ∷ 5 ∷ 6 ∷ 7 ∷ []
-
-pub puts-no-heaviest : (v : Verdict) (before : List ℕ) → OneOf numbers (tagOf verdict.the-type v) → Puts (sayingOf v) before before
-puts-no-heaviest (Yes h) before case = absurd (miss numbers 0 tt case)
-puts-no-heaviest (Sheet f) before case = record { values = refl }
-puts-no-heaviest Crews before case = record { values = refl }
-puts-no-heaviest Length before case = record { values = refl }
-puts-no-heaviest Starts before case = record { values = refl }
-puts-no-heaviest Entries before case = record { values = refl }
-puts-no-heaviest Trees before case = record { values = refl }
-puts-no-heaviest Vertices before case = record { values = refl }
+-- A verdict that is not yes has none.
+pub puts-no-heaviest : (v : Verdict) (before : List ℕ) → OneOf refusals (tagOf verdict.the-type v) → Puts (sayingOf v) before before
+puts-no-heaviest v before case = rw (refused-number v case) (record { values = refl })

@@ -53,7 +53,7 @@ fn put_tree(
 }
 
 // The lines of all trees of a cover, from a place on.
-pub fn put_trees(b: &[u8], c: &[u8], out: &mut [u8], at: usize) -> usize
+pub(crate) fn put_trees(b: &[u8], c: &[u8], out: &mut [u8], at: usize) -> usize
     requires { ⌜ TreesAsked (now b) (now c) at (length (now out)) ⌝ }
     ensures { λ r. ⌜ PutTo at (treeLines (graphOf (now (b .entry))) (decode (now (c .entry)))) (now (out .entry)) (now (out .exit)) r ⌝ }
 {
