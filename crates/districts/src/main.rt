@@ -8,9 +8,10 @@ mod text;
 use asking::ask::Asked;
 use cover::crews::Kind;
 use filed::check::check_cover;
-use gate_replies::file::file_reply;
 use gate_replies::full::filled;
 use gate_replies::full::room;
+use gate_replies::full::write_full;
+use libc::STDERR_FILENO;
 use libc::STDIN_FILENO;
 use libc::STDOUT_FILENO;
 use pieces::reply::Reply;
@@ -29,6 +30,15 @@ fn print_reply(whole: bool, kind: Kind, k: usize, b: &[u8], reply: Reply, buf: &
     let mut out = room();
     let end = write_text(whole, kind, k, b, reply, buf, &mut out);
     io::write_all(STDOUT_FILENO, &out[..end]);
+}
+
+// Writes a reply in full to standard error, for a judge, so that standard output is what the gate compares.
+fn file_reply(reply: Reply, buf: &[u8])
+    requires { ⌜ length (now buf) ≤ 65536 ⌝ }
+{
+    let mut out = room();
+    let end = write_full(reply, buf, &mut out);
+    io::write_all(STDERR_FILENO, &out[..end]);
 }
 
 // The planner's reply to a trial, or to the question for the best limit. It can be printed.

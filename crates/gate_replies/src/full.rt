@@ -129,7 +129,7 @@ fn write_front(reply: Reply, front: &[u8], rest: &[u8], out: &mut [u8]) -> usize
 }
 
 // The reply in full, from the buffer that it was given with.
-pub(crate) fn write_full(reply: Reply, buf: &[u8], out: &mut [u8]) -> usize
+pub fn write_full(reply: Reply, buf: &[u8], out: &mut [u8]) -> usize
     requires { ⌜ 33 + length (now buf) ≤ length (now out) ⌝ }
     ensures { λ r. ⌜ PutTo 0 (fullReply reply (now (buf .entry))) (now (out .entry)) (now (out .exit)) r ⌝ }
 {

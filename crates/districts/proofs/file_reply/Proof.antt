@@ -1,10 +1,10 @@
--- `gate_replies::file::file_reply` is safe: the room is enough for any reply in full. Assumes nothing.
+-- `districts::file_reply` is safe: the room is enough for any reply in full. Assumes nothing.
 use mathlib.Core.Path.{sym}
 use native.Mathlib.Omega.{arith}
 use lib.Seq.{length-take-le}
 use borrow.Author.Needs.{needs}
-use Rattle.gate_replies.proofs.file.file_reply.Statement.{statement}
-use Rattle.gate_replies.proofs.file.file_reply.Tie as tie
+use Rattle.districts.proofs.file_reply.Statement.{statement}
+use Rattle.districts.proofs.file_reply.Tie as tie
 
 room-requires : tie.Need-room-requires
 room-requires c κs = search needs
