@@ -1,19 +1,16 @@
 -- The pieces of a rooted trial, held in arrays after the trees of the whole forest are split: the parts and the leftovers by their numbers.
 -- Assumes nothing.
-use Prim.Native.Nat.{ℕ, zero, suc, _+_, _≤_, _<_}
+use Prim.Native.Nat.{ℕ, _+_, _≤_, _<_}
 use mathlib.Core.Path.{_≡_, sym, ap, subst, _∙_}
-use mathlib.Core.List.{List, [], _∷_, map, List·Memᴰ·append-cases, List·Memᴰ·not-nil}
-use mathlib.Core.Logic.{_⊎_, inl, inr}
+use mathlib.Core.List.{List, map}
 use native.Mathlib.Omega.{arith}
-use lib.ListN.{length, getD, take, length-map, length-append}
-use Rattle.lists.specs.Count.{from}
-use Rattle.lists.specs.Lists.{flat}
+use lib.ListN.{length, getD, take, length-map}
 use Rattle.lists.specs.Member.{_∈_}
 use Rattle.lists.specs.Put.{PutTo}
 use Rattle.lists.specs.Segments.{segment}
 use Rattle.lists.specs.Sort.{rise}
-use Rattle.lists.proofs.Below.{of-from}
-use Rattle.lists.proofs.Put.{put-taken, put-fits, put-length, only-first-length}
+use Rattle.lists.proofs.Places.{at-place}
+use Rattle.lists.proofs.Put.{put-count, put-taken, put-fits, put-length, only-first-length}
 use Rattle.graph.specs.Graph.{Graph}
 use Rattle.graph.specs.Bytes.{graphOf}
 use Rattle.graph.specs.Valid.{Valid}
@@ -28,6 +25,7 @@ use Rattle.rules.specs.RootedTrial.{rootedPieces, rootedParts, leftAt}
 use Rattle.edges.specs.Around.{Arcs}
 use Rattle.split.specs.Pieces.{leftPlaces, partPlaces}
 use Rattle.split.specs.ForestSplit.{lent, Splittable, Splits, ForestSplit}
+use Rattle.split.proofs.NumbersBelow.{part-below, left-below}
 use Rattle.split.proofs.ByNumber as numbered
 use Rattle.cover.specs.Chosen.{IsHeld}
 use Rattle.planner_laws.proofs.RootedPrepared.{pieces-of-whole}
@@ -36,28 +34,6 @@ use Rattle.unions.specs.Places.{placesBetween}
 use Rattle.rooted_state.specs.Placed.{arraysOf, PiecesPlaced}
 use Rattle.rooted_parts.specs.Parts.{PiecesAsked}
 use Rattle.unions.proofs.PartsBetween.{between-lefts}
-
--- The number of a part is below that of all pieces,
-part-below : (ps : List Pieces) (first : ℕ) {c : ℕ} → c ∈ partPlaces first ps → c < first + (length (allParts ps) + length ps)
-unfolding partPlaces allParts flat
-part-below [] first m = absurd (List·Memᴰ·not-nil m)
-part-below (p ∷ ps) first {c} m = go (λ k. part-below ps (first + length (p .parts) + 1) k) (List·Memᴰ·append-cases (from first (length (p .parts))) m)
-  where
-    many : length (allParts (p ∷ ps)) ≡ length (p .parts) + length (allParts ps)
-    many = length-append (p .parts) (allParts ps)
-
-    go : (c ∈ partPlaces (first + length (p .parts) + 1) ps → c < first + length (p .parts) + 1 + (length (allParts ps) + length ps))
-        → (c ∈ from first (length (p .parts))) ⊎ (c ∈ partPlaces (first + length (p .parts) + 1) ps) → c < first + (length (allParts (p ∷ ps)) + suc (length ps))
-    go ih (inl k) = omega (arith, many, of-from first (length (p .parts)) k)
-    go ih (inr k) = omega (arith, many, ih k)
-
--- and so is that of a leftover.
-left-below : (ps : List Pieces) (first j : ℕ) → j < length ps → getD (leftPlaces first ps) j 0 < first + (length (allParts ps) + length ps)
-unfolding leftPlaces allParts flat
-left-below [] first j h = absurd (omega arith)
-left-below (p ∷ ps) first zero h = omega (arith, length-append (p .parts) (allParts ps))
-left-below (p ∷ ps) first (suc j) h =
-    omega (arith, length-append (p .parts) (allParts ps), left-below ps (first + length (p .parts) + 1) j (omega arith))
 
 -- The trees of the whole forest can be split.
 pub can-split : {b roots : List ℕ} {limit : ℕ} {bounds arcs starts cuts flat lefts places : List ℕ} {n : ℕ}
@@ -143,7 +119,7 @@ module _ {b roots : List ℕ} {limit : ℕ} {bounds arcs starts cuts flat lefts 
 
     left-inside : (j : ℕ) → j < length roots → getD lefts′ j 0 < r
     left-inside j h =
-        rw (numbered.left-place splits j h) (below-r (left-below pieces 0 j (omega (arith, numbered.pieces-count splits))))
+        rw (numbered.left-place splits j h) (below-r (left-below pieces 0 (at-place 0 (leftPlaces 0 pieces) j (omega (arith, put-count (splits .lefts))))))
 
     pub pieces-placed : PiecesPlaced g roots limit (arraysOf starts′ cuts′ flat′ lefts′ places′) p
     pieces-placed =

@@ -15,5 +15,7 @@ pub mod PiecesOf
 pub mod RootsSplit
 -- before the first root, and all roots done: what is promised
 pub mod ForestSplit
+-- the numbers of parts and leftovers are below that of all pieces
+pub mod NumbersBelow
 -- for callers: the parts and the leftovers by number
 pub mod ByNumber

@@ -4,11 +4,11 @@ use Prim.Native.Nat.{ℕ, _+_, _-_, _*_, _≤_, _<_}
 use mathlib.Core.Path.{_≡_, refl, sym, ap, _∙_}
 use mathlib.Core.Bool.{_&&_, _||_}
 use mathlib.Core.Logic.{_⊎_, inl, inr, dite}
-use mathlib.Core.List.{List, [], _∷_, map, map-map, headD, List·Memᴰ·append-cases, List·Memᴰ·cases-cons, List·Memᴰ·head, List·Memᴰ·tail, List·Memᴰ·not-nil}
+use mathlib.Core.List.{List, [], _∷_, map, map-map, headD, List·Memᴰ·append-cases, List·Memᴰ·head, List·Memᴰ·tail, List·Memᴰ·not-nil}
 use native.Mathlib.Decide.{decLe}
 use native.Mathlib.Omega.{arith}
 use lib.Dec.{leb, ltb, eqb}
-use lib.ListN.{length, getD, take, length-append, length-map}
+use lib.ListN.{length, getD, take, length-map}
 use lib.Seq.{length-take-le}
 use borrow.Author.Tests.{lt-ltb, le-ltb, le-leb, lt-leb, eq-eqb, ne-eqb}
 use Rattle.lists.specs.Count.{from, below}
@@ -33,8 +33,9 @@ use Rattle.planner_laws.proofs.UnrootedNumber.{unrooted-few}
 use Rattle.planner_laws.proofs.UnrootedTrees.{unrooted-is-tree}
 use Rattle.cover.specs.Chosen.{AllHeld, Writable}
 use Rattle.cover.proofs.ChosenFit.{trees-writable}
-use Rattle.split.specs.Pieces.{withLeft, piecesOf, leftPlaces}
-use Rattle.split.proofs.PiecesOf.{piecesFor}
+use Rattle.split.specs.Pieces.{piecesOf}
+use Rattle.split.proofs.PiecesOf.{piecesFor, pieces-length}
+use Rattle.split.proofs.NumbersBelow.{left-below}
 use Rattle.pieces.specs.Chosen.{byKey}
 use Rattle.unrooted_pieces.specs.Components.{keyOf}
 use Rattle.unrooted_pieces.specs.TreePlaces.{treeEnd, treePlaces, treesOf, PlacesAsked}
@@ -77,26 +78,6 @@ places-inside cuts (l ∷ ls) first total h {x} m =
     go later (inl i) = let (low, high) = of-from first (treeEnd cuts first l - first) i in omega (arith, end-most cuts first l, h l (List·Memᴰ·head refl))
     go later (inr i) = later i
 
--- The numbers of the leftovers are below the number of pieces.
-lefts-inside : (g : Graph) (H : ℕ) (ts : List Rooted) (first : ℕ) {l : ℕ} → l ∈ leftPlaces first (map (rules.split g H) ts) → l < first + length (piecesFor g H ts)
-unfolding leftPlaces flat withLeft
-lefts-inside g H [] first m = absurd (List·Memᴰ·not-nil m)
-lefts-inside g H (t ∷ ts) first {l} m =
-    go (λ i. lefts-inside g H ts (first + length (rules.split g H t .parts) + 1) i) (List·Memᴰ·cases-cons m)
-  where
-    later : List ℕ
-    later = leftPlaces (first + length (rules.split g H t .parts) + 1) (map (rules.split g H) ts)
-
-    size : length (piecesFor g H (t ∷ ts)) ≡ length (rules.split g H t .parts) + 1 + length (piecesFor g H ts)
-    size =
-        length-append (withLeft t (rules.split g H t)) (piecesFor g H ts)
-        ∙ ap (λ k. k + length (piecesFor g H ts)) (length-append (rules.split g H t .parts) _)
-
-    go : (l ∈ later → l < first + length (rules.split g H t .parts) + 1 + length (piecesFor g H ts))
-        → (l ≡ first + length (rules.split g H t .parts)) ⊎ (l ∈ later) → l < first + length (piecesFor g H (t ∷ ts))
-    go below-later (inl q) = omega (arith, size)
-    go below-later (inr i) = omega (arith, size, below-later i)
-
 module _ {g : Graph} {limit : ℕ} {starts cuts edges lefts : List ℕ} {s : Split} (valid : Valid g) (c : ComponentsSplit g limit starts cuts edges lefts s) where
   abbrev ts : List Rooted
   ts = components g limit
@@ -133,7 +114,9 @@ module _ {g : Graph} {limit : ℕ} {starts cuts edges lefts : List ℕ} {s : Spl
       ∙ trees-placed g (2 * limit) piece cuts r sized ts 0 r (omega arith) all
 
   left-inside : (l : ℕ) → l ∈ own → l < r
-  left-inside l m = omega (arith, count, lefts-inside g (2 * limit) ts 0 (rw (c .lefts-are) at m))
+  left-inside l m =
+      let pieces = map (rules.split g (2 * limit)) ts in
+      omega (arith, count, pieces-length g (2 * limit) ts, length-map ts (rules.split g (2 * limit)), left-below pieces 0 (rw (c .lefts-are) at m))
 
   inside : {x : ℕ} → x ∈ places → x < r
   inside m = places-inside cuts own 0 r left-inside m
