@@ -5,8 +5,6 @@ pub mod BitsMade
 pub mod NearWords
 -- the bits of a word that joins two
 pub mod BitsLaws
--- one step of the pass, by the way it goes
-pub mod SweepWays
 -- marking the parts, under way
 pub mod PartsMarking
 -- the bits of a word as a row of bytes, and such rows one after the other

@@ -20,7 +20,7 @@ use Rattle.steps.specs.Touched.{Sweep, touchesPiece, sweepStep, sweep, partsTou
 use Rattle.near.specs.Bits.{bitAt}
 use Rattle.near.specs.Parts.{NearPartsAsked, NearParts}
 use Rattle.near.proofs.BitsLaws.{bit-none, bit-or, bit-at, bits-stored, bits-none}
-use Rattle.near.proofs.SweepWays.{sweep-alone, sweep-full, sweep-joins, sweep-grows}
+use Rattle.steps.proofs.SweepWays.{sweep-alone, sweep-full, sweep-joins, sweep-grows}
 
 -- Root j is near the vertex.
 abbrev pub nearTo : ℕ → List ℕ → ℕ → Bool

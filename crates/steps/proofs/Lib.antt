@@ -3,6 +3,8 @@
 pub mod StepsMark
 -- at which parts a test holds, and at which edges
 pub mod PartTouched
+-- one step of the pass, by the way it goes; the parts only grow along it
+pub mod SweepWays
 -- one step of the pass settles a child's piece
 pub mod StepSwept
 -- one pass over the steps tells the parts below a vertex
