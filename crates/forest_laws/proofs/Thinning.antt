@@ -77,7 +77,6 @@ pub record Spans (g : Graph) (U E : List ℕ) : Type 0 where
   pub rising : Rising E
   pub no-loop : (e : ℕ) → e ∈ E → Linked g (without e E) (oneEnd g e) (otherEnd g e) → ⊥
   pub links : {u v : ℕ} → Linked g U u v → Linked g E u v
-  pub links-back : {u v : ℕ} → Linked g E u v → Linked g U u v
   pub weight : totalWeight g E ≤ totalWeight g U
 
 -- the kept edges, by number, are such
@@ -88,7 +87,6 @@ thinned-spans g U = record {
   rising = rising;
   no-loop = kept-whole-is-loopless g once .0 (kept-whole-within g apart (thinned g U) (thinned-whole g U) once (λ e m. of-rise (thinned g U) m));
   links = λ l. linked-more (λ e m. in-rise m) (thinned-links g U l);
-  links-back = λ l. linked-more (λ e m. thinned-of g U (of-rise (thinned g U) m) .1) l;
   weight = rw (rise-weight g (thinned g U)) (thinned-weight g U);
 }
   where

@@ -6,7 +6,7 @@ use mathlib.Core.List.{List, [], _∷_, _++_, append-assoc}
 use native.Mathlib.Nat.{zero-add}
 use native.Mathlib.Omega.{arith}
 use lib.ListN.{length, take, drop, set, length-append, length-drop, take-append-drop}
-use lib.Seq.{length-take-le, take-at, drop-at, drop-drop, drop-append-add, sets-eq}
+use lib.Seq.{length-take-le, take-at, drop-drop, drop-append-add, sets-eq}
 use Rattle.lists.specs.Put.{Put, PutTo, OnlyFirst}
 
 module _ {A : Type 0} where
@@ -86,9 +86,6 @@ module _ {A : Type 0} where
 
     pub put-taken : take r b ≡ xs
     put-taken = ap (take r) put-front ∙ take-at xs (drop r a) r (sym put-count)
-
-    pub put-dropped : drop r b ≡ drop r a
-    put-dropped = ap (drop r) put-front ∙ drop-at xs (drop r a) r (sym put-count)
 
     pub put-fits : r ≤ length a
     put-fits = omega (arith, p .behind, p .put .room)
