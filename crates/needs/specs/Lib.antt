@@ -1,5 +1,5 @@
 -- What the contracts of `needs` say, in reading order.
--- the forest that is given, and the components by their labels
+-- the forest that is given, at a limit or whole
 pub mod Given
 -- the lowest vertex of each component
 pub mod Roots
