@@ -27,3 +27,5 @@ pub mod Covered
 pub mod PathWeights
 -- a shortest path to the nearest vertex of a part
 pub mod NearestVertex
+-- a shortest path has no leaf edge
+pub mod LeafPath

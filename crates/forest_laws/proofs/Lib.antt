@@ -33,3 +33,5 @@ pub mod Forest
 pub mod Thinning
 -- a tree made of any edges that hang together
 pub mod UnionTree
+-- a leaf edge is never skipped
+pub mod LeafKept

@@ -84,6 +84,8 @@ pub mod EitherBoth
 pub mod EachChosen
 -- lists made for the chosen numbers below a bound, and joined
 pub mod Chosen
+-- sums over numbers that are dealt to places
+pub mod Dealt
 -- Sorting:
 -- sorting keeps the elements and the sum, and puts them in order
 pub mod Sorting

@@ -4,17 +4,18 @@
 use Prim.Native.Nat.{ℕ, zero, suc, _+_, _≤_}
 use mathlib.Core.Path.{_≡_, refl}
 use mathlib.Core.Bool.{Bool, true, false, cond}
-use mathlib.Core.List.{List, [], _∷_, _++_, List·Memᴰ·head, List·Memᴰ·tail, Memᴰ·cast}
+use mathlib.Core.List.{List, [], _∷_, _++_, map, List·Memᴰ·head, List·Memᴰ·tail, Memᴰ·cast}
 use mathlib.Core.Logic.{dite}
 use native.Mathlib.Decide.{ℕ-discrete}
 use native.Mathlib.Omega.{arith}
 use lib.Dec.{eqb}
 use borrow.Author.Tests.{eqb-true, eq-eqb, ne-eqb}
-use Rattle.lists.specs.Lists.{sumOf}
+use Rattle.lists.specs.Lists.{flat, sumOf}
 use Rattle.lists.specs.Member.{_∈_}
 use Rattle.lists.specs.Sort.{rise}
 use Rattle.lists.proofs.InOrder.{none, next, Once}
 use Rattle.lists.proofs.Sums.{sum-append}
+use Rattle.lists.proofs.SumsAlike.{sum-flat-map}
 use Rattle.lists.proofs.Sorting.{sum-rise}
 
 -- how often x stands in the list
@@ -25,6 +26,11 @@ times x xs = sumOf (λ y. cond (eqb x y) 1 0) xs
 pub times-append : (x : ℕ) (xs ys : List ℕ) → times x (xs ++ ys) ≡ times x xs + times x ys
 unfolding times
 times-append x xs ys = sum-append (λ y. cond (eqb x y) 1 0) xs ys
+
+-- lists made for each element and joined
+pub times-flat : {A : Type 0} (x : ℕ) (f : A → List ℕ) (ys : List A) → times x (flat (map f ys)) ≡ sumOf (λ y. times x (f y)) ys
+unfolding times
+times-flat x f ys = sum-flat-map (λ z. cond (eqb x z) 1 0) f ys
 
 pub times-rise : (x : ℕ) (xs : List ℕ) → times x (rise xs) ≡ times x xs
 unfolding times

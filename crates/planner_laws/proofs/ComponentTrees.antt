@@ -1,5 +1,5 @@
 -- The trees of a component: each is a part or what is left at the root, started anew at its lowest vertex. A leftover is dropped only
--- where it has no edges and there are parts.
+-- where it has no edges and there are parts. All are made of the forest's edges.
 -- Assumes nothing.
 use Prim.Native.Nat.{ℕ, _*_}
 use mathlib.Core.Path.{_≡_, refl}
@@ -8,11 +8,16 @@ use mathlib.Core.Logic.{_⊎_, inl, inr}
 use Rattle.lists.specs.Member.{_∈_}
 use Rattle.lists.specs.Sort.{rise}
 use Rattle.lists.proofs.Member.{in-map, of-map}
+use Rattle.lists.proofs.Sorting.{of-rise}
 use Rattle.graph.specs.Graph.{Graph}
 use Rattle.rules.specs.Cover.{Tree}
+use Rattle.rules.specs.Labels.{apart}
+use Rattle.rules.specs.Forest.{forest}
 use Rattle.rules.specs.Grow.{Rooted}
 use Rattle.rules.specs.Split.{split}
-use Rattle.rules.specs.UnrootedTrial.{leftovers, fromLowest, componentTrees}
+use Rattle.rules.specs.UnrootedTrial.{components, leftovers, fromLowest, componentTrees}
+use Rattle.split_laws.proofs.SplitTree.{IsSplit, tree-split}
+use Rattle.planner_laws.proofs.ComponentEdges.{component-hangs, component-edge}
 
 -- What is left at the root, as a tree.
 abbrev pub leftoverAt : ℕ → List ℕ → Tree
@@ -71,3 +76,15 @@ module _ (g : Graph) (limit : ℕ) (t : Rooted) where
       go : {p : Tree} → (p ∈ componentParts g limit t) ⊎ (p ∈ rest) → (p ∈ componentParts g limit t) ⊎ (p ≡ componentLeftover g limit t)
       go (inl i) = inl i
       go (inr i) = inr (of-leftovers (t .root) (componentParts g limit t) (split g (2 * limit) t .left) i)
+
+module _ (g : Graph) (limit : ℕ) {t : Rooted} (m : t ∈ components g limit) where
+  -- The component's tree, split:
+  pub component-split : IsSplit g (2 * limit) t (split g (2 * limit) t)
+  component-split = tree-split g (2 * limit) t (component-hangs g limit m)
+
+  -- its parts and its leftover are made of the forest's edges.
+  pub part-known : {p : Tree} → p ∈ componentParts g limit t → (e : ℕ) → e ∈ p .edges → e ∈ forest g apart limit
+  part-known n e i = component-edge g limit m (component-split .part-edges n i)
+
+  pub leftover-known : (e : ℕ) → e ∈ componentLeftover g limit t .edges → e ∈ forest g apart limit
+  leftover-known e i = component-edge g limit m (component-split .left-edges (of-rise (split g (2 * limit) t .left) i))

@@ -16,6 +16,8 @@ pub mod RootedAssigned
 pub mod RootedUnion
 -- an accepted limit: the trees are a cover, the heaviest at most 4 B - 2
 pub mod RootedCover
+-- each leaf edge stands in exactly one tree of the answer
+pub mod RootedServed
 -- one forest serves all limits: where every vertex is joined, the forest is the whole one
 pub mod RootedPrepared
 -- how many edges and parts there are
@@ -33,16 +35,21 @@ pub mod ComponentShare
 -- where the components need more than k trees, every cover by k has a tree above the limit
 pub mod UnrootedTooLow
 -- Unrooted, accepted:
--- the trees of a component: its parts and its leftover, started anew
+-- the trees of a component: its parts and its leftover, made of the forest's edges and started anew
 pub mod ComponentTrees
 -- how many trees the answer has
 pub mod UnrootedNumber
--- a tree may start at its lowest vertex
+-- a tree may start at its lowest vertex, and those of the answer do
 pub mod UnrootedStart
 -- the answer's trees are trees, of at most 4 B - 2
 pub mod UnrootedTrees
 -- where the components need at most k trees, the answer is a cover by k, of at most 4 B - 2
 pub mod UnrootedCover
+-- each leaf edge within the limit stands in exactly one tree of the answer, and no tree starts at the leaf
+pub mod UnrootedServed
+-- Both kinds:
+-- a leaf edge above the limit: where no tree starts at the leaf, every cover has a tree above the limit
+pub mod Unserved
 -- What the answers mean (document 01, "A trial at limit B" and "The best limit"):
 -- the two facts of a trial on which the rest stands
 pub mod TrialBounds
@@ -50,15 +57,15 @@ pub mod TrialBounds
 pub mod BothKinds
 -- good choices exist at every limit
 pub mod SomeChoices
--- trees over all that is linked to a root
-pub mod WholeTrees
--- "no cover" is said exactly where none exists
-pub mod NoCover
 -- the search between a refused and an accepted limit
 pub mod SearchSteps
 -- the best limit is accepted, and at most every cover's heaviest
 pub mod BestLimit
 -- it is within document 01's range
 pub mod BestRange
+-- a limit above the sum of all weights is accepted where "no cover" is not said
+pub mod AboveSum
+-- "no cover" is said exactly where none exists
+pub mod NoCover
 -- what the replies mean
 pub mod Replies

@@ -1,20 +1,20 @@
 -- "No cover" is said exactly where no cover exists: a vertex that no edge joins to a root is covered by none, and of more components than
--- crews one is covered by none; otherwise the trees over all that is linked to the roots, or to the lowest vertices, are a cover.
+-- crews one is covered by none; otherwise a trial above the sum of all weights gives a cover.
 -- Assumes nothing.
 use Prim.Native.Nat.{ℕ, _≤_, _<_}
 use mathlib.Core.Path.{_≡_, refl, sym, _∙_}
-use mathlib.Core.Bool.{Bool, true, false, not, true≢false, false≢true}
+use mathlib.Core.Bool.{Bool, true, false, not, false≢true}
 use mathlib.Core.Logic.{_↔_}
 use mathlib.Core.List.{List, map, Memᴰ·cast}
 use mathlib.Core.Option.{Option, some, none}
 use native.Mathlib.Omega.{arith}
 use lib.ListN.{length, length-map}
-use borrow.Author.Tests.{ltb-true, ltb-false}
+use borrow.Author.Tests.{ltb-true}
 use Rattle.lists.specs.Member.{_∈_}
 use Rattle.lists.proofs.Member.{in-map, of-map}
 use Rattle.lists.proofs.InOrder.{rising-once}
 use Rattle.lists.proofs.Images.{images-once}
-use Rattle.lists.proofs.Lengths.{length-within, some-member}
+use Rattle.lists.proofs.Lengths.{length-within}
 use Rattle.graph.specs.Graph.{Graph}
 use Rattle.graph.specs.Valid.{Valid}
 use Rattle.rules.specs.Walk.{Linked}
@@ -27,13 +27,13 @@ use Rattle.rules.specs.Fit.{CrewsFit}
 use Rattle.planner_laws.specs.Meaning.{NoneAtAll}
 use Rattle.rules.proofs.Linked.{linked-more}
 use Rattle.forest_laws.proofs.Ordering.{in-ordered}
-use Rattle.forest_laws.proofs.Walks.{merged-linked, linked-merged}
-use Rattle.forest_laws.proofs.Roots.{Reached, some-head, head-in, root-is-reached}
-use Rattle.forest_laws.proofs.Unjoined.{unjoined-none, unjoined-some}
+use Rattle.forest_laws.proofs.Walks.{linked-merged}
+use Rattle.forest_laws.proofs.Roots.{head-in, root-is-reached}
+use Rattle.forest_laws.proofs.Unjoined.{unjoined-some}
 use Rattle.distance_laws.proofs.Covered.{covered-linked}
-use Rattle.split_laws.proofs.Lowest.{lowest-inside, lowest-rising, lowest-alike, lowest-of}
+use Rattle.split_laws.proofs.Lowest.{lowest-inside, lowest-rising, lowest-alike}
 use Rattle.planner_laws.proofs.RootedWithin.{tree-starts}
-use Rattle.planner_laws.proofs.WholeTrees.{whole, wholeTrees, whole-starts, whole-count, whole-covers}
+use Rattle.planner_laws.proofs.AboveSum.{some-cover}
 
 module _ {g : Graph} {crews : Crews} {trees : List Tree} (cover : IsCover g crews trees) where
   -- A cover has a tree for each vertex, from whose start the graph's edges link it.
@@ -58,14 +58,11 @@ module _ (g : Graph) (roots : List ℕ) where
       let root = tree-starts cover n in
       differ (root-is-reached g roots (ordered g) (head-in root) v .1 (tree .start, root, l))
 
-  -- where there is no such vertex each is linked to a root
-  joined-reached : 1 ≤ length roots → unjoined g roots fromRoots ≡ none → (v : ℕ) → v < g .vertices → Reached g roots (ordered g) v
-  joined-reached some-root q v h = root-is-reached g roots (ordered g) (some-head roots some-root) v .0 (unjoined-none g roots fromRoots .0 q v h)
-
-  rooted-cover : CrewsFit g (rooted roots) → unjoined g roots fromRoots ≡ none → IsCover g (rooted roots) (wholeTrees g roots)
-  rooted-cover (some-root, inside) q = record { starts = whole-starts g roots; all-covered = whole-covers g roots inside (joined-reached some-root q) }
-
 -- UNROOTED
+
+-- the labels that all edges make
+abbrev whole : Graph → Labels
+whole g = mergeAll g apart (ordered g)
 
 module _ (g : Graph) (k : ℕ) where
   -- a cover has a tree for each component: the labels of the lowest vertices are among those of its starts, and all different
@@ -85,18 +82,6 @@ module _ (g : Graph) (k : ℕ) where
           let (t, i, l) = cover-links cover v (lowest-inside g (whole g) n) in
           Memᴰ·cast (q ∙ sym (linked-merged g (ordered g) apart l)) (in-map (λ (t : Tree). whole g (t .start)) i)
 
-  unrooted-cover : Valid g → length (lowest g (whole g)) ≤ k → IsCover g (unrooted k) (wholeTrees g (lowest g (whole g)))
-  unrooted-cover valid few =
-      record {
-        starts = (omega (arith, whole-count g (lowest g (whole g)), some-component), omega (arith, whole-count g (lowest g (whole g))));
-        all-covered =
-            whole-covers g (lowest g (whole g)) (λ r m. lowest-inside g (whole g) m)
-            (λ v h. let (r, o) = lowest-of g (whole g) v h in (r, o .listed, merged-linked g (ordered g) r v (o .alike)));
-      }
-    where
-      some-component : 1 ≤ length (lowest g (whole g))
-      some-component = some-member (lowest-of g (whole g) 0 (valid .vertices-some) .1 .listed)
-
 -- "No cover" is said only where there is none.
 pub no-cover-none : (g : Graph) (crews : Crews) → noCover g crews ≡ true → NoneAtAll g crews
 unfolding noCover noVertex
@@ -106,16 +91,6 @@ no-cover-none g (rooted roots) t = go (unjoined g roots (fromRoots g roots)) ref
     go none q t = absurd (false≢true t)
     go (some v) q t = unjoined-uncovered g roots v q
 no-cover-none g (unrooted k) t = λ trees cover. omega (arith, ltb-true k (length (lowest g (whole g))) t, components-few g k cover)
-
--- Where it is not said there is one.
-pub some-cover : {g : Graph} → Valid g → (crews : Crews) → CrewsFit g crews → noCover g crews ≡ false → (trees : List Tree) × IsCover g crews trees
-unfolding noCover noVertex
-some-cover {g} valid (rooted roots) fit t = go (unjoined g roots (fromRoots g roots)) refl t
-  where
-    go : (o : Option ℕ) → unjoined g roots (fromRoots g roots) ≡ o → not (noVertex o) ≡ false → (trees : List Tree) × IsCover g (rooted roots) trees
-    go none q t = (wholeTrees g roots, rooted-cover g roots fit q)
-    go (some v) q t = absurd (true≢false t)
-some-cover {g} valid (unrooted k) fit t = (wholeTrees g (lowest g (whole g)), unrooted-cover g k valid (ltb-false k (length (lowest g (whole g))) t))
 
 -- So "no cover" is said exactly where none exists.
 pub no-cover-exactly : {g : Graph} → Valid g → (crews : Crews) → CrewsFit g crews → (noCover g crews ≡ true) ↔ NoneAtAll g crews

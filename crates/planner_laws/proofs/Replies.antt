@@ -17,7 +17,8 @@ use Rattle.rules.specs.UnrootedTrial.{needed, unrootedTrial}
 use Rattle.rules.specs.Search.{noVertex, accepts, trial, noCover, bestLimit, best}
 use Rattle.rules.specs.Fit.{GoodFor, CrewsFit}
 use Rattle.planner_laws.specs.Meaning.{NoneWithin, TrialMeans, BestMeans}
-use Rattle.planner_laws.proofs.NoCover.{no-cover-none, some-cover}
+use Rattle.planner_laws.proofs.AboveSum.{some-cover}
+use Rattle.planner_laws.proofs.NoCover.{no-cover-none}
 use Rattle.planner_laws.proofs.TrialBounds.{trialTrees, CoverWithin, TrialBounds}
 use Rattle.planner_laws.proofs.BestLimit.{best-accepted, best-cover, best-factor}
 

@@ -13,8 +13,10 @@ use Rattle.graph.specs.Valid.{Valid}
 use Rattle.matching.specs.Assignment.{IsAssignment}
 use Rattle.matching.proofs.AssignableLaws.{assignable-some}
 use Rattle.matching.proofs.Hall.{unassignable-deficient}
+use Rattle.rules.specs.Cover.{Crews, rooted, unrooted}
 use Rattle.rules.specs.Distance.{IsShortestPath}
-use Rattle.rules.specs.RootedTrial.{Choices, GoodChoices, rootedParts, partOf, mayGo, isAssignable}
+use Rattle.rules.specs.RootedTrial.{Choices, noChoices, GoodChoices, rootedParts, partOf, mayGo, isAssignable}
+use Rattle.rules.specs.Fit.{CrewsFit, GoodFor}
 use Rattle.distance_laws.proofs.Shortest.{shortest-path}
 
 module _ {g : Graph} (valid : Valid g) (roots : List ℕ) (inside : (r : ℕ) → r ∈ roots → r < g .vertices) (limit : ℕ) where
@@ -46,3 +48,8 @@ module _ {g : Graph} (valid : Valid g) (roots : List ℕ) (inside : (r : ℕ) �
       go false e =
           let (marks, d) = unassignable-deficient parts (length roots) (mayGo g roots limit) e in
           (record { assignment = []; paths = []; marks = marks }, record { assigned = λ t. absurd (true≢false (sym t ∙ e)); shortest = λ t. absurd (true≢false (sym t ∙ e)); deficient = λ _. d })
+
+-- So it is for crews of either kind.
+pub good-choices : {g : Graph} → Valid g → (crews : Crews) → CrewsFit g crews → (limit : ℕ) → (c : Choices) × GoodFor g crews limit c
+good-choices valid (rooted roots) (has-root, inside) limit = some-choices valid roots inside limit
+good-choices valid (unrooted k) fit limit = (noChoices, tt)

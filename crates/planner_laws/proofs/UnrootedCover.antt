@@ -29,7 +29,7 @@ use Rattle.planner_laws.proofs.ComponentEdges.{component-hangs, compone
 use Rattle.planner_laws.proofs.ComponentTrees.{componentParts, componentLeftover, Dropped, part-stands, leftover-stands}
 use Rattle.planner_laws.proofs.UnrootedNumber.{in-unrooted, unrooted-few}
 use Rattle.planner_laws.proofs.UnrootedStart.{lowest-covers}
-use Rattle.planner_laws.proofs.UnrootedTrees.{part-is-tree, leftover-is-tree, unrooted-is-tree, unrooted-weight}
+use Rattle.planner_laws.proofs.UnrootedTrees.{part-hung, leftover-hung, unrooted-is-tree, unrooted-weight}
 
 module _ (g : Graph) (ends : EndsInside g) (limit : ℕ) where
   -- A tree of the answer covers v.
@@ -39,14 +39,14 @@ module _ (g : Graph) (ends : EndsInside g) (limit : ℕ) where
   module _ {t : Rooted} (m : t ∈ components g limit) where
     -- A tree of the answer covers what a part of a component covers,
     by-part : {p : Tree} {v : ℕ} → p ∈ componentParts g limit t → Covers g p v → HasTree v
-    by-part n c = (_, in-unrooted g limit m (part-stands g limit t n), lowest-covers (part-is-tree g limit m ends n) c)
+    by-part n c = (_, in-unrooted g limit m (part-stands g limit t n), lowest-covers (part-hung g limit m n) c)
 
     -- the root,
     by-root : HasTree (t .root)
     by-root = go (leftover-stands g limit t)
       where
         go : (fromLowest g (componentLeftover g limit t) ∈ componentTrees g limit t) ⊎ Dropped g limit t → HasTree (t .root)
-        go (inl s) = (_, in-unrooted g limit m s, lowest-covers (leftover-is-tree g limit m) (at-start refl))
+        go (inl s) = (_, in-unrooted g limit m s, lowest-covers (leftover-hung g limit m) (at-start refl))
         go (inr ((p, n), none)) =
             let (part, i, (e, far, k, j)) = root-in-part g (2 * limit) t (component-hangs g limit m) n none in
             by-part i (joins-covers k (joins-back j))
@@ -56,7 +56,7 @@ module _ (g : Graph) (ends : EndsInside g) (limit : ℕ) where
     by-left {e} {far} {v} n j = go (leftover-stands g limit t)
       where
         go : (fromLowest g (componentLeftover g limit t) ∈ componentTrees g limit t) ⊎ Dropped g limit t → HasTree v
-        go (inl s) = (_, in-unrooted g limit m s, lowest-covers (leftover-is-tree g limit m) (joins-covers (in-rise n) j))
+        go (inl s) = (_, in-unrooted g limit m s, lowest-covers (leftover-hung g limit m) (joins-covers (in-rise n) j))
         go (inr (p, none)) = absurd (List·Memᴰ·not-nil (subst (λ l. e ∈ l) none n))
 
   -- Every vertex is covered by a tree of the answer.

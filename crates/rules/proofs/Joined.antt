@@ -3,8 +3,9 @@
 -- tree covers.
 -- Assumes nothing.
 use Prim.Native.Nat.{ℕ, _<_}
-use mathlib.Core.Path.{refl, sym}
+use mathlib.Core.Path.{_≡_, refl, sym, _∙_}
 use mathlib.Core.List.{List, List·Memᴰ·head, List·Memᴰ·tail, List·Memᴰ·not-nil}
+use mathlib.Core.Logic.{_⊎_, inl, inr}
 use Rattle.lists.specs.Member.{_∈_}
 use Rattle.graph.specs.Graph.{Graph, oneEnd, otherEnd}
 use Rattle.rules.specs.Walk.{Joins, onward, back, Walk, stay, step, Linked}
@@ -14,6 +15,13 @@ use Rattle.rules.proofs.Linked.{linked-same, linked-on, linked-edge, li
 -- Every edge of the list is linked to v by the list.
 abbrev pub JoinedTo : Graph → ℕ → List ℕ → Type 0
 JoinedTo g v edges = (e : ℕ) → e ∈ edges → Linked g edges v (oneEnd g e)
+
+-- an edge joins the same two vertices, in either order
+pub joins-same : {g : Graph} {e u v a b : ℕ} → Joins g e u v → Joins g e a b → ((u ≡ a) × (v ≡ b)) ⊎ ((u ≡ b) × (v ≡ a))
+joins-same (onward p q) (onward r t) = inl (p ∙ sym r, q ∙ sym t)
+joins-same (onward p q) (back r t) = inr (p ∙ sym t, q ∙ sym r)
+joins-same (back p q) (onward r t) = inr (p ∙ sym t, q ∙ sym r)
+joins-same (back p q) (back r t) = inl (p ∙ sym r, q ∙ sym t)
 
 module _ {g : Graph} where
   -- what an edge joins is below n where both of its ends are

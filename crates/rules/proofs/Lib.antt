@@ -3,6 +3,10 @@
 pub mod Linked
 -- what an edge joins; edges that are linked to a vertex: those of a walk, those of a tree
 pub mod Joined
+-- leaf edges: the only edge at one of its ends
+pub mod Leaf
+-- how often an edge stands in trees
+pub mod EntryTimes
 -- the far end of an edge
 pub mod FarEnd
 -- the vertices listed for a tree are those that it covers
