@@ -3,6 +3,7 @@
 use Prim.Native.Nat.{ℕ}
 use mathlib.Core.Path.{_≡_}
 use mathlib.Core.List.{List}
+use Rattle.graph.specs.Graph.{Graph}
 use Rattle.cover.specs.declared.crews.Kind.{Kind}
 use Rattle.cover.specs.declared.crews.Kind.the-variants.{Rooted, Unrooted}
 use Rattle.rooted_answer.specs.Answer.{RootedAnswerAsked}
@@ -11,8 +12,8 @@ use Rattle.prepare.specs.Crews.{CrewsReady}
 use Rattle.answers.specs.Answers.{ForestReady, LimitAsked}
 
 -- Whether no cover exists.
-pub forest-ready : {kind : Kind} {b roots kept table total until : List ℕ} → CrewsReady kind b roots kept table total until
-    → ForestReady kind b roots kept
+pub forest-ready : {kind : Kind} {g : Graph} {roots kept table total until : List ℕ} → CrewsReady kind g roots kept table total until
+    → ForestReady kind g roots kept
 forest-ready r =
     record {
       with-roots = λ q. let d = r .decidable q in record { given = d .given; forest = d .forest };
@@ -20,9 +21,9 @@ forest-ready r =
     }
 
 -- An answer at a limit.
-module _ {kind : Kind} {k limit room : ℕ} {b roots order kept bounds arcs table lasts total until : List ℕ}
-    (a : LimitAsked kind k b roots limit order kept bounds arcs table lasts total until room) where
-  pub rooted-answer-asked : kind ≡ Rooted → RootedAnswerAsked b roots limit order kept bounds arcs table lasts room
+module _ {kind : Kind} {k limit room : ℕ} {g : Graph} {roots order kept bounds arcs table lasts total until : List ℕ}
+    (a : LimitAsked kind k g roots limit order kept bounds arcs table lasts total until room) where
+  pub rooted-answer-asked : kind ≡ Rooted → RootedAnswerAsked g roots limit order kept bounds arcs table lasts room
   rooted-answer-asked q =
       record {
         prepared =
@@ -36,6 +37,6 @@ module _ {kind : Kind} {k limit room : ℕ} {b roots order kept bounds arcs tabl
         most = a .answer .room-most;
       }
 
-  pub unrooted-answer-asked : kind ≡ Unrooted → unrooted.UnrootedAnswerAsked b k limit kept total until room
+  pub unrooted-answer-asked : kind ≡ Unrooted → unrooted.UnrootedAnswerAsked g k limit kept total until room
   unrooted-answer-asked q =
       record { ready = a .answer .ready .history q; crews-few = a .answer .crews-few; limit-most = a .limit-most; enough = a .answer .room-most }

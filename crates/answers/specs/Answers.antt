@@ -3,7 +3,7 @@
 use Prim.Native.Nat.{ℕ, _≤_}
 use mathlib.Core.Path.{_≡_}
 use mathlib.Core.List.{List}
-use Rattle.graph.specs.Bytes.{graphOf}
+use Rattle.graph.specs.Graph.{Graph}
 use Rattle.rules.specs.Order.{ordered}
 use Rattle.cover.specs.declared.crews.Kind.{Kind}
 use Rattle.cover.specs.declared.crews.Kind.the-variants.{Rooted, Unrooted}
@@ -14,20 +14,20 @@ use Rattle.needs.specs.Given.{ForestKept}
 use Rattle.prepare.specs.Crews.{CrewsReady}
 
 -- The whole forest, for crews of each kind from where they begin.
-pub record ForestReady (kind : Kind) (b roots kept : List ℕ) : Type 0 where
-  pub with-roots : kind ≡ Rooted → NoCoverAsked b roots kept
-  pub without : kind ≡ Unrooted → ForestKept b kept
+pub record ForestReady (kind : Kind) (g : Graph) (roots kept : List ℕ) : Type 0 where
+  pub with-roots : kind ≡ Rooted → NoCoverAsked g roots kept
+  pub without : kind ≡ Unrooted → ForestKept g kept
 
 -- Everything that the crews read, at most 32 of them, and a buffer that is large enough.
-pub record AnswerAsked (kind : Kind) (k : ℕ) (b roots order kept bounds arcs table lasts total until : List ℕ) (room : ℕ) : Type 0 where
-  pub ready : CrewsReady kind b roots kept table total until
-  pub around : kind ≡ Rooted → WholeAround b roots bounds arcs
-  pub in-order : order ≡ ordered (graphOf b)
-  pub last-edges : kind ≡ Rooted → LastsTabled (graphOf b) roots table lasts
+pub record AnswerAsked (kind : Kind) (k : ℕ) (g : Graph) (roots order kept bounds arcs table lasts total until : List ℕ) (room : ℕ) : Type 0 where
+  pub ready : CrewsReady kind g roots kept table total until
+  pub around : kind ≡ Rooted → WholeAround g roots bounds arcs
+  pub in-order : order ≡ ordered g
+  pub last-edges : kind ≡ Rooted → LastsTabled g roots table lasts
   pub crews-few : k ≤ 32
   pub room-most : 32708 ≤ room
 
 -- The same at a limit.
-pub record LimitAsked (kind : Kind) (k : ℕ) (b roots : List ℕ) (limit : ℕ) (order kept bounds arcs table lasts total until : List ℕ) (room : ℕ) : Type 0 where
-  pub answer : AnswerAsked kind k b roots order kept bounds arcs table lasts total until room
+pub record LimitAsked (kind : Kind) (k : ℕ) (g : Graph) (roots : List ℕ) (limit : ℕ) (order kept bounds arcs table lasts total until : List ℕ) (room : ℕ) : Type 0 where
+  pub answer : AnswerAsked kind k g roots order kept bounds arcs table lasts total until room
   pub limit-most : limit ≤ 2048000000

@@ -15,7 +15,7 @@ ghost use Rattle.answers.specs.Answers.{ForestReady, LimitAsked};
 
 // Whether no cover by the crews exists at all.
 pub fn no_cover(kind: Kind, k: usize, b: &[u8], roots: &[u16], kept: &[u16]) -> bool
-    requires { ⌜ ForestReady kind (now b) (now roots) (now kept) ⌝ }
+    requires { ⌜ ForestReady kind (graphOf (now b)) (now roots) (now kept) ⌝ }
     ensures { λ r. ⌜ r ≡ noCover (graphOf (now (b .entry))) (crewsWith kind k (now (roots .entry))) ⌝ }
 {
     match kind {
@@ -41,7 +41,7 @@ pub fn answer_at(
     until: &[u16],
     buf: &mut [u8],
 ) -> Reply
-    requires { ⌜ LimitAsked kind k (now b) (now roots) limit (now order) (now kept) (now bounds) (now arcs) (now table) (now lasts) (now total) (now until) (length (now buf)) ⌝ }
+    requires { ⌜ LimitAsked kind k (graphOf (now b)) (now roots) limit (now order) (now kept) (now bounds) (now arcs) (now table) (now lasts) (now total) (now until) (length (now buf)) ⌝ }
     ensures { λ r. ⌜ Answers (graphOf (now (b .entry))) (crewsWith kind k (now (roots .entry))) limit (now (buf .entry)) (now (buf .exit)) r ⌝ }
 {
     match kind {

@@ -14,7 +14,6 @@ use Rattle.lists.proofs.Every.{first-false, second-false}
 use Rattle.lists.proofs.Places.{at-place}
 use Rattle.lists.proofs.Runs.{length-below}
 use Rattle.graph.specs.Graph.{Graph}
-use Rattle.graph.specs.Bytes.{graphOf}
 use Rattle.graph.specs.Fault.{faultIf}
 use Rattle.graph.proofs.Faults.{quiet-if}
 use Rattle.rules.specs.Cover as cover
@@ -37,9 +36,9 @@ use Rattle.prepare.specs.Crews.{crewsWith, CrewsReady}
 use Rattle.asking.specs.Asking.{Answered, RootedAsked, UnrootedAsked, CrewsAsked}
 
 -- Good choices exist for crews of either kind.
-pub choices-for : (kind : Kind) (k : ℕ) {b roots kept table total until : List ℕ} → CrewsReady kind b roots kept table total until
-    → (limit : ℕ) → (c : Choices) × GoodFor (graphOf b) (crewsWith kind k roots) limit c
-choices-for Rooted k {roots = roots} ready limit = some-choices (ready .graph .valid) roots (roots-inside (ready .decidable refl .given)) limit
+pub choices-for : (kind : Kind) (k : ℕ) {g : Graph} {roots kept table total until : List ℕ} → CrewsReady kind g roots kept table total until
+    → (limit : ℕ) → (c : Choices) × GoodFor g (crewsWith kind k roots) limit c
+choices-for Rooted k {roots = roots} ready limit = some-choices (ready .valid) roots (roots-inside (ready .decidable refl .given)) limit
 choices-for Unrooted k ready limit = (record { assignment = []; paths = []; marks = [] }, tt)
 
 -- A trial's answer is that of the question which asks for it.
@@ -58,8 +57,8 @@ module _ {g : Graph} {crews : cover.Crews} where
       → Answered Best g crews before after r
   unfolding best
   best-answered {limit} {before} {after} {r} t q a =
-      let b : Answers g crews (bestLimit g crews) before after r = rw q at a in
-      record { choices = b .choices; good = b .good; replied = rw t (b .replied) }
+      let g : Answers g crews (bestLimit g crews) before after r = rw q at a in
+      record { choices = g .choices; good = g .good; replied = rw t (g .replied) }
 
 -- The crews of a question that are not refused: at most 32,
 pub crews-few : (kind : Kind) (k n : ℕ) → crewFault (crewsOf kind k) n ≡ none → k ≤ 32
@@ -71,28 +70,28 @@ crews-few Rooted k n e = omega (arith, length-below k, few-of (length (below k))
 crews-few Unrooted k n e = ltb-false 32 k (first-false (ltb 32 k) false (second-false (ltb k 1) (ltb 32 k || false) (quiet-if (ltb k 1 || (ltb 32 k || false)) 21 e)))
 
 -- with the roots 0 to k - 1, all of them vertices,
-module _ {kind : Kind} {k room : ℕ} {b : List ℕ} {asked : Asked} (a : CrewsAsked kind k b asked room) where
-  pub rooted-asked : {roots : List ℕ} → kind ≡ Rooted → roots ≡ below k → RootedAsked b roots asked room
+module _ {kind : Kind} {k room : ℕ} {g : Graph} {asked : Asked} (a : CrewsAsked kind k g asked room) where
+  pub rooted-asked : {roots : List ℕ} → kind ≡ Rooted → roots ≡ below k → RootedAsked g roots asked room
   rooted-asked {roots} q r =
       let (same, are) : (kind ≡ Rooted) × (roots ≡ below k) = (q, r) in
-      let right : crewFault (crewsOf Rooted k) (graphOf b .vertices) ≡ none = rw same at (a .crews-right) in
-      let (some, inside) = rooted-fit (graphOf b) k right in
+      let right : crewFault (crewsOf Rooted k) (g .vertices) ≡ none = rw same at (a .crews-right) in
+      let (some, inside) = rooted-fit g k right in
       record {
         given =
             record {
-              graph = a .graph;
+              valid = a .valid;
               inside = rw are (λ j h. inside (getD (below k) j 0) (at-place 0 (below k) j h));
               some = rw are some;
-              few = rw are (omega (arith, length-below k, crews-few Rooted k (graphOf b .vertices) right));
+              few = rw are (omega (arith, length-below k, crews-few Rooted k (g .vertices) right));
             };
         limit-fits = a .limit-fits;
         room-most = a .room-most;
       }
 
   -- or without.
-  pub unrooted-asked : UnrootedAsked k b asked room
+  pub unrooted-asked : UnrootedAsked k g asked room
   unrooted-asked =
-      record { graph = a .graph; crews-few = crews-few kind k (graphOf b .vertices) (a .crews-right); limit-fits = a .limit-fits; room-most = a .room-most }
+      record { valid = a .valid; crews-few = crews-few kind k (g .vertices) (a .crews-right); limit-fits = a .limit-fits; room-most = a .room-most }
 
 -- The crews of the question are those of the rules.
 module _ {kind : Kind} (k : ℕ) {asked : Asked} {g : Graph} {before after : List ℕ} {r : Reply} where

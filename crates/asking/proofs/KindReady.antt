@@ -3,7 +3,7 @@
 use Prim.Native.Nat.{ℕ, _≤_}
 use mathlib.Core.Path.{_≡_, refl}
 use mathlib.Core.List.{List, []}
-use Rattle.graph.specs.Bytes.{graphOf}
+use Rattle.graph.specs.Graph.{Graph}
 use Rattle.rules.specs.Order.{ordered}
 use Rattle.cover.specs.declared.crews.Kind.the-variants.{Rooted, Unrooted}
 use Rattle.rooted_state.specs.Prepared.{Prepared}
@@ -12,11 +12,11 @@ use Rattle.search.proofs.KindDecides.{one-kind}
 use Rattle.answers.specs.Answers.{AnswerAsked}
 
 -- Everything is ready, for crews with roots,
-pub rooted-ready : {k room : ℕ} {b roots order kept bounds arcs table lasts : List ℕ} → Prepared b roots order kept bounds arcs table lasts
-    → k ≤ 32 → 32708 ≤ room → AnswerAsked Rooted k b roots order kept bounds arcs table lasts [] [] room
+pub rooted-ready : {k room : ℕ} {g : Graph} {roots order kept bounds arcs table lasts : List ℕ} → Prepared g roots order kept bounds arcs table lasts
+    → k ≤ 32 → 32708 ≤ room → AnswerAsked Rooted k g roots order kept bounds arcs table lasts [] [] room
 rooted-ready p few most =
     record {
-      ready = record { graph = p .decidable .given .graph; decidable = λ _. p .decidable; history = λ q. absurd (one-kind refl q) };
+      ready = record { valid = p .decidable .given .valid; decidable = λ _. p .decidable; history = λ q. absurd (one-kind refl q) };
       around = λ _. p .around;
       in-order = p .in-order;
       last-edges = λ _. p .last-edges;
@@ -25,13 +25,13 @@ rooted-ready p few most =
     }
 
 -- and for crews without.
-pub unrooted-ready : {k room : ℕ} {b order kept total until : List ℕ} → order ≡ ordered (graphOf b) → unrooted.HistoryReady b kept total until → k ≤ 32 → 32708 ≤ room
-    → AnswerAsked Unrooted k b [] order kept [] [] [] [] total until room
+pub unrooted-ready : {k room : ℕ} {g : Graph} {order kept total until : List ℕ} → order ≡ ordered g → unrooted.HistoryReady g kept total until → k ≤ 32 → 32708 ≤ room
+    → AnswerAsked Unrooted k g [] order kept [] [] [] [] total until room
 unrooted-ready in-order h few most =
     record {
       ready =
           record {
-            graph = h .forest-kept .graph;
+            valid = h .forest-kept .valid;
             decidable = λ q. absurd (one-kind q refl);
             history = λ _. h;
           };

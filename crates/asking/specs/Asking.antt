@@ -6,8 +6,7 @@ use mathlib.Core.List.{List}
 use mathlib.Core.Option.{none}
 use lib.ListN.{length}
 use Rattle.graph.specs.Graph.{Graph, edgeCount}
-use Rattle.graph.specs.Bytes.{graphOf}
-use Rattle.graph.specs.Valid.{IsGraph}
+use Rattle.graph.specs.Valid.{Valid}
 use Rattle.rules.specs.Cover as cover
 use Rattle.rules.specs.Reply as rules
 use Rattle.rules.specs.RootedTrial.{Choices}
@@ -47,47 +46,47 @@ pub record Answered (asked : Asked) (g : Graph) (crews : cover.Crews) (before af
   pub replied : Replied (replyTo asked g crews choices) before after r
 
 -- Everything that the crews read, for what is asked: a limit that is given is within document 01's range.
-pub record AskedReady (kind : Kind) (k : ℕ) (b roots : List ℕ) (asked : Asked) (order kept bounds arcs table lasts total until : List ℕ) (room : ℕ) : Type 0 where
-  pub answer : AnswerAsked kind k b roots order kept bounds arcs table lasts total until room
+pub record AskedReady (kind : Kind) (k : ℕ) (g : Graph) (roots : List ℕ) (asked : Asked) (order kept bounds arcs table lasts total until : List ℕ) (room : ℕ) : Type 0 where
+  pub answer : AnswerAsked kind k g roots order kept bounds arcs table lasts total until room
   pub limit-fits : LimitFits asked
 
 -- A question by crews with roots of which nothing is prepared yet.
-pub record RootedAsked (b roots : List ℕ) (asked : Asked) (room : ℕ) : Type 0 where
-  pub given : RootsGiven b roots
+pub record RootedAsked (g : Graph) (roots : List ℕ) (asked : Asked) (room : ℕ) : Type 0 where
+  pub given : RootsGiven g roots
   pub limit-fits : LimitFits asked
   pub room-most : 32708 ≤ room
 
 -- The same, with the arrays that it is answered in.
-pub record RootedLent (b roots : List ℕ) (asked : Asked) (order kept bounds all arcs table lasts : List ℕ) (room : ℕ) : Type 0 where
-  pub question : RootedAsked b roots asked room
-  pub arrays : RootedRoom (graphOf b .vertices) (edgeCount (graphOf b)) (length roots) (length order) (length kept) (length bounds) (length all) (length arcs)
+pub record RootedLent (g : Graph) (roots : List ℕ) (asked : Asked) (order kept bounds all arcs table lasts : List ℕ) (room : ℕ) : Type 0 where
+  pub question : RootedAsked g roots asked room
+  pub arrays : RootedRoom (g .vertices) (edgeCount g) (length roots) (length order) (length kept) (length bounds) (length all) (length arcs)
       (length table) (length lasts)
 
 -- A question by crews with roots of which nothing is prepared yet, about a small graph.
-pub record RootedSmall (b roots : List ℕ) (asked : Asked) (room : ℕ) : Type 0 where
-  pub question : RootedAsked b roots asked room
-  pub small : Small (graphOf b) (length roots)
+pub record RootedSmall (g : Graph) (roots : List ℕ) (asked : Asked) (room : ℕ) : Type 0 where
+  pub question : RootedAsked g roots asked room
+  pub small : Small g (length roots)
 
 -- A question by crews without roots of which nothing is prepared yet.
-pub record UnrootedAsked (k : ℕ) (b : List ℕ) (asked : Asked) (room : ℕ) : Type 0 where
-  pub graph : IsGraph b
+pub record UnrootedAsked (k : ℕ) (g : Graph) (asked : Asked) (room : ℕ) : Type 0 where
+  pub valid : Valid g
   pub crews-few : k ≤ 32
   pub limit-fits : LimitFits asked
   pub room-most : 32708 ≤ room
 
 -- The same, with the arrays that its edges are put in order in.
-pub record UnrootedLent (k : ℕ) (b : List ℕ) (asked : Asked) (keys spare order room : ℕ) : Type 0 where
-  pub question : UnrootedAsked k b asked room
-  pub for-order : RoomForOrder b keys spare order
+pub record UnrootedLent (k : ℕ) (g : Graph) (asked : Asked) (keys spare order room : ℕ) : Type 0 where
+  pub question : UnrootedAsked k g asked room
+  pub for-order : RoomForOrder g keys spare order
 
 -- A question by crews without roots of which nothing is prepared yet, about at most 512 edges.
-pub record UnrootedSmall (k : ℕ) (b : List ℕ) (asked : Asked) (room : ℕ) : Type 0 where
-  pub question : UnrootedAsked k b asked room
-  pub edges-few : edgeCount (graphOf b) ≤ 512
+pub record UnrootedSmall (k : ℕ) (g : Graph) (asked : Asked) (room : ℕ) : Type 0 where
+  pub question : UnrootedAsked k g asked room
+  pub edges-few : edgeCount g ≤ 512
 
 -- The crews of a question, which are not refused: nothing else is known.
-pub record CrewsAsked (kind : Kind) (k : ℕ) (b : List ℕ) (asked : Asked) (room : ℕ) : Type 0 where
-  pub graph : IsGraph b
-  pub crews-right : crewFault (crewsOf kind k) (graphOf b .vertices) ≡ none
+pub record CrewsAsked (kind : Kind) (k : ℕ) (g : Graph) (asked : Asked) (room : ℕ) : Type 0 where
+  pub valid : Valid g
+  pub crews-right : crewFault (crewsOf kind k) (g .vertices) ≡ none
   pub limit-fits : LimitFits asked
   pub room-most : 32708 ≤ room

@@ -39,7 +39,7 @@ fn answer_best(
     until: &[u16],
     buf: &mut [u8],
 ) -> Reply
-    requires { ⌜ AnswerAsked kind k (now b) (now roots) (now order) (now kept) (now bounds) (now arcs) (now table) (now lasts) (now total) (now until) (length (now buf)) ⌝ }
+    requires { ⌜ AnswerAsked kind k (graphOf (now b)) (now roots) (now order) (now kept) (now bounds) (now arcs) (now table) (now lasts) (now total) (now until) (length (now buf)) ⌝ }
     ensures { λ r. ⌜ Answered Best (graphOf (now (b .entry))) (crewsWith kind k (now (roots .entry))) (now (buf .entry)) (now (buf .exit)) r ⌝ }
 {
     if no_cover(kind, k, b, roots, kept) {
@@ -93,7 +93,7 @@ pub(crate) fn answer_asked(
     until: &[u16],
     buf: &mut [u8],
 ) -> Reply
-    requires { ⌜ AskedReady kind k (now b) (now roots) asked (now order) (now kept) (now bounds) (now arcs) (now table) (now lasts) (now total) (now until) (length (now buf)) ⌝ }
+    requires { ⌜ AskedReady kind k (graphOf (now b)) (now roots) asked (now order) (now kept) (now bounds) (now arcs) (now table) (now lasts) (now total) (now until) (length (now buf)) ⌝ }
     ensures { λ r. ⌜ Answered asked (graphOf (now (b .entry))) (crewsWith kind k (now (roots .entry))) (now (buf .entry)) (now (buf .exit)) r ⌝ }
 {
     match asked {
@@ -133,7 +133,7 @@ pub(crate) fn answer_asked(
 
 // The answer to a question by crews: "the yards are stops 0 to k - 1". Nothing below knows that.
 pub fn ask_crews(kind: Kind, k: usize, b: &[u8], asked: Asked, buf: &mut [u8]) -> Reply
-    requires { ⌜ CrewsAsked kind k (now b) asked (length (now buf)) ⌝ }
+    requires { ⌜ CrewsAsked kind k (graphOf (now b)) asked (length (now buf)) ⌝ }
     ensures { λ r. ⌜ Answered asked (graphOf (now (b .entry))) (crewsOf kind k) (now (buf .entry)) (now (buf .exit)) r ⌝ }
 {
     match kind {

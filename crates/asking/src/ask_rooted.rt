@@ -25,7 +25,7 @@ fn ask_rooted_in(
     lasts: &mut [u32],
     buf: &mut [u8],
 ) -> Reply
-    requires { ⌜ RootedLent (now b) (now roots) asked (now order) (now kept) (now bounds) (now all) (now arcs) (now table) (now lasts) (length (now buf)) ⌝ }
+    requires { ⌜ RootedLent (graphOf (now b)) (now roots) asked (now order) (now kept) (now bounds) (now all) (now arcs) (now table) (now lasts) (length (now buf)) ⌝ }
     ensures { λ r. ⌜ Answered asked (graphOf (now (b .entry))) (rooted (now (roots .entry))) (now (buf .entry)) (now (buf .exit)) r ⌝ }
 {
     let ready = prepare_rooted(b, roots, order, kept, bounds, all, arcs, table, lasts);
@@ -49,7 +49,7 @@ fn ask_rooted_in(
 
 // Lends arrays that a small graph and few crews fit in.
 fn ask_rooted_small(b: &[u8], roots: &[u16], asked: Asked, buf: &mut [u8]) -> Reply
-    requires { ⌜ RootedSmall (now b) (now roots) asked (length (now buf)) ⌝ }
+    requires { ⌜ RootedSmall (graphOf (now b)) (now roots) asked (length (now buf)) ⌝ }
     ensures { λ r. ⌜ Answered asked (graphOf (now (b .entry))) (rooted (now (roots .entry))) (now (buf .entry)) (now (buf .exit)) r ⌝ }
 {
     let mut order = [0u16; 512];
@@ -76,7 +76,7 @@ fn ask_rooted_small(b: &[u8], roots: &[u16], asked: Asked, buf: &mut [u8]) -> Re
 
 // Lends arrays that every graph and all crews fit in.
 fn ask_rooted_full(b: &[u8], roots: &[u16], asked: Asked, buf: &mut [u8]) -> Reply
-    requires { ⌜ RootedAsked (now b) (now roots) asked (length (now buf)) ⌝ }
+    requires { ⌜ RootedAsked (graphOf (now b)) (now roots) asked (length (now buf)) ⌝ }
     ensures { λ r. ⌜ Answered asked (graphOf (now (b .entry))) (rooted (now (roots .entry))) (now (buf .entry)) (now (buf .exit)) r ⌝ }
 {
     let mut order = [0u16; 2048];
@@ -116,7 +116,7 @@ fn is_small(b: &[u8], k: usize) -> bool
 
 // The answer to a question by crews with roots. The roots are a list of vertices, one for each crew.
 pub(crate) fn ask_rooted(b: &[u8], roots: &[u16], asked: Asked, buf: &mut [u8]) -> Reply
-    requires { ⌜ RootedAsked (now b) (now roots) asked (length (now buf)) ⌝ }
+    requires { ⌜ RootedAsked (graphOf (now b)) (now roots) asked (length (now buf)) ⌝ }
     ensures { λ r. ⌜ Answered asked (graphOf (now (b .entry))) (rooted (now (roots .entry))) (now (buf .entry)) (now (buf .exit)) r ⌝ }
 {
     if is_small(b, roots.len()) {

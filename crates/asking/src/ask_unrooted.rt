@@ -19,7 +19,7 @@ fn ask_unrooted_in(
     order: &mut [u16],
     buf: &mut [u8],
 ) -> Reply
-    requires { ⌜ UnrootedLent k (now b) asked (length (now keys)) (length (now spare)) (length (now order)) (length (now buf)) ⌝ }
+    requires { ⌜ UnrootedLent k (graphOf (now b)) asked (length (now keys)) (length (now spare)) (length (now order)) (length (now buf)) ⌝ }
     ensures { λ r. ⌜ Answered asked (graphOf (now (b .entry))) (unrooted k) (now (buf .entry)) (now (buf .exit)) r ⌝ }
 {
     let mut kept = [0u16; 256];
@@ -46,7 +46,7 @@ fn ask_unrooted_in(
 
 // Lends arrays that 512 edges fit in.
 fn ask_unrooted_small(k: usize, b: &[u8], asked: Asked, buf: &mut [u8]) -> Reply
-    requires { ⌜ UnrootedSmall k (now b) asked (length (now buf)) ⌝ }
+    requires { ⌜ UnrootedSmall k (graphOf (now b)) asked (length (now buf)) ⌝ }
     ensures { λ r. ⌜ Answered asked (graphOf (now (b .entry))) (unrooted k) (now (buf .entry)) (now (buf .exit)) r ⌝ }
 {
     let mut keys = [0u64; 512];
@@ -57,7 +57,7 @@ fn ask_unrooted_small(k: usize, b: &[u8], asked: Asked, buf: &mut [u8]) -> Reply
 
 // Lends arrays that the edges of every graph fit in.
 fn ask_unrooted_full(k: usize, b: &[u8], asked: Asked, buf: &mut [u8]) -> Reply
-    requires { ⌜ UnrootedAsked k (now b) asked (length (now buf)) ⌝ }
+    requires { ⌜ UnrootedAsked k (graphOf (now b)) asked (length (now buf)) ⌝ }
     ensures { λ r. ⌜ Answered asked (graphOf (now (b .entry))) (unrooted k) (now (buf .entry)) (now (buf .exit)) r ⌝ }
 {
     let mut keys = [0u64; 2048];
@@ -68,7 +68,7 @@ fn ask_unrooted_full(k: usize, b: &[u8], asked: Asked, buf: &mut [u8]) -> Reply
 
 // The answer to a question by k crews without roots.
 pub(crate) fn ask_unrooted(k: usize, b: &[u8], asked: Asked, buf: &mut [u8]) -> Reply
-    requires { ⌜ UnrootedAsked k (now b) asked (length (now buf)) ⌝ }
+    requires { ⌜ UnrootedAsked k (graphOf (now b)) asked (length (now buf)) ⌝ }
     ensures { λ r. ⌜ Answered asked (graphOf (now (b .entry))) (unrooted k) (now (buf .entry)) (now (buf .exit)) r ⌝ }
 {
     if graph::edge_count(b) <= 512 {

@@ -5,9 +5,8 @@ use mathlib.Core.Path.{_≡_}
 use mathlib.Core.Bool.{true}
 use mathlib.Core.List.{List, map}
 use Rattle.lists.specs.Count as Count
-use Rattle.graph.specs.Graph.{edgeCount}
-use Rattle.graph.specs.Bytes.{graphOf}
-use Rattle.graph.specs.Valid.{IsGraph}
+use Rattle.graph.specs.Graph.{Graph, edgeCount}
+use Rattle.graph.specs.Valid.{Valid}
 use Rattle.rules.specs.CoverBytes.{entriesIn, entryTree, entryEdge}
 use Rattle.rules.specs.CheckCover.{startsBelow, entriesRight}
 
@@ -33,8 +32,8 @@ pub record BeginsAt (c : List ℕ) (j at : ℕ) : Type 0 where
   pub lower : (i : ℕ) → i < at → entryTree c i < j
   pub higher : (i : ℕ) → at ≤ i → i < entriesIn c → j ≤ entryTree c i
 
--- The graph's bytes, and a cover whose starts and entries passed their tests.
-pub record CoverGiven (b c : List ℕ) : Type 0 where
-  pub graph : IsGraph b
-  pub starts : startsBelow (graphOf b .vertices) c ≡ true
-  pub entries : entriesRight (edgeCount (graphOf b)) c ≡ true
+-- A valid graph, and a cover whose starts and entries passed their tests.
+pub record CoverGiven (g : Graph) (c : List ℕ) : Type 0 where
+  pub valid : Valid g
+  pub starts : startsBelow (g .vertices) c ≡ true
+  pub entries : entriesRight (edgeCount g) c ≡ true

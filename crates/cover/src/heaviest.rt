@@ -38,7 +38,7 @@ fn larger(x: u64, y: u64) -> u64
 // The weight of the heaviest tree of a cover. The entries of one tree stand side by side, so that one walk through the entries serves all
 // trees.
 pub fn heaviest_tree(b: &[u8], c: &[u8]) -> u64
-    requires { ⌜ CoverGiven (now b) (now c) ⌝ }
+    requires { ⌜ CoverGiven (graphOf (now b)) (now c) ⌝ }
     ensures { λ r. ⌜ r ≡ heaviest (graphOf (now (b .entry))) (decode (now (c .entry))) ⌝ }
 {
     let t = trees_in(c);

@@ -5,8 +5,7 @@ use mathlib.Core.List.{List}
 use lib.ListN.{length, getD}
 use Rattle.lists.specs.Member.{_∈_}
 use Rattle.graph.specs.Graph.{Graph}
-use Rattle.graph.specs.Bytes.{graphOf}
-use Rattle.graph.specs.Valid.{IsGraph}
+use Rattle.graph.specs.Valid.{Valid}
 use Rattle.rules.specs.Cover.{Tree}
 use Rattle.rules.specs.Distance.{treeVertices}
 
@@ -15,11 +14,11 @@ pub record LookGiven (dist : List ℕ) (u v : ℕ) : Type 0 where
   pub one : u < length dist
   pub other : v < length dist
 
--- What is asked: a graph's bytes, a distance for each of its vertices, and a start among them.
-pub record NearestGiven (b dist : List ℕ) (start : ℕ) : Type 0 where
-  pub graph : IsGraph b
-  pub room : graphOf b .vertices ≤ length dist
-  pub start-inside : start < graphOf b .vertices
+-- What is asked: a valid graph, a distance for each of its vertices, and a start among them.
+pub record NearestGiven (g : Graph) (dist : List ℕ) (start : ℕ) : Type 0 where
+  pub valid : Valid g
+  pub room : g .vertices ≤ length dist
+  pub start-inside : start < g .vertices
 
 -- r is a vertex that the tree covers, and none of those is nearer to the root.
 pub record Nearest (g : Graph) (dist : List ℕ) (t : Tree) (r : ℕ) : Type 0 where

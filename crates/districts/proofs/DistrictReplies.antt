@@ -21,13 +21,13 @@ use Rattle.gate_replies.proofs.FixedReplies.{text-fits, fixed-fits}
 use Rattle.districts.specs.Text.{DistrictBy, DistrictWritten, verdictText}
 
 module _ {whole : Bool} {kind : Kind} {k : ℕ} {b : List ℕ} {reply : Reply} {buf before after : List ℕ} {r : ℕ} where
-  pub whole-written : whole ≡ true → TextWritten b reply buf before after r → DistrictWritten whole kind k b reply buf before after r
+  pub whole-written : whole ≡ true → TextWritten (graphOf b) reply buf before after r → DistrictWritten whole kind k b reply buf before after r
   whole-written q w = record { text = subst (DistrictBy kind k b reply buf before after r) (sym q) w }
 
   pub part-written : whole ≡ false → FixedWritten kind k b reply buf before after r → DistrictWritten whole kind k b reply buf before after r
   part-written q w = record { text = subst (DistrictBy kind k b reply buf before after r) (sym q) w }
 
-pub district-fits : (whole : Bool) {kind : Kind} {k : ℕ} {b buf before after : List ℕ} {reply : Reply} {room r : ℕ} → TextAsked b reply buf room
+pub district-fits : (whole : Bool) {kind : Kind} {k : ℕ} {b buf before after : List ℕ} {reply : Reply} {room r : ℕ} → TextAsked (graphOf b) reply buf room
     → DistrictWritten whole kind k b reply buf before after r → r ≤ length before
 district-fits true a w = text-fits a (w .text)
 district-fits false {reply = reply} a w = fixed-fits reply a (w .text)

@@ -3,6 +3,7 @@
 use Prim.Native.Nat.{ℕ}
 use mathlib.Core.Bool.{Bool, true, false}
 use mathlib.Core.List.{List, [], _∷_}
+use Rattle.graph.specs.Bytes.{graphOf}
 use Rattle.rules.specs.Reply as rules
 use Rattle.cover.specs.declared.crews.Kind.{Kind}
 use Rattle.pieces.specs.declared.reply.Reply.{Reply}
@@ -12,7 +13,7 @@ use Rattle.gate_replies.specs.Fixed.{FixedWritten}
 
 -- The reply's whole text where that is asked for; otherwise what the rules fix of it.
 abbrev pub DistrictBy : Kind → ℕ → List ℕ → Reply → List ℕ → List ℕ → List ℕ → ℕ → Bool → Type 0
-DistrictBy kind k b reply buf before after r true = TextWritten b reply buf before after r
+DistrictBy kind k b reply buf before after r true = TextWritten (graphOf b) reply buf before after r
 DistrictBy kind k b reply buf before after r false = FixedWritten kind k b reply buf before after r
 
 pub record DistrictWritten (whole : Bool) (kind : Kind) (k : ℕ) (b : List ℕ) (reply : Reply) (buf before after : List ℕ) (r : ℕ) : Type 0 where

@@ -21,11 +21,12 @@ use text::write_text;
 use text::write_verdict;
 ghost use Prim.Native.Nat.{_^_, _≤_, _<_};
 ghost use lib.ListN.{length};
+ghost use Rattle.graph.specs.Bytes.{graphOf};
 ghost use Rattle.reply_text.specs.Replies.{TextAsked};
 
 // Prints a reply: all of it, or what the rules fix.
 fn print_reply(whole: bool, kind: Kind, k: usize, b: &[u8], reply: Reply, buf: &[u8])
-    requires { ⌜ TextAsked (now b) reply (now buf) 65536 ⌝ }
+    requires { ⌜ TextAsked (graphOf (now b)) reply (now buf) 65536 ⌝ }
 {
     let mut out = room();
     let end = write_text(whole, kind, k, b, reply, buf, &mut out);
@@ -43,7 +44,7 @@ fn file_reply(reply: Reply, buf: &[u8])
 
 // The planner's reply to a trial, or to the question for the best limit. It can be printed.
 fn reply_to(asked: Asked, kind: Kind, k: usize, b: &[u8], buf: &mut [u8]) -> Reply
-    ensures { λ r. ⌜ TextAsked (now (b .entry)) r (now (buf .exit)) 65536 ⌝ }
+    ensures { λ r. ⌜ TextAsked (graphOf (now (b .entry))) r (now (buf .exit)) 65536 ⌝ }
 {
     match asked {
         Asked::At(limit) => trial(kind, k, limit, b, buf),

@@ -10,6 +10,7 @@ use reply_text::reply::write_reply;
 ghost use Prim.Native.Nat.{_≤_};
 ghost use lib.ListN.{length};
 ghost use Rattle.lists.specs.Put.{PutTo};
+ghost use Rattle.graph.specs.Bytes.{graphOf};
 ghost use Rattle.filed.specs.Promise.{says};
 ghost use Rattle.reply_text.specs.Replies.{TextAsked};
 ghost use Rattle.districts.specs.Text.{DistrictWritten, verdictText};
@@ -24,7 +25,7 @@ pub(crate) fn write_text(
     buf: &[u8],
     out: &mut [u8],
 ) -> usize
-    requires { ⌜ TextAsked (now b) reply (now buf) (length (now out)) ⌝ }
+    requires { ⌜ TextAsked (graphOf (now b)) reply (now buf) (length (now out)) ⌝ }
     ensures { λ r. ⌜ DistrictWritten whole kind k (now (b .entry)) reply (now (buf .entry)) (now (out .entry)) (now (out .exit)) r ⌝ }
 {
     if whole {

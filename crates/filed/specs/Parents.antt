@@ -7,7 +7,7 @@ use mathlib.Core.Bool.{Bool, not}
 use mathlib.Core.List.{List}
 use lib.ListN.{length, getD}
 use Rattle.graph.specs.Graph.{Graph}
-use Rattle.graph.specs.Valid.{IsGraph}
+use Rattle.graph.specs.Valid.{Valid}
 use Rattle.rules.specs.Labels.{Labels, endsJoined, mergeEdge}
 
 -- The vertex is its own parent.
@@ -41,9 +41,9 @@ pub record Found (v : ℕ) (before after : List ℕ) (r : ℕ) : Type 0 where
   pub below : r ≤ v
   pub same : (label : Labels) → Spells before label → label r ≡ label v
 
--- The bytes are a graph's, and there are parents.
-pub record Joinable (b parents : List ℕ) : Type 0 where
-  pub graph : IsGraph b
+-- The graph is valid, and there are parents.
+pub record Joinable (g : Graph) (parents : List ℕ) : Type 0 where
+  pub valid : Valid g
   pub parented : Parents parents
 
 -- The ends of edge e were joined, and r says whether they were not yet, whatever labels the parents spell.

@@ -7,8 +7,7 @@ use mathlib.Core.List.{List}
 use lib.ListN.{length}
 use Rattle.lists.specs.Lists.{all}
 use Rattle.graph.specs.Graph.{Graph, oneEnd}
-use Rattle.graph.specs.Bytes.{graphOf}
-use Rattle.graph.specs.Valid.{IsGraph}
+use Rattle.graph.specs.Valid.{Valid}
 use Rattle.rules.specs.Labels.{Labels, joined, mergeAll}
 use Rattle.rules.specs.CoverBytes.{startIn}
 use Rattle.rules.specs.CheckCover.{loopFree}
@@ -25,14 +24,14 @@ pub record RunTaken (g : Graph) (c : List ℕ) (from to : ℕ) (before after : L
 pub record RunJoined (g : Graph) (c : List ℕ) (from to start : ℕ) (parents : List ℕ) (r : Bool) : Type 0 where
   pub is : (label : Labels) → Spells parents label → r ≡ all (λ e. joined label start (oneEnd g e)) (runEdges c from to)
 
--- The graph's bytes with a place for each vertex's parent, a start that is a vertex, and a run that does not end before it begins.
-pub record TreeGiven (b c : List ℕ) (j from to : ℕ) (parents : List ℕ) : Type 0 where
-  pub graph : IsGraph b
+-- A valid graph with a place for each vertex's parent, a start that is a vertex, and a run that does not end before it begins.
+pub record TreeGiven (g : Graph) (c : List ℕ) (j from to : ℕ) (parents : List ℕ) : Type 0 where
+  pub valid : Valid g
   pub room : length parents ≡ 256
-  pub start : startIn c j < graphOf b .vertices
+  pub start : startIn c j < g .vertices
   pub forward : from ≤ to
 
 -- A cover whose starts and entries passed their tests, with a place for each vertex's parent.
-pub record TreesGiven (b c parents : List ℕ) : Type 0 where
-  pub cover : CoverGiven b c
+pub record TreesGiven (g : Graph) (c parents : List ℕ) : Type 0 where
+  pub cover : CoverGiven g c
   pub room : length parents ≡ 256

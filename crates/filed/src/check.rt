@@ -12,7 +12,7 @@ use filed_entries::vertices::vertices_covered;
 use graph_check::Checked;
 ghost use mathlib.Core.Path.{_≡_};
 ghost use Rattle.graph.specs.Bytes.{graphOf};
-ghost use Rattle.graph.specs.Valid.{IsGraph};
+ghost use Rattle.graph.specs.Valid.{Valid};
 ghost use Rattle.rules.specs.CheckCover.{startsRight, coverFault};
 ghost use Rattle.cover.specs.Runs.{CoverGiven};
 ghost use Rattle.cover.specs.Crews.{crewsOf};
@@ -66,7 +66,7 @@ fn starts_right(kind: Kind, k: usize, c: &[u8]) -> bool
 
 // The check of the trees and the vertices, where starts and entries passed their tests.
 fn check_trees(b: &[u8], c: &[u8]) -> Verdict
-    requires { ⌜ CoverGiven (now b) (now c) ⌝ }
+    requires { ⌜ CoverGiven (graphOf (now b)) (now c) ⌝ }
     ensures { λ r. ⌜ says r ≡ answer (graphOf (now (b .entry))) (now (c .entry)) (treesFault (graphOf (now (b .entry))) (now (c .entry))) ⌝ }
 {
     let mut parents = [0u8; 256];
@@ -81,7 +81,7 @@ fn check_trees(b: &[u8], c: &[u8]) -> Verdict
 
 // The check of the cover's bytes, for a graph.
 fn check_filed(kind: Kind, k: usize, b: &[u8], c: &[u8]) -> Verdict
-    requires { ⌜ IsGraph (now b) ⌝ }
+    requires { ⌜ Valid (graphOf (now b)) ⌝ }
     ensures { λ r. ⌜ says r ≡ answer (graphOf (now (b .entry))) (now (c .entry)) (coverFault (graphOf (now (b .entry))) (crewsOf kind k) (now (c .entry))) ⌝ }
 {
     if c.len() < 4 {

@@ -18,7 +18,7 @@ ghost use Rattle.filed.specs.Trees.{RunTaken, RunJoined, TreeGiven, Tree
 
 // Joins the ends of the edges of a run of entries, one edge after the other, as long as they are not yet joined. Says whether none were.
 fn run_loop_free(b: &[u8], c: &[u8], from: usize, to: usize, parents: &mut [u8]) -> bool
-    requires { ⌜ (from ≤ to) × Joinable (now b) (now parents) ⌝ }
+    requires { ⌜ (from ≤ to) × Joinable (graphOf (now b)) (now parents) ⌝ }
     ensures { λ r. ⌜ RunTaken (graphOf (now (b .entry))) (now (c .entry)) from to (now (parents .entry)) (now (parents .exit)) r ⌝ }
 {
     let mut i = from;
@@ -33,7 +33,7 @@ fn run_loop_free(b: &[u8], c: &[u8], from: usize, to: usize, parents: &mut [u8])
 
 // Says whether each edge of a run of entries is joined to the start.
 fn run_joined(b: &[u8], c: &[u8], from: usize, to: usize, start: usize, parents: &mut [u8]) -> bool
-    requires { ⌜ (start < graphOf (now b) .vertices) × Joinable (now b) (now parents) ⌝ }
+    requires { ⌜ (start < graphOf (now b) .vertices) × Joinable (graphOf (now b)) (now parents) ⌝ }
     ensures { λ r. ⌜ RunJoined (graphOf (now (b .entry))) (now (c .entry)) from to start (now (parents .entry)) r ⌝ }
 {
     let home = stands_for(parents, start);
@@ -50,7 +50,7 @@ fn run_joined(b: &[u8], c: &[u8], from: usize, to: usize, start: usize, parents:
 
 // Says whether tree j, whose entries are the run, has no loop and no edge that is not joined to its start.
 fn tree_right(b: &[u8], c: &[u8], j: usize, from: usize, to: usize, parents: &mut [u8]) -> bool
-    requires { ⌜ TreeGiven (now b) (now c) j from to (now parents) ⌝ }
+    requires { ⌜ TreeGiven (graphOf (now b)) (now c) j from to (now parents) ⌝ }
     ensures { λ r. ⌜ r ≡ treeRight (graphOf (now (b .entry))) (record { start = startIn (now (c .entry)) j; edges = runEdges (now (c .entry)) from to }) ⌝ }
 {
     set_apart(parents);
@@ -62,7 +62,7 @@ fn tree_right(b: &[u8], c: &[u8], j: usize, from: usize, to: usize, parents: &mu
 
 // Says whether every tree is so. The parents are scratch.
 pub fn trees_right(b: &[u8], c: &[u8], parents: &mut [u8]) -> bool
-    requires { ⌜ TreesGiven (now b) (now c) (now parents) ⌝ }
+    requires { ⌜ TreesGiven (graphOf (now b)) (now c) (now parents) ⌝ }
     ensures { λ r. ⌜ r ≡ treesRight (graphOf (now (b .entry))) (decode (now (c .entry))) ⌝ }
 {
     let t = trees_in(c);

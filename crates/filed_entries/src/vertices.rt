@@ -30,7 +30,7 @@ fn mark_starts(c: &[u8], marks: &mut [u8])
 
 // Marks both ends of each entry's edge.
 fn mark_ends(b: &[u8], c: &[u8], marks: &mut [u8])
-    requires { ⌜ Labelable (now b) (now marks) ⌝ }
+    requires { ⌜ Labelable (graphOf (now b)) (now marks) ⌝ }
     ensures { λ _. ⌜ EndsMarked (graphOf (now (b .entry))) (now (c .entry)) (entriesIn (now (c .entry))) (now (marks .entry)) (now (marks .exit)) ⌝ }
 {
     let q = entries_in(c);
@@ -47,7 +47,7 @@ fn mark_ends(b: &[u8], c: &[u8], marks: &mut [u8])
 
 // Says whether each vertex is covered.
 pub fn vertices_covered(b: &[u8], c: &[u8]) -> bool
-    requires { ⌜ CoverGiven (now b) (now c) ⌝ }
+    requires { ⌜ CoverGiven (graphOf (now b)) (now c) ⌝ }
     ensures { λ r. ⌜ r ≡ verticesCovered (graphOf (now (b .entry))) (decode (now (c .entry))) ⌝ }
 {
     let mut marks = [0u8; 256];

@@ -5,21 +5,20 @@ use mathlib.Core.List.{List}
 use lib.ListN.{length}
 use Rattle.lists.specs.Put.{PutTo, OnlyFirst}
 use Rattle.graph.specs.Graph.{Graph}
-use Rattle.graph.specs.Bytes.{graphOf}
-use Rattle.graph.specs.Valid.{IsGraph}
+use Rattle.graph.specs.Valid.{Valid}
 use Rattle.rules.specs.Labels.{Labels, mergeAll}
 use Rattle.rules.specs.Forest.{keep}
 use Rattle.forest.specs.Arrays.{Agrees}
 
--- The bytes are a graph's, and the array has a place for each vertex's label.
-pub record Labelable (b label : List ℕ) : Type 0 where
-  pub graph : IsGraph b
-  pub room : graphOf b .vertices ≤ length label
+-- The graph is valid, and the array has a place for each vertex's label.
+pub record Labelable (g : Graph) (label : List ℕ) : Type 0 where
+  pub valid : Valid g
+  pub room : g .vertices ≤ length label
 
 -- Besides, there is a place for each vertex to keep edges in: however many edges are given, fewer are kept than there are vertices.
-pub record Keepable (b label kept : List ℕ) : Type 0 where
-  pub labelable : Labelable b label
-  pub room : graphOf b .vertices ≤ length kept
+pub record Keepable (g : Graph) (label kept : List ℕ) : Type 0 where
+  pub labelable : Labelable g label
+  pub room : g .vertices ≤ length kept
 
 -- Whatever labels the array held: the r edges written are those "whose ends are not yet joined", and the ends of all edges are joined.
 -- Elements past the vertices and past the edges written are as they came.

@@ -7,7 +7,7 @@ ghost use Rattle.forest.specs.Keeping.{Labelable, Keepable, KeptWritten}
 
 // Joins the ends of edge e, and says whether they were not yet joined. Where they were, no label changes.
 pub fn join_ends(b: &[u8], e: usize, label: &mut [u16]) -> bool
-    requires { ⌜ Labelable (now b) (now label) ⌝ }
+    requires { ⌜ Labelable (graphOf (now b)) (now label) ⌝ }
     ensures { λ r. ⌜ Joined (graphOf (now (b .entry))) e (now (label .entry)) (now (label .exit)) r ⌝ }
 {
     let u = graph::one_end(b, e);
@@ -23,7 +23,7 @@ pub fn join_ends(b: &[u8], e: usize, label: &mut [u16]) -> bool
 // "Take lines .. and keep each whose ends are not yet joined": the edges in the order given, from the labels given. Says how many are
 // kept: fewer than there are vertices, however many edges are given.
 pub fn keep_edges(b: &[u8], edges: &[u16], label: &mut [u16], kept: &mut [u16]) -> usize
-    requires { ⌜ Keepable (now b) (now label) (now kept) ⌝ }
+    requires { ⌜ Keepable (graphOf (now b)) (now label) (now kept) ⌝ }
     ensures { λ r. ⌜ KeptWritten (graphOf (now (b .entry))) (now (edges .entry)) (now (label .entry)) (now (label .exit)) (now (kept .entry)) (now (kept .exit)) r ⌝ }
 {
     let mut r = 0;

@@ -9,6 +9,8 @@ use denote.Enum.Declared.{tagOf}
 use types.Run.{OneOf, miss}
 use Rattle.lists.specs.Put.{PutTo}
 use Rattle.lists.proofs.Put.{put-fits}
+use Rattle.graph.specs.Graph.{Graph}
+use Rattle.graph.specs.Bytes.{graphOf}
 use Rattle.rules.specs.CoverBytes.{coverLength}
 use Rattle.cover.specs.declared.crews.Kind.{Kind}
 use Rattle.pieces.proofs.reply.Reply as reply
@@ -35,7 +37,7 @@ module _ {kind : Kind} {k : ℕ} {b buf before after : List ℕ} {r : ℕ} where
   fixed-parts q p = record { fixed = subst (FixedBy kind k b buf before after r) (sym q) p }
 
   -- Any other.
-  pub fixed-other : (x : Reply) → OneOf others (tagOf reply.the-type x) → TextWritten b x buf before after r → FixedWritten kind k b x buf before after r
+  pub fixed-other : (x : Reply) → OneOf others (tagOf reply.the-type x) → TextWritten (graphOf b) x buf before after r → FixedWritten kind k b x buf before after r
   fixed-other (Sheet f) o p = record { fixed = p }
   fixed-other Crews o p = record { fixed = p }
   fixed-other Limit o p = record { fixed = p }
@@ -47,11 +49,11 @@ module _ {kind : Kind} {k : ℕ} {b buf before after : List ℕ} {r : ℕ} where
   fixed-other NoCover o p = record { fixed = p }
 
 -- The whole text fits.
-pub text-fits : {b buf before after : List ℕ} {reply : Reply} {room r : ℕ} → TextAsked b reply buf room → TextWritten b reply buf before after r → r ≤ length before
+pub text-fits : {g : Graph} {buf before after : List ℕ} {reply : Reply} {room r : ℕ} → TextAsked g reply buf room → TextWritten g reply buf before after r → r ≤ length before
 text-fits a w = put-fits (w .text (a .ruled) (a .earlier) (a .replied) (a .printable))
 
 -- So does what the rules fix.
-pub fixed-fits : {kind : Kind} {k : ℕ} {b buf before after : List ℕ} (reply : Reply) {room r : ℕ} → TextAsked b reply buf room
+pub fixed-fits : {kind : Kind} {k : ℕ} {b buf before after : List ℕ} (reply : Reply) {room r : ℕ} → TextAsked (graphOf b) reply buf room
     → FixedWritten kind k b reply buf before after r → r ≤ length before
 fixed-fits (Cover limit heaviest t) a w = put-fits (w .fixed)
 fixed-fits (Parts T D) a w = put-fits (w .fixed)

@@ -6,6 +6,7 @@ use mathlib.Core.List.{List, [], _∷_, _++_}
 use lib.ListN.{take}
 use lib.Dec.{eqb}
 use Rattle.lists.specs.Put.{PutTo}
+use Rattle.graph.specs.Bytes.{graphOf}
 use Rattle.rules.specs.Reply as rules
 use Rattle.rules.specs.Questions.{askCheck}
 use Rattle.rules.specs.CoverBytes.{coverLength}
@@ -42,13 +43,13 @@ abbrev pub FixedBy : Kind → ℕ → List ℕ → List ℕ → List ℕ → Lis
 FixedBy kind k b buf before after r (Cover limit heaviest t) =
     PutTo 0 (sureLine limit (confirmed kind k b (coverIn buf) heaviest) t) before after r
 FixedBy kind k b buf before after r (Parts T D) = PutTo 0 (line "too low parts" []) before after r
-FixedBy kind k b buf before after r (Sheet f) = TextWritten b (Sheet f) buf before after r
-FixedBy kind k b buf before after r Crews = TextWritten b Crews buf before after r
-FixedBy kind k b buf before after r Limit = TextWritten b Limit buf before after r
-FixedBy kind k b buf before after r Room = TextWritten b Room buf before after r
-FixedBy kind k b buf before after r (Stop v) = TextWritten b (Stop v) buf before after r
-FixedBy kind k b buf before after r (Needs C) = TextWritten b (Needs C) buf before after r
-FixedBy kind k b buf before after r NoCover = TextWritten b NoCover buf before after r
+FixedBy kind k b buf before after r (Sheet f) = TextWritten (graphOf b) (Sheet f) buf before after r
+FixedBy kind k b buf before after r Crews = TextWritten (graphOf b) Crews buf before after r
+FixedBy kind k b buf before after r Limit = TextWritten (graphOf b) Limit buf before after r
+FixedBy kind k b buf before after r Room = TextWritten (graphOf b) Room buf before after r
+FixedBy kind k b buf before after r (Stop v) = TextWritten (graphOf b) (Stop v) buf before after r
+FixedBy kind k b buf before after r (Needs C) = TextWritten (graphOf b) (Needs C) buf before after r
+FixedBy kind k b buf before after r NoCover = TextWritten (graphOf b) NoCover buf before after r
 
 pub record FixedWritten (kind : Kind) (k : ℕ) (b : List ℕ) (reply : Reply) (buf before after : List ℕ) (r : ℕ) : Type 0 where
   pub fixed : FixedBy kind k b buf before after r reply

@@ -12,6 +12,7 @@ ghost use mathlib.Core.Path.{_≡_};
 ghost use Prim.Native.Nat.{_+_, _≤_};
 ghost use lib.ListN.{length};
 ghost use Rattle.lists.specs.Put.{PutTo};
+ghost use Rattle.graph.specs.Bytes.{graphOf};
 ghost use Rattle.filed.specs.Promise.{says};
 ghost use Rattle.reply_text.specs.Replies.{TextAsked};
 ghost use Rattle.gate_replies.specs.Fixed.{isYes, confirmed, yesWord, sureLine, FixedWritten};
@@ -64,7 +65,7 @@ pub fn write_fixed(
     buf: &[u8],
     out: &mut [u8],
 ) -> usize
-    requires { ⌜ TextAsked (now b) reply (now buf) (length (now out)) ⌝ }
+    requires { ⌜ TextAsked (graphOf (now b)) reply (now buf) (length (now out)) ⌝ }
     ensures { λ r. ⌜ FixedWritten kind k (now (b .entry)) reply (now (buf .entry)) (now (out .entry)) (now (out .exit)) r ⌝ }
 {
     match reply {

@@ -7,23 +7,22 @@ use lib.ListN.{length, getD}
 use Rattle.lists.specs.Lists.{any}
 use Rattle.lists.specs.Put.{OnlyFirst}
 use Rattle.graph.specs.Graph.{Graph}
-use Rattle.graph.specs.Bytes.{graphOf}
-use Rattle.graph.specs.Valid.{IsGraph}
+use Rattle.graph.specs.Valid.{Valid}
 use Rattle.rules.specs.Cover.{Tree}
 use Rattle.rules.specs.Distance.{treeVertices}
 use Rattle.rules.specs.Held.{treeAt}
 use Rattle.cover.specs.Chosen.{IsHeld}
 use Rattle.near.specs.Bits.{bitAt}
 
--- What is asked of the words: the bytes are a graph's, and there is a word for each of its vertices.
-pub record WordsGiven (b near : List ℕ) : Type 0 where
-  pub graph : IsGraph b
-  pub room : graphOf b .vertices ≤ length near
+-- What is asked of the words: a valid graph, and a word for each of its vertices.
+pub record WordsGiven (g : Graph) (near : List ℕ) : Type 0 where
+  pub valid : Valid g
+  pub room : g .vertices ≤ length near
 
 -- What looking at one tree asks besides: it starts at one of them.
-pub record PieceAsked (b near : List ℕ) (start : ℕ) : Type 0 where
-  pub given : WordsGiven b near
-  pub start-inside : start < graphOf b .vertices
+pub record PieceAsked (g : Graph) (near : List ℕ) (start : ℕ) : Type 0 where
+  pub given : WordsGiven g near
+  pub start-inside : start < g .vertices
 
 -- The word of a tree has a root exactly where the word of one of its vertices has it.
 pub record NearTree (g : Graph) (near : List ℕ) (t : Tree) (word : ℕ) : Type 0 where
@@ -35,9 +34,9 @@ pub record TreeHeld (n : ℕ) (starts cuts flat : List ℕ) (c : ℕ) : Type 0 w
   pub start-inside : getD starts c 0 < n
 
 -- What looking at several asks: each place's tree, and room for a word for each.
-pub record NearPiecesAsked (b near starts cuts flat places words : List ℕ) : Type 0 where
-  pub given : WordsGiven b near
-  pub trees : (i : ℕ) → i < length places → TreeHeld (graphOf b .vertices) starts cuts flat (getD places i 0)
+pub record NearPiecesAsked (g : Graph) (near starts cuts flat places words : List ℕ) : Type 0 where
+  pub given : WordsGiven g near
+  pub trees : (i : ℕ) → i < length places → TreeHeld (g .vertices) starts cuts flat (getD places i 0)
   pub words-room : length places ≤ length words
 
 -- The first words are the trees', in the order of their places.

@@ -9,7 +9,7 @@ ghost use Rattle.near.specs.Held.{PieceAsked, NearTree, NearPiecesAsked,
 
 // Those near the tree with this start and these edges: near the start, or near an end of an edge.
 fn near_piece(b: &[u8], near: &[u32], start: usize, edges: &[u16]) -> u32
-    requires { ⌜ PieceAsked (now b) (now near) start ⌝ }
+    requires { ⌜ PieceAsked (graphOf (now b)) (now near) start ⌝ }
     ensures { λ r. ⌜ NearTree (graphOf (now (b .entry))) (now (near .entry)) (treeOf start (now (edges .entry))) r ⌝ }
 {
     let mut word = near[start];
@@ -34,7 +34,7 @@ pub fn near_pieces(
     places: &[u16],
     words: &mut [u32],
 )
-    requires { ⌜ NearPiecesAsked (now b) (now near) (now starts) (now cuts) (now flat) (now places) (now words) ⌝ }
+    requires { ⌜ NearPiecesAsked (graphOf (now b)) (now near) (now starts) (now cuts) (now flat) (now places) (now words) ⌝ }
     ensures { λ _. ⌜ NearPieces (graphOf (now (b .entry))) (now (near .entry)) (now (starts .entry)) (now (cuts .entry)) (now (flat .entry)) (now (places .entry))
         (now (words .entry)) (now (words .exit)) ⌝ }
 {

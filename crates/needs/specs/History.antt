@@ -13,7 +13,6 @@ use Rattle.lists.specs.Count.{below}
 use Rattle.lists.specs.Lists.{sumOf}
 use Rattle.lists.specs.Put.{OnlyFirst}
 use Rattle.graph.specs.Graph.{Graph, oneEnd, otherEnd, weightOf}
-use Rattle.graph.specs.Bytes.{graphOf}
 use Rattle.rules.specs.Labels.{Labels, apart, mergeEdge}
 use Rattle.rules.specs.Forest.{forest}
 use Rattle.rules.specs.UnrootedTrial.{needed}
@@ -62,9 +61,9 @@ pub record MergeNoted (a c w number : ℕ) (made₀ made₁ total₀ total₁ un
   pub until-is : until₁ ≡ set (set (set until₀ (getD made₀ a 0) number) (getD made₀ c 0) number) number 256
 
 -- An edge that is to be merged and noted,
-pub record EdgeAsked (b : List ℕ) (e number : ℕ) (label made total until : List ℕ) : Type 0 where
-  pub labelable : Labelable b label
-  pub note : NoteAsked (getD label (oneEnd (graphOf b) e) 0) (getD label (otherEnd (graphOf b) e) 0) (weightOf (graphOf b) e) number made total until
+pub record EdgeAsked (g : Graph) (e number : ℕ) (label made total until : List ℕ) : Type 0 where
+  pub labelable : Labelable g label
+  pub note : NoteAsked (getD label (oneEnd g e) 0) (getD label (otherEnd g e) 0) (weightOf g e) number made total until
 
 -- and was.
 pub record EdgeMerged (g : Graph) (e number : ℕ) (label₀ label₁ made₀ made₁ total₀ total₁ until₀ until₁ : List ℕ) : Type 0 where
@@ -72,17 +71,17 @@ pub record EdgeMerged (g : Graph) (e number : ℕ) (label₀ label₁ made₀ ma
   pub joined : (label : Labels) → Agrees (g .vertices) label₀ label → Agrees (g .vertices) label₁ (mergeEdge g label e)
 
 -- What the history asks: a whole forest without roots, and room for 256 numbers.
-pub record HistoryAsked (b kept total until : List ℕ) : Type 0 where
-  pub forest-kept : ForestKept b kept
+pub record HistoryAsked (g : Graph) (kept total until : List ℕ) : Type 0 where
+  pub forest-kept : ForestKept g kept
   pub total-most : 256 ≤ length total
   pub until-most : 256 ≤ length until
 
 -- The same at its start: all vertices are apart, and no merge was noted.
-pub record MergesAsked (b kept label made total until : List ℕ) : Type 0 where
-  pub history : HistoryAsked b kept total until
-  pub labels-room : graphOf b .vertices ≤ length label
-  pub labels : Agrees (graphOf b .vertices) label apart
-  pub made-room : graphOf b .vertices ≤ length made
+pub record MergesAsked (g : Graph) (kept label made total until : List ℕ) : Type 0 where
+  pub history : HistoryAsked g kept total until
+  pub labels-room : g .vertices ≤ length label
+  pub labels : Agrees (g .vertices) label apart
+  pub made-room : g .vertices ≤ length made
   pub made-none : (v : ℕ) → getD made v 0 ≡ 0
   pub none : getD total 0 0 ≡ 0
 

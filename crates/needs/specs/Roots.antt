@@ -6,15 +6,14 @@ use mathlib.Core.List.{List}
 use lib.ListN.{length}
 use Rattle.lists.specs.Put.{PutTo}
 use Rattle.graph.specs.Graph.{Graph}
-use Rattle.graph.specs.Bytes.{graphOf}
-use Rattle.graph.specs.Valid.{IsGraph}
+use Rattle.graph.specs.Valid.{Valid}
 use Rattle.rules.specs.Labels.{apart, mergeAll}
 use Rattle.rules.specs.Forest.{forest, labelsAt, lowest}
 
--- A graph's bytes, and room for each vertex.
-pub record RootsAsked (b roots : List ℕ) : Type 0 where
-  pub graph : IsGraph b
-  pub room : graphOf b .vertices ≤ length roots
+-- A valid graph, and room for each vertex.
+pub record RootsAsked (g : Graph) (roots : List ℕ) : Type 0 where
+  pub valid : Valid g
+  pub room : g .vertices ≤ length roots
 
 -- The lowest vertex of each component that the edges make was written, rising. Where the edges are the forest at a limit, these are the
 -- components there, each "rooted at its lowest stop".

@@ -44,7 +44,7 @@ fn merge_edge(
     total: &mut [u64],
     until: &mut [u16],
 )
-    requires { ⌜ EdgeAsked (now b) e number (now label) (now made) (now total) (now until) ⌝ }
+    requires { ⌜ EdgeAsked (graphOf (now b)) e number (now label) (now made) (now total) (now until) ⌝ }
     ensures { λ _. ⌜ EdgeMerged (graphOf (now (b .entry))) e number (now (label .entry)) (now (label .exit)) (now (made .entry)) (now (made .exit))
         (now (total .entry)) (now (total .exit)) (now (until .entry)) (now (until .exit)) ⌝ }
 {
@@ -63,7 +63,7 @@ fn merge_all(
     total: &mut [u64],
     until: &mut [u16],
 )
-    requires { ⌜ MergesAsked (now b) (now kept) (now label) (now made) (now total) (now until) ⌝ }
+    requires { ⌜ MergesAsked (graphOf (now b)) (now kept) (now label) (now made) (now total) (now until) ⌝ }
     ensures { λ _. ⌜ HistoryWritten (graphOf (now (b .entry))) (now (kept .entry)) (now (total .entry)) (now (total .exit)) (now (until .entry)) (now (until .exit)) ⌝ }
 {
     let mut i = 0;
@@ -75,7 +75,7 @@ fn merge_all(
 
 // The history of the whole forest, where no vertex is a root.
 pub fn record_merges(b: &[u8], kept: &[u16], total: &mut [u64], until: &mut [u16])
-    requires { ⌜ HistoryAsked (now b) (now kept) (now total) (now until) ⌝ }
+    requires { ⌜ HistoryAsked (graphOf (now b)) (now kept) (now total) (now until) ⌝ }
     ensures { λ _. ⌜ HistoryWritten (graphOf (now (b .entry))) (now (kept .entry)) (now (total .entry)) (now (total .exit)) (now (until .entry)) (now (until .exit)) ⌝ }
 {
     let mut label = [0u16; 256];

@@ -7,7 +7,6 @@ use lib.ListN.{length, take}
 use Rattle.lists.specs.Member.{_∈_}
 use Rattle.lists.specs.Put.{PutTo, OnlyFirst}
 use Rattle.graph.specs.Graph.{Graph}
-use Rattle.graph.specs.Bytes.{graphOf}
 use Rattle.rules.specs.Order.{ordered}
 use Rattle.rules.specs.Labels.{Labels, together, mergeAll}
 use Rattle.rules.specs.Forest.{keep, forest, unjoined}
@@ -26,11 +25,11 @@ pub record EdgesLabelled (g : Graph) (roots edges before after : List ℕ) : Typ
   pub labels : Agrees (g .vertices) after (mergeAll g (together roots) edges)
   pub rest : OnlyFirst (g .vertices) before after
 
--- What the search for a vertex joined to no root asks: a graph's bytes with a place for each vertex's label, and roots among the vertices.
-pub record StopAsked (b roots label : List ℕ) : Type 0 where
-  pub labelable : Labelable b label
+-- What the search for a vertex joined to no root asks: a valid graph with a place for each vertex's label, and roots among the vertices.
+pub record StopAsked (g : Graph) (roots label : List ℕ) : Type 0 where
+  pub labelable : Labelable g label
   pub roots-some : 0 < length roots
-  pub roots-inside : (r : ℕ) → r ∈ roots → r < graphOf b .vertices
+  pub roots-inside : (r : ℕ) → r ∈ roots → r < g .vertices
 
 -- The answer is "stop v", the lowest vertex that the edges join to no root.
 pub record StopFound (g : Graph) (roots edges before after : List ℕ) (r : Found) : Type 0 where
@@ -38,9 +37,9 @@ pub record StopFound (g : Graph) (roots edges before after : List ℕ) (r : Foun
   pub rest : OnlyFirst (g .vertices) before after
 
 -- What the whole forest asks: all edges in order, and room for labels and for the edges kept.
-pub record WholeAsked (b order label kept : List ℕ) : Type 0 where
-  pub keepable : Keepable b label kept
-  pub in-order : order ≡ ordered (graphOf b)
+pub record WholeAsked (g : Graph) (order label kept : List ℕ) : Type 0 where
+  pub keepable : Keepable g label kept
+  pub in-order : order ≡ ordered g
 
 -- The whole forest was written, r edges by weight, and its labels stand in the array. Elements past the vertices and past the edges written
 -- are as they came.

@@ -8,7 +8,7 @@ ghost use Rattle.pieces.specs.Arcs.{ArcsAsked};
 
 // The arcs around each vertex over the edges, by rising number.
 pub fn put_arcs(b: &[u8], edges: &[u16], bounds: &mut [u16], arcs: &mut [u64])
-    requires { ⌜ ArcsAsked (now b) (now edges) (now bounds) (now arcs) ⌝ }
+    requires { ⌜ ArcsAsked (graphOf (now b)) (now edges) (now bounds) (now arcs) ⌝ }
     ensures { λ _. ⌜ AroundPut (graphOf (now (b .entry))) (rise (now (edges .entry))) (now (bounds .entry)) (now (bounds .exit)) (now (arcs .entry)) (now (arcs .exit)) ⌝ }
 {
     let mut rising = [0u16; 256];

@@ -13,7 +13,7 @@ ghost use Rattle.pieces.specs.Whole.{AllJoined, EdgesLabelled, StopAsked
 
 // Joins the ends of each edge, one edge after the other, from the labels given.
 fn join_all(b: &[u8], edges: &[u16], label: &mut [u16])
-    requires { ⌜ Labelable (now b) (now label) ⌝ }
+    requires { ⌜ Labelable (graphOf (now b)) (now label) ⌝ }
     ensures { λ _. ⌜ AllJoined (graphOf (now (b .entry))) (now (edges .entry)) (now (label .entry)) (now (label .exit)) ⌝ }
 {
     let mut i = 0;
@@ -25,7 +25,7 @@ fn join_all(b: &[u8], edges: &[u16], label: &mut [u16])
 
 // The labels that the edges make, where all roots ("yards") are joined from the start.
 pub fn label_edges(b: &[u8], roots: &[u16], edges: &[u16], label: &mut [u16])
-    requires { ⌜ Labelable (now b) (now label) ⌝ }
+    requires { ⌜ Labelable (graphOf (now b)) (now label) ⌝ }
     ensures { λ _. ⌜ EdgesLabelled (graphOf (now (b .entry))) (now (roots .entry)) (now (edges .entry)) (now (label .entry)) (now (label .exit)) ⌝ }
 {
     start_labels(roots, graph::vertex_count(b), label);
@@ -34,7 +34,7 @@ pub fn label_edges(b: &[u8], roots: &[u16], edges: &[u16], label: &mut [u16])
 
 // The lowest vertex that the edges join to no root ("stop v"), if there is one. The labels are scratch.
 pub fn stop_at(b: &[u8], roots: &[u16], edges: &[u16], label: &mut [u16]) -> Found
-    requires { ⌜ StopAsked (now b) (now roots) (now label) ⌝ }
+    requires { ⌜ StopAsked (graphOf (now b)) (now roots) (now label) ⌝ }
     ensures { λ r. ⌜ StopFound (graphOf (now (b .entry))) (now (roots .entry)) (now (edges .entry)) (now (label .entry)) (now (label .exit)) r ⌝ }
 {
     label_edges(b, roots, edges, label);
@@ -49,7 +49,7 @@ pub fn keep_whole(
     label: &mut [u16],
     kept: &mut [u16],
 ) -> usize
-    requires { ⌜ WholeAsked (now b) (now order) (now label) (now kept) ⌝ }
+    requires { ⌜ WholeAsked (graphOf (now b)) (now order) (now label) (now kept) ⌝ }
     ensures { λ r. ⌜ WholeForest (graphOf (now (b .entry))) (now (roots .entry)) (now (label .entry)) (now (label .exit)) (now (kept .entry)) (now (kept .exit)) r ⌝ }
 {
     start_labels(roots, graph::vertex_count(b), label);

@@ -3,7 +3,8 @@
 use Prim.Native.Nat.{ℕ}
 use mathlib.Core.Path.{_≡_}
 use mathlib.Core.List.{List}
-use Rattle.graph.specs.Valid.{IsGraph}
+use Rattle.graph.specs.Graph.{Graph}
+use Rattle.graph.specs.Valid.{Valid}
 use Rattle.rules.specs.Cover as cover
 use Rattle.cover.specs.declared.crews.Kind.{Kind}
 use Rattle.cover.specs.declared.crews.Kind.the-variants.{Rooted, Unrooted}
@@ -17,7 +18,7 @@ crewsWith Unrooted k roots = cover.unrooted k
 
 -- What crews read at every limit, each kind its own: with roots the whole forest and the distances; without roots the whole forest and the history
 -- of its merges. Of what only the other kind reads nothing is said.
-pub record CrewsReady (kind : Kind) (b roots kept table total until : List ℕ) : Type 0 where
-  pub graph : IsGraph b
-  pub decidable : kind ≡ Rooted → Decidable b roots kept table
-  pub history : kind ≡ Unrooted → HistoryReady b kept total until
+pub record CrewsReady (kind : Kind) (g : Graph) (roots kept table total until : List ℕ) : Type 0 where
+  pub valid : Valid g
+  pub decidable : kind ≡ Rooted → Decidable g roots kept table
+  pub history : kind ≡ Unrooted → HistoryReady g kept total until

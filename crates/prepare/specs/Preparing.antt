@@ -6,7 +6,6 @@ use mathlib.Core.Bool.{Bool, true}
 use mathlib.Core.List.{List}
 use lib.ListN.{length, take}
 use Rattle.graph.specs.Graph.{Graph, edgeCount}
-use Rattle.graph.specs.Bytes.{graphOf}
 use Rattle.rules.specs.Order.{ordered}
 use Rattle.rules.specs.Labels.{together}
 use Rattle.rules.specs.Forest.{keep}
@@ -15,10 +14,10 @@ use Rattle.rooted_state.specs.Prepared.{RootsGiven, Prepared}
 use Rattle.unrooted.specs.Answer.{HistoryReady}
 use Rattle.prepare.specs.declared.Ready.{Ready}
 
--- A graph's bytes, and room for the order of its edges and for its forest.
-pub record ForestAsked (b : List ℕ) (keys spare order kept : ℕ) : Type 0 where
-  pub for-order : RoomForOrder b keys spare order
-  pub kept-room : graphOf b .vertices ≤ kept
+-- A valid graph, and room for the order of its edges and for its forest.
+pub record ForestAsked (g : Graph) (keys spare order kept : ℕ) : Type 0 where
+  pub for-order : RoomForOrder g keys spare order
+  pub kept-room : g .vertices ≤ kept
 
 -- The edges stand in order and the whole forest by weight: they are the first elements of their arrays.
 pub record ForestPrepared (g : Graph) (roots order kept : List ℕ) (r : Ready) : Type 0 where
@@ -53,38 +52,38 @@ pub record RootedRoom (n m k : ℕ) (order kept bounds all arcs table lasts : �
   pub table-room : k * n ≤ table
   pub lasts-room : k * n ≤ lasts
 
--- A graph's bytes, roots among its vertices, and room for its edges by number, their arcs, and the distances from all roots.
-pub record DistancesAsked (b roots : List ℕ) (numbers bounds all table lasts : ℕ) : Type 0 where
-  pub given : RootsGiven b roots
-  pub numbers-room : edgeCount (graphOf b) ≤ numbers
-  pub bounds-room : graphOf b .vertices < bounds
-  pub all-room : 2 * edgeCount (graphOf b) ≤ all
-  pub table-room : length roots * graphOf b .vertices ≤ table
-  pub lasts-room : length roots * graphOf b .vertices ≤ lasts
+-- A valid graph, roots among its vertices, and room for its edges by number, their arcs, and the distances from all roots.
+pub record DistancesAsked (g : Graph) (roots : List ℕ) (numbers bounds all table lasts : ℕ) : Type 0 where
+  pub given : RootsGiven g roots
+  pub numbers-room : edgeCount g ≤ numbers
+  pub bounds-room : g .vertices < bounds
+  pub all-room : 2 * edgeCount g ≤ all
+  pub table-room : length roots * g .vertices ≤ table
+  pub lasts-room : length roots * g .vertices ≤ lasts
 
 -- What preparing asks where the crews have roots.
-pub record RootedPreparable (b roots order kept bounds all arcs table lasts : List ℕ) : Type 0 where
-  pub given : RootsGiven b roots
-  pub room : RootedRoom (graphOf b .vertices) (edgeCount (graphOf b)) (length roots) (length order) (length kept) (length bounds) (length all) (length arcs)
+pub record RootedPreparable (g : Graph) (roots order kept bounds all arcs table lasts : List ℕ) : Type 0 where
+  pub given : RootsGiven g roots
+  pub room : RootedRoom (g .vertices) (edgeCount g) (length roots) (length order) (length kept) (length bounds) (length all) (length arcs)
       (length table) (length lasts)
 
 -- Everything that crews with roots read is prepared.
-pub record RootedPrepared (b roots order kept bounds arcs table lasts : List ℕ) (r : Ready) : Type 0 where
+pub record RootedPrepared (g : Graph) (roots order kept bounds arcs table lasts : List ℕ) (r : Ready) : Type 0 where
   pub edges-room : r .edges ≤ length order
   pub forest-room : r .forest ≤ length kept
-  pub prepared : Prepared b roots (take (r .edges) order) (take (r .forest) kept) bounds arcs table lasts
+  pub prepared : Prepared g roots (take (r .edges) order) (take (r .forest) kept) bounds arcs table lasts
 
 -- WITHOUT ROOTS
 
--- A graph's bytes, and room for the order and the forest of it, and for the history of its merges.
-pub record UnrootedPreparable (b keys spare order kept total until : List ℕ) : Type 0 where
-  pub for-forest : ForestAsked b (length keys) (length spare) (length order) (length kept)
+-- A valid graph, and room for the order and the forest of it, and for the history of its merges.
+pub record UnrootedPreparable (g : Graph) (keys spare order kept total until : List ℕ) : Type 0 where
+  pub for-forest : ForestAsked g (length keys) (length spare) (length order) (length kept)
   pub total-room : 256 ≤ length total
   pub until-room : 256 ≤ length until
 
 -- Everything that crews without roots read is prepared.
-pub record UnrootedPrepared (b order kept total until : List ℕ) (r : Ready) : Type 0 where
+pub record UnrootedPrepared (g : Graph) (order kept total until : List ℕ) (r : Ready) : Type 0 where
   pub edges-room : r .edges ≤ length order
   pub forest-room : r .forest ≤ length kept
-  pub in-order : take (r .edges) order ≡ ordered (graphOf b)
-  pub history : HistoryReady b (take (r .forest) kept) total until
+  pub in-order : take (r .edges) order ≡ ordered g
+  pub history : HistoryReady g (take (r .forest) kept) total until

@@ -29,7 +29,7 @@ fn keep_forest(
     order: &mut [u16],
     kept: &mut [u16],
 ) -> Ready
-    requires { ⌜ ForestAsked (now b) (length (now keys)) (length (now spare)) (length (now order)) (length (now kept)) ⌝ }
+    requires { ⌜ ForestAsked (graphOf (now b)) (length (now keys)) (length (now spare)) (length (now order)) (length (now kept)) ⌝ }
     ensures { λ r. ⌜ ForestPrepared (graphOf (now (b .entry))) (now (roots .entry)) (now (order .exit)) (now (kept .exit)) r ⌝ }
 {
     let mut label = [0u16; 256];
@@ -49,7 +49,7 @@ fn prepare_distances(
     table: &mut [u32],
     lasts: &mut [u32],
 )
-    requires { ⌜ DistancesAsked (now b) (now roots) (length (now numbers)) (length (now bounds)) (length (now all)) (length (now table)) (length (now lasts)) ⌝ }
+    requires { ⌜ DistancesAsked (graphOf (now b)) (now roots) (length (now numbers)) (length (now bounds)) (length (now all)) (length (now table)) (length (now lasts)) ⌝ }
     ensures { λ _. ⌜ Tabled (graphOf (now (b .entry))) (now (roots .entry)) (now (table .exit)) (now (lasts .exit)) ⌝ }
 {
     let m = graph::edge_count(b);
@@ -72,8 +72,8 @@ pub fn prepare_rooted(
     table: &mut [u32],
     lasts: &mut [u32],
 ) -> Ready
-    requires { ⌜ RootedPreparable (now b) (now roots) (now order) (now kept) (now bounds) (now all) (now arcs) (now table) (now lasts) ⌝ }
-    ensures { λ r. ⌜ RootedPrepared (now (b .entry)) (now (roots .entry)) (now (order .exit)) (now (kept .exit)) (now (bounds .exit)) (now (arcs .exit))
+    requires { ⌜ RootedPreparable (graphOf (now b)) (now roots) (now order) (now kept) (now bounds) (now all) (now arcs) (now table) (now lasts) ⌝ }
+    ensures { λ r. ⌜ RootedPrepared (graphOf (now (b .entry))) (now (roots .entry)) (now (order .exit)) (now (kept .exit)) (now (bounds .exit)) (now (arcs .exit))
         (now (table .exit)) (now (lasts .exit)) r ⌝ }
 {
     prepare_distances(b, roots, order, bounds, all, table, lasts);
@@ -92,8 +92,8 @@ pub fn prepare_unrooted(
     total: &mut [u64],
     until: &mut [u16],
 ) -> Ready
-    requires { ⌜ UnrootedPreparable (now b) (now keys) (now spare) (now order) (now kept) (now total) (now until) ⌝ }
-    ensures { λ r. ⌜ UnrootedPrepared (now (b .entry)) (now (order .exit)) (now (kept .exit)) (now (total .exit)) (now (until .exit)) r ⌝ }
+    requires { ⌜ UnrootedPreparable (graphOf (now b)) (now keys) (now spare) (now order) (now kept) (now total) (now until) ⌝ }
+    ensures { λ r. ⌜ UnrootedPrepared (graphOf (now (b .entry))) (now (order .exit)) (now (kept .exit)) (now (total .exit)) (now (until .exit)) r ⌝ }
 {
     let ready = keep_forest(b, &[], keys, spare, order, kept);
     record_merges(b, &kept[..ready.forest], total, until);

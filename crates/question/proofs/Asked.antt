@@ -73,7 +73,7 @@ sheet-is input = take-all (length input - 8) (drop 8 input) (omega (arith, lengt
 -- The text of a known question's reply, by the values that were read.
 pub known-answered : {input b buf after-buf before after : List ℕ} {asked k limit r : ℕ} {reply : Reply} → unknown input ≡ false → length buf ≡ 32708
     → asked ≡ askedIn input → k ≡ crewCountIn input → limit ≡ limitIn input → b ≡ sheetIn input
-    → SheetAnswered asked k limit b buf after-buf reply → TextWritten b reply after-buf before after r → TextAnswered input before after r
+    → SheetAnswered asked k limit b buf after-buf reply → TextWritten (graphOf b) reply after-buf before after r → TextAnswered input before after r
 known-answered {input} {b} {buf} {asked = asked} {k = k} {limit = limit} q full a c l is s w =
     let same : askRounds input (s .choices) ≡ askSheet asked k limit b (length buf) (s .choices)
     = known-reply input (s .choices) q ∙ sym (rw (a, c, l, is, full)) in

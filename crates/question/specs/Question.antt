@@ -44,7 +44,7 @@ pub record SheetAnswered (asked k limit : ℕ) (b before after : List ℕ) (r : 
   pub good : Unrefused (askSheet asked k limit b (length before) choices) → GoodFor (graphOf b) (crewsAsked asked k) (limitAsked asked k limit b) choices
   pub means : Unrefused (askSheet asked k limit b (length before) choices) → MeansAsked asked k limit b (askSheet asked k limit b (length before) choices)
   pub replied : Replied (askSheet asked k limit b (length before) choices) before after r
-  pub printable : Printable b (askSheet asked k limit b (length before) choices)
+  pub printable : Printable (graphOf b) (askSheet asked k limit b (length before) choices)
 
 -- The text of the rules' reply to the program's question, by such choices; and the reply means what it says.
 pub record TextAnswered (input before after : List ℕ) (r : ℕ) : Type 0 where

@@ -12,7 +12,7 @@ use Rattle.lists.specs.Member.{_∈_}
 use Rattle.lists.proofs.Bounds.{sum-most}
 use Rattle.lists.proofs.SumsAlike.{length-flat-map}
 use Rattle.graph.specs.Graph.{Graph, edgeCount, weightOf}
-use Rattle.graph.specs.Bytes.{u16At, graphOf}
+use Rattle.graph.specs.Bytes.{u16At}
 use Rattle.graph.specs.Valid.{Valid}
 use Rattle.rules.specs.Walk.{totalWeight}
 use Rattle.rules.specs.Cover.{Tree, IsTree, treeWeight}
@@ -73,19 +73,16 @@ module _ (g : Graph) (valid : Valid g) (t : Tree) (is : IsTree g t) where
         length-append (allSpaced (t .edges)) (bytesOf "\n"),
       ))
 
-module _ (b : List ℕ) {trees : List Tree} (k : CoverOf b trees) where
-  abbrev g : Graph
-  g = graphOf b
-
+module _ (g : Graph) {trees : List Tree} (k : CoverOf g trees) where
   bytes : Bytes (encode trees)
   bytes = rw (encode-fields trees) (fields-bytes (fields trees))
 
   passed : Passed g (k .crews) (encode trees)
-  passed = quiet-passed g (k .crews) (encode trees) (checked-covers g (k .graph .valid) (k .crews) (k .sound) (encode trees) bytes .1 (trees, k .cover, refl))
+  passed = quiet-passed g (k .crews) (encode trees) (checked-covers g (k .valid) (k .crews) (k .sound) (encode trees) bytes .1 (trees, k .cover, refl))
 
   -- The cover's bytes are read as its trees, and their entries pass the test.
   pub trees-again : decode (encode trees) ≡ trees
-  trees-again = cover-read g (k .graph .valid) (k .crews) (k .sound) trees (k .cover)
+  trees-again = cover-read g (k .valid) (k .crews) (k .sound) trees (k .cover)
 
   pub entries-right : entriesRight (edgeCount g) (encode trees) ≡ true
   entries-right = passed .entries
@@ -96,9 +93,9 @@ module _ (b : List ℕ) {trees : List Tree} (k : CoverOf b trees) where
   lines-room =
       omega (
         arith,
-        cover-few g (k .graph .valid) (k .crews) (k .sound) trees (k .cover),
+        cover-few g (k .valid) (k .crews) (k .sound) trees (k .cover),
         length-flat-map (treeLine g) trees,
-        sum-most (λ t. length (treeLine g t)) 1322 trees (λ t m. tree-few g (k .graph .valid) t (k .cover .all-covered .are-trees t m)),
+        sum-most (λ t. length (treeLine g t)) 1322 trees (λ t m. tree-few g (k .valid) t (k .cover .all-covered .are-trees t m)),
       )
 
   -- Where its bytes are the first of the buffer, the buffer's counts say where they end.

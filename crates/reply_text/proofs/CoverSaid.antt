@@ -6,7 +6,7 @@ use mathlib.Core.List.{List, [], _∷_, _++_}
 use native.Mathlib.Omega.{arith}
 use lib.ListN.{length, take, drop}
 use Rattle.lists.specs.Put.{PutTo}
-use Rattle.graph.specs.Bytes.{graphOf}
+use Rattle.graph.specs.Graph.{Graph}
 use Rattle.rules.specs.CoverBytes.{coverLength, encode, decode}
 use Rattle.rules.specs.Questions.{written, bufferAfter}
 use Rattle.rules.specs.Reply as rules
@@ -21,8 +21,8 @@ use Rattle.reply_text.proofs.CoverRead.{trees-again, entries-right, lin
 use Rattle.reply_text.proofs.SaidText.{textSaid, treesOf, said-text}
 
 -- The rules' reply accepts a cover, whose bytes are the first of the buffer.
-record Accepted (b : List ℕ) (ruled : rules.Reply) (buf : List ℕ) : Type 0 where
-  cover : CoverOf b (treesOf ruled)
+record Accepted (g : Graph) (ruled : rules.Reply) (buf : List ℕ) : Type 0 where
+  cover : CoverOf g (treesOf ruled)
   rest : List ℕ
   first : buf ≡ encode (treesOf ruled) ++ rest
 
@@ -33,48 +33,48 @@ other-number q other = other (ap (λ (s : Said). s .number) q)
 no-values : {m n v : ℕ} {vs : List ℕ} → said m (v ∷ vs) ≡ said n [] → ⊥
 no-values {v = v} {vs = vs} q = let e : v ∷ vs ≡ [] = ap (λ (s : Said). s .values) q in let z : _≡_ {A = ℕ} 0 1 = cc in omega arith
 
-accepted : (b : List ℕ) (ruled : rules.Reply) (earlier : List ℕ) {buf : List ℕ} {limit heaviest t : ℕ}
-    → said 0 (limit ∷ heaviest ∷ t ∷ []) ≡ saidOf ruled → buf ≡ bufferAfter ruled earlier → Printable b ruled → Accepted b ruled buf
+accepted : (g : Graph) (ruled : rules.Reply) (earlier : List ℕ) {buf : List ℕ} {limit heaviest t : ℕ}
+    → said 0 (limit ∷ heaviest ∷ t ∷ []) ≡ saidOf ruled → buf ≡ bufferAfter ruled earlier → Printable g ruled → Accepted g ruled buf
 unfolding treesOf bufferAfter written
-accepted b (rules.covered limit heaviest trees) earlier q e p =
+accepted g (rules.covered limit heaviest trees) earlier q e p =
     record { cover = p .cover limit heaviest trees refl; rest = drop (length (encode trees)) earlier; first = e }
-accepted b (rules.refused number) earlier q e p = absurd (no-values q)
-accepted b (rules.too-low-stop v) earlier q e p = absurd (other-number q (λ z. omega arith))
-accepted b (rules.too-low-parts T D parts) earlier q e p = absurd (other-number q (λ z. omega arith))
-accepted b (rules.too-low-needs C) earlier q e p = absurd (other-number q (λ z. omega arith))
-accepted b rules.no-cover earlier q e p = absurd (no-values q)
+accepted g (rules.refused number) earlier q e p = absurd (no-values q)
+accepted g (rules.too-low-stop v) earlier q e p = absurd (other-number q (λ z. omega arith))
+accepted g (rules.too-low-parts T D parts) earlier q e p = absurd (other-number q (λ z. omega arith))
+accepted g (rules.too-low-needs C) earlier q e p = absurd (other-number q (λ z. omega arith))
+accepted g rules.no-cover earlier q e p = absurd (no-values q)
 
-module _ {b buf : List ℕ} {reply : Reply} {limit heaviest t end : ℕ} (q : reply ≡ Cover limit heaviest t) (ends : end ≡ coverLength buf) where
-  module _ {ruled : rules.Reply} {earlier : List ℕ} (e : Replied ruled earlier buf reply) (p : Printable b ruled) where
-    here : Accepted b ruled buf
-    here = accepted b ruled earlier (sym (ap says q) ∙ e .same) (e .buffer) p
+module _ {g : Graph} {buf : List ℕ} {reply : Reply} {limit heaviest t end : ℕ} (q : reply ≡ Cover limit heaviest t) (ends : end ≡ coverLength buf) where
+  module _ {ruled : rules.Reply} {earlier : List ℕ} (e : Replied ruled earlier buf reply) (p : Printable g ruled) where
+    here : Accepted g ruled buf
+    here = accepted g ruled earlier (sym (ap says q) ∙ e .same) (e .buffer) p
 
     front : take end buf ≡ encode (treesOf ruled)
-    front = ap (λ n. take n buf) ends ∙ cover-front b (here .cover) buf (here .rest) (here .first)
+    front = ap (λ n. take n buf) ends ∙ cover-front g (here .cover) buf (here .rest) (here .first)
 
     end-is : end ≡ length (take end buf)
-    end-is = ends ∙ cover-end b (here .cover) buf (here .rest) (here .first) ∙ sym (ap length front)
+    end-is = ends ∙ cover-end g (here .cover) buf (here .rest) (here .first) ∙ sym (ap length front)
 
-    asked-here : {room : ℕ} → 65536 ≤ room → TreesAsked b (take end buf) 69 room
+    asked-here : {room : ℕ} → 65536 ≤ room → TreesAsked g (take end buf) 69 room
     asked-here enough =
         record {
-          entries = rw front (entries-right b (here .cover));
-          fits = rw (front, trees-again b (here .cover)) (omega (arith, lines-room b (here .cover)));
+          entries = rw front (entries-right g (here .cover));
+          fits = rw (front, trees-again g (here .cover)) (omega (arith, lines-room g (here .cover)));
         }
 
-    text-here : textOf (graphOf b) ruled ≡ coverText b limit heaviest t (take end buf)
+    text-here : textOf g ruled ≡ coverText g limit heaviest t (take end buf)
     unfolding coverText textSaid
     text-here =
-        said-text b e p
-        ∙ ap (λ x. textSaid (graphOf b) (treesOf ruled) (says x)) q
-        ∙ ap (λ l. line "cover" (limit ∷ heaviest ∷ t ∷ []) ++ treeLines (graphOf b) l) (sym (ap decode front ∙ trees-again b (here .cover)))
+        said-text g e p
+        ∙ ap (λ x. textSaid g (treesOf ruled) (says x)) q
+        ∙ ap (λ l. line "cover" (limit ∷ heaviest ∷ t ∷ []) ++ treeLines g l) (sym (ap decode front ∙ trees-again g (here .cover)))
 
   -- So the cover's bytes end inside the buffer, and its text may be written; once it is, the reply's text is written.
-  pub cover-inside : {room : ℕ} → TextAsked b reply buf room → end ≡ length (take end buf)
+  pub cover-inside : {room : ℕ} → TextAsked g reply buf room → end ≡ length (take end buf)
   cover-inside a = end-is (a .replied) (a .printable)
 
-  pub cover-asked : {room : ℕ} → TextAsked b reply buf room → TreesAsked b (take end buf) 69 room
+  pub cover-asked : {room : ℕ} → TextAsked g reply buf room → TreesAsked g (take end buf) 69 room
   cover-asked a = asked-here (a .replied) (a .printable) (a .enough)
 
-  pub cover-written : {before after : List ℕ} {r : ℕ} → PutTo 0 (coverText b limit heaviest t (take end buf)) before after r → TextWritten b reply buf before after r
+  pub cover-written : {before after : List ℕ} {r : ℕ} → PutTo 0 (coverText g limit heaviest t (take end buf)) before after r → TextWritten g reply buf before after r
   cover-written p = record { text = λ ruled earlier e h. rw (text-here e h) p }

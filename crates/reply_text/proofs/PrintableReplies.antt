@@ -6,11 +6,11 @@ use mathlib.Core.Bool.{Bool, true, false}
 use mathlib.Core.List.{List, [], _∷_, map, List·Memᴰ·head, List·Memᴰ·tail}
 use mathlib.Core.Option.{some, none, Option·none-ne-some}
 use native.Mathlib.Omega.{arith}
-use Rattle.graph.specs.Graph.{Edge}
+use Rattle.graph.specs.Graph.{Graph, Edge}
 use Rattle.graph.specs.Bytes.{graphOf}
 use Rattle.graph.specs.Fault.{Fault, faultIf, firstFault, refusedOr}
 use Rattle.graph_check.specs.Check.{yes, number, edgeFault, edgesFault, headFault, checkOf}
-use Rattle.graph.specs.Valid.{IsGraph}
+use Rattle.graph.specs.Valid.{Valid}
 use Rattle.graph.proofs.Faults.{quiet-each}
 use Rattle.rules.specs.Cover.{Crews}
 use Rattle.rules.specs.Reply.{Reply, refused}
@@ -82,54 +82,54 @@ best-numbered b crews room =
     first-next _ _ (sheet-numbered b) (first-next _ _ (if-numbered _ 21 (omega arith)) (first-next _ _ (if-numbered _ 23 (omega arith)) first-none))
 
 -- A refusal can be printed.
-pub refusal-printable : (b : List ℕ) (k : ℕ) → 11 ≤ k → Printable b (refused k)
-refusal-printable b k h =
+pub refusal-printable : (g : Graph) (k : ℕ) → 11 ≤ k → Printable g (refused k)
+refusal-printable g k h =
     record {
       refusal = λ n q. let e : k ≡ n = cc in omega arith;
       cover = λ limit heaviest trees q. let z : _≡_ {A = ℕ} 0 1 = cc in absurd (omega arith);
     }
 
 -- So can an answer that means what the rules say: it is no refusal, and what it accepts is a cover.
-module _ (b : List ℕ) (graph : IsGraph b) (crews : Crews) (sound : crewFault crews (graphOf b .vertices) ≡ none) (ruled : Reply) where
-  pub trial-printable : (limit : ℕ) → TrialMeans (graphOf b) crews limit ruled → Printable b ruled
+module _ (g : Graph) (valid : Valid g) (crews : Crews) (sound : crewFault crews (g .vertices) ≡ none) (ruled : Reply) where
+  pub trial-printable : (limit : ℕ) → TrialMeans g crews limit ruled → Printable g ruled
   trial-printable limit means =
       record {
-        refusal = λ n q. absurd (subst (TrialMeans (graphOf b) crews limit) q means);
+        refusal = λ n q. absurd (subst (TrialMeans g crews limit) q means);
         cover = λ l h trees q. record {
-          graph = graph;
+          valid = valid;
           crews = crews;
           sound = sound;
-          cover = subst (TrialMeans (graphOf b) crews limit) q means .carries .cover;
+          cover = subst (TrialMeans g crews limit) q means .carries .cover;
         };
       }
 
-  pub best-printable : BestMeans (graphOf b) crews ruled → Printable b ruled
+  pub best-printable : BestMeans g crews ruled → Printable g ruled
   best-printable means =
       record {
-        refusal = λ n q. absurd (subst (BestMeans (graphOf b) crews) q means);
-        cover = λ l h trees q. record { graph = graph; crews = crews; sound = sound; cover = subst (BestMeans (graphOf b) crews) q means .carries .cover };
+        refusal = λ n q. absurd (subst (BestMeans g crews) q means);
+        cover = λ l h trees q. record { valid = valid; crews = crews; sound = sound; cover = subst (BestMeans g crews) q means .carries .cover };
       }
 
 -- So can the answers of the questions, refused or not.
-ask-printable : (b : List ℕ) (f : Fault) (answer : Reply) → Numbered f → (f ≡ none → Printable b answer) → Printable b (refusedOr refused f answer)
+ask-printable : (g : Graph) (f : Fault) (answer : Reply) → Numbered f → (f ≡ none → Printable g answer) → Printable g (refusedOr refused f answer)
 unfolding refusedOr
-ask-printable b (some k) answer h else = refusal-printable b k (h k refl)
-ask-printable b none answer h else = else refl
+ask-printable g (some k) answer h else = refusal-printable g k (h k refl)
+ask-printable g none answer h else = else refl
 
 module _ (b : List ℕ) (crews : Crews) (room : ℕ) (c : Choices) where
   pub ask-trial-printable : (limit : ℕ) → (trialFault b crews limit room ≡ none → TrialMeans (graphOf b) crews limit (trial (graphOf b) crews limit c))
-      → Printable b (askTrial b crews limit room c)
+      → Printable (graphOf b) (askTrial b crews limit room c)
   unfolding askTrial trialFault
   ask-trial-printable limit means =
-      ask-printable b (trialFault b crews limit room) (trial (graphOf b) crews limit c) (trial-numbered b crews limit room)
+      ask-printable (graphOf b) (trialFault b crews limit room) (trial (graphOf b) crews limit c) (trial-numbered b crews limit room)
       (λ q.
-      trial-printable b (sheet-right b .0 (quiet-each _ q (List·Memᴰ·head refl))) crews (quiet-each _ q (List·Memᴰ·tail (List·Memᴰ·head refl)))
+      trial-printable (graphOf b) (sheet-right b .0 (quiet-each _ q (List·Memᴰ·head refl)) .valid) crews (quiet-each _ q (List·Memᴰ·tail (List·Memᴰ·head refl)))
       (trial (graphOf b) crews limit c) limit (means q))
 
-  pub ask-best-printable : (bestFault b crews room ≡ none → BestMeans (graphOf b) crews (best (graphOf b) crews c)) → Printable b (askBest b crews room c)
+  pub ask-best-printable : (bestFault b crews room ≡ none → BestMeans (graphOf b) crews (best (graphOf b) crews c)) → Printable (graphOf b) (askBest b crews room c)
   unfolding askBest bestFault
   ask-best-printable means =
-      ask-printable b (bestFault b crews room) (best (graphOf b) crews c) (best-numbered b crews room)
+      ask-printable (graphOf b) (bestFault b crews room) (best (graphOf b) crews c) (best-numbered b crews room)
       (λ q.
-      best-printable b (sheet-right b .0 (quiet-each _ q (List·Memᴰ·head refl))) crews (quiet-each _ q (List·Memᴰ·tail (List·Memᴰ·head refl)))
+      best-printable (graphOf b) (sheet-right b .0 (quiet-each _ q (List·Memᴰ·head refl)) .valid) crews (quiet-each _ q (List·Memᴰ·tail (List·Memᴰ·head refl)))
       (best (graphOf b) crews c) (means q))

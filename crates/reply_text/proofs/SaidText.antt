@@ -9,7 +9,6 @@ use lib.ListN.{drop, getD}
 use borrow.Author.Tests.{le-leb}
 use Rattle.lists.specs.Put.{PutTo}
 use Rattle.graph.specs.Graph.{Graph}
-use Rattle.graph.specs.Bytes.{graphOf}
 use Rattle.graph_check.specs.Check.{numberOf}
 use Rattle.graph_check.specs.declared.Cause.{Cause}
 use Rattle.graph_check.specs.declared.Cause.the-variants as cause
@@ -50,15 +49,15 @@ ruled-text g (rules.too-low-needs C) least = refl
 ruled-text g rules.no-cover least = refl
 
 -- So it is that of the program's reply.
-pub said-text : (b : List ℕ) {ruled : rules.Reply} {earlier buf : List ℕ} {reply : Reply} → Replied ruled earlier buf reply → Printable b ruled
-    → textOf (graphOf b) ruled ≡ textSaid (graphOf b) (treesOf ruled) (says reply)
-said-text b {ruled} q p = ruled-text (graphOf b) ruled (p .refusal) ∙ ap (textSaid (graphOf b) (treesOf ruled)) (sym (q .same))
+pub said-text : (g : Graph) {ruled : rules.Reply} {earlier buf : List ℕ} {reply : Reply} → Replied ruled earlier buf reply → Printable g ruled
+    → textOf g ruled ≡ textSaid g (treesOf ruled) (says reply)
+said-text g {ruled} q p = ruled-text g ruled (p .refusal) ∙ ap (textSaid g (treesOf ruled)) (sym (q .same))
 
 -- Where the reply's text does not depend on the trees, and that text was written.
-pub reply-written : (b : List ℕ) {buf before after xs : List ℕ} {reply x : Reply} {r : ℕ} → reply ≡ x
-    → ((trees : List Tree) → textSaid (graphOf b) trees (says x) ≡ xs) → PutTo 0 xs before after r → TextWritten b reply buf before after r
-reply-written b q text p =
-    record { text = λ ruled earlier e h. rw (said-text b e h ∙ ap (λ y. textSaid (graphOf b) (treesOf ruled) (says y)) q ∙ text (treesOf ruled)) p }
+pub reply-written : (g : Graph) {buf before after xs : List ℕ} {reply x : Reply} {r : ℕ} → reply ≡ x
+    → ((trees : List Tree) → textSaid g trees (says x) ≡ xs) → PutTo 0 xs before after r → TextWritten g reply buf before after r
+reply-written g q text p =
+    record { text = λ ruled earlier e h. rw (said-text g e h ∙ ap (λ y. textSaid g (treesOf ruled) (says y)) q ∙ text (treesOf ruled)) p }
 
 -- The number of a fault in the graph's bytes is a refusal's.
 pub fault-refused : (g : Graph) (trees : List Tree) (f : Cause) → textSaid g trees (said (numberOf f) []) ≡ textOf g (rules.refused (numberOf f))

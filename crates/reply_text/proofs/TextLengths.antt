@@ -5,7 +5,7 @@ use mathlib.Core.Path.{_≡_, ap, _∙_}
 use mathlib.Core.List.{List, [], _∷_, _++_, append-assoc}
 use native.Mathlib.Omega.{arith}
 use lib.ListN.{length, length-append}
-use Rattle.graph.specs.Bytes.{graphOf}
+use Rattle.graph.specs.Graph.{Graph}
 use Rattle.rules.specs.CoverBytes.{decode}
 use Rattle.reply_text.specs.Lines.{bytesOf, spaced, ended, line}
 use Rattle.reply_text.specs.Text.{treeLines}
@@ -36,9 +36,9 @@ module _ (parts roots : ℕ) where
   parts-room p r room = omega (arith, spaced-few parts p, last-few roots r, length-append (spaced parts) fromYards)
 
 -- The parts of a cover's text: from the heaviest weight on, and from the limit on.
-module _ (b : List ℕ) (limit heaviest t : ℕ) (c : List ℕ) where
+module _ (g : Graph) (limit heaviest t : ℕ) (c : List ℕ) where
   abbrev pub trees : List ℕ
-  trees = treeLines (graphOf b) (decode c)
+  trees = treeLines g (decode c)
 
   abbrev pub fromCount : List ℕ
   fromCount = ended (t ∷ []) ++ trees
@@ -49,7 +49,7 @@ module _ (b : List ℕ) (limit heaviest t : ℕ) (c : List ℕ) where
   abbrev pub fromLimit : List ℕ
   fromLimit = spaced limit ++ fromHeaviest
 
-  pub cover-parts : coverText b limit heaviest t c ≡ bytesOf "cover" ++ fromLimit
+  pub cover-parts : coverText g limit heaviest t c ≡ bytesOf "cover" ++ fromLimit
   unfolding coverText line
   cover-parts =
       ap (λ l. (bytesOf "cover" ++ l) ++ trees) (ended-next limit (heaviest ∷ t ∷ []) ∙ ap (λ l. spaced limit ++ l) (ended-next heaviest (t ∷ [])))

@@ -6,8 +6,7 @@ use mathlib.Core.List.{List, [], _∷_, _++_}
 use mathlib.Core.Option.{none}
 use Rattle.lists.specs.Put.{PutTo}
 use Rattle.graph.specs.Graph.{Graph}
-use Rattle.graph.specs.Bytes.{graphOf}
-use Rattle.graph.specs.Valid.{IsGraph}
+use Rattle.graph.specs.Valid.{Valid}
 use Rattle.rules.specs.Cover.{Tree, Crews, IsCover}
 use Rattle.rules.specs.CoverBytes.{decode}
 use Rattle.rules.specs.Questions.{crewFault}
@@ -17,34 +16,34 @@ use Rattle.pieces.specs.Replies.{Replied}
 use Rattle.reply_text.specs.Lines.{line}
 use Rattle.reply_text.specs.Text.{treeLines, textOf}
 
--- The trees are a cover of the graph that the bytes spell, by crews of a number that is not refused.
-pub record CoverOf (b : List ℕ) (trees : List Tree) : Type 0 where
-  pub graph : IsGraph b
+-- The trees are a cover of the graph, by crews of a number that is not refused.
+pub record CoverOf (g : Graph) (trees : List Tree) : Type 0 where
+  pub valid : Valid g
   pub crews : Crews
-  pub sound : crewFault crews (graphOf b .vertices) ≡ none
-  pub cover : IsCover (graphOf b) crews trees
+  pub sound : crewFault crews (g .vertices) ≡ none
+  pub cover : IsCover g crews trees
 
 -- What holds of every reply that the rules give to a question: a refusal's number is one of document 01's, which begin at 11, and what is
 -- accepted is a cover.
-pub record Printable (b : List ℕ) (ruled : rules.Reply) : Type 0 where
+pub record Printable (g : Graph) (ruled : rules.Reply) : Type 0 where
   pub refusal : (number : ℕ) → ruled ≡ rules.refused number → 11 ≤ number
-  pub cover : (limit heaviest : ℕ) (trees : List Tree) → ruled ≡ rules.covered limit heaviest trees → CoverOf b trees
+  pub cover : (limit heaviest : ℕ) (trees : List Tree) → ruled ≡ rules.covered limit heaviest trees → CoverOf g trees
 
 -- The reply is that of the rules, the buffer holds what that reply writes, and there is room for any text.
-pub record TextAsked (b : List ℕ) (reply : Reply) (buf : List ℕ) (room : ℕ) : Type 0 where
+pub record TextAsked (g : Graph) (reply : Reply) (buf : List ℕ) (room : ℕ) : Type 0 where
   pub ruled : rules.Reply
   pub earlier : List ℕ
   pub replied : Replied ruled earlier buf reply
-  pub printable : Printable b ruled
+  pub printable : Printable g ruled
   pub enough : 65536 ≤ room
 
 -- Whichever reply of the rules it is: its text was written, r bytes, and all others are as they came.
-pub record TextWritten (b : List ℕ) (reply : Reply) (buf before after : List ℕ) (r : ℕ) : Type 0 where
-  pub text : (ruled : rules.Reply) (earlier : List ℕ) → Replied ruled earlier buf reply → Printable b ruled → PutTo 0 (textOf (graphOf b) ruled) before after r
+pub record TextWritten (g : Graph) (reply : Reply) (buf before after : List ℕ) (r : ℕ) : Type 0 where
+  pub text : (ruled : rules.Reply) (earlier : List ℕ) → Replied ruled earlier buf reply → Printable g ruled → PutTo 0 (textOf g ruled) before after r
 
 -- The text of a cover, from its bytes.
-unfoldable pub coverText : List ℕ → ℕ → ℕ → ℕ → List ℕ → List ℕ
-coverText b limit heaviest t c = line "cover" (limit ∷ heaviest ∷ t ∷ []) ++ treeLines (graphOf b) (decode c)
+unfoldable pub coverText : Graph → ℕ → ℕ → ℕ → List ℕ → List ℕ
+coverText g limit heaviest t c = line "cover" (limit ∷ heaviest ∷ t ∷ []) ++ treeLines g (decode c)
 
 -- A refusal was written, whatever the graph is.
 pub record RefusalWritten (number : ℕ) (before after : List ℕ) (r : ℕ) : Type 0 where

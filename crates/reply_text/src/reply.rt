@@ -10,6 +10,7 @@ ghost use Prim.Native.Nat.{_+_, _≤_};
 ghost use mathlib.Core.List.{[], _∷_, _++_};
 ghost use lib.ListN.{length};
 ghost use Rattle.lists.specs.Put.{PutTo};
+ghost use Rattle.graph.specs.Bytes.{graphOf};
 ghost use Rattle.reply_text.specs.Lines.{bytesOf, spaced, line, ended};
 ghost use Rattle.reply_text.specs.Replies.{TextAsked, TextWritten, coverText, RefusalWritten};
 ghost use Rattle.reply_text.specs.Trees.{TreesAsked};
@@ -42,8 +43,8 @@ fn write_parts(parts: u64, roots: u64, out: &mut [u8]) -> usize
 
 // `cover` limit heaviest t, at most 69 bytes, then the lines of the trees.
 fn write_cover(b: &[u8], limit: u64, heaviest: u64, t: u64, c: &[u8], out: &mut [u8]) -> usize
-    requires { ⌜ TreesAsked (now b) (now c) 69 (length (now out)) ⌝ }
-    ensures { λ r. ⌜ PutTo 0 (coverText (now (b .entry)) limit heaviest t (now (c .entry))) (now (out .entry)) (now (out .exit)) r ⌝ }
+    requires { ⌜ TreesAsked (graphOf (now b)) (now c) 69 (length (now out)) ⌝ }
+    ensures { λ r. ⌜ PutTo 0 (coverText (graphOf (now (b .entry))) limit heaviest t (now (c .entry))) (now (out .entry)) (now (out .exit)) r ⌝ }
 {
     let behind_word = put_word(b"cover", out, 0);
     let behind_limit = put_spaced(limit, out, behind_word);
@@ -54,8 +55,8 @@ fn write_cover(b: &[u8], limit: u64, heaviest: u64, t: u64, c: &[u8], out: &mut 
 
 // The text of a reply, as the first bytes of `out`. Says how many. A cover's trees are read from the buffer.
 pub fn write_reply(b: &[u8], reply: Reply, buf: &[u8], out: &mut [u8]) -> usize
-    requires { ⌜ TextAsked (now b) reply (now buf) (length (now out)) ⌝ }
-    ensures { λ r. ⌜ TextWritten (now (b .entry)) reply (now (buf .entry)) (now (out .entry)) (now (out .exit)) r ⌝ }
+    requires { ⌜ TextAsked (graphOf (now b)) reply (now buf) (length (now out)) ⌝ }
+    ensures { λ r. ⌜ TextWritten (graphOf (now (b .entry))) reply (now (buf .entry)) (now (out .entry)) (now (out .exit)) r ⌝ }
 {
     match reply {
         Reply::Sheet(fault) => {

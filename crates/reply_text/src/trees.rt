@@ -41,7 +41,7 @@ fn put_tree(
     out: &mut [u8],
     at: usize,
 ) -> usize
-    requires { ⌜ TreeTextAsked (now b) (now c) j from to at (length (now out)) ⌝ }
+    requires { ⌜ TreeTextAsked (graphOf (now b)) (now c) j from to at (length (now out)) ⌝ }
     ensures { λ r. ⌜ PutTo at (treeLine (graphOf (now (b .entry))) (runTree (now (c .entry)) j from to)) (now (out .entry)) (now (out .exit)) r ⌝ }
 {
     let weight = run_weight(b, c, from, to);
@@ -54,7 +54,7 @@ fn put_tree(
 
 // The lines of all trees of a cover, from a place on.
 pub(crate) fn put_trees(b: &[u8], c: &[u8], out: &mut [u8], at: usize) -> usize
-    requires { ⌜ TreesAsked (now b) (now c) at (length (now out)) ⌝ }
+    requires { ⌜ TreesAsked (graphOf (now b)) (now c) at (length (now out)) ⌝ }
     ensures { λ r. ⌜ PutTo at (treeLines (graphOf (now (b .entry))) (decode (now (c .entry)))) (now (out .entry)) (now (out .exit)) r ⌝ }
 {
     let t = trees_in(c);

@@ -5,7 +5,7 @@ use Prim.Native.Nat.{ℕ, _*_, _≤_}
 use mathlib.Core.List.{List}
 use native.Mathlib.Omega.{arith}
 use lib.ListN.{length, replicate, length-replicate}
-use Rattle.graph.specs.Bytes.{graphOf}
+use Rattle.graph.specs.Graph.{Graph}
 use Rattle.rooted_state.specs.Prepared.{WholeAround, PartsReady}
 use Rattle.rooted_state.specs.Placed.{PieceArrays, arraysOf}
 use Rattle.rooted_state.proofs.RootsReady.{limit-ready}
@@ -15,11 +15,11 @@ use Rattle.rooted_parts.specs.Parts.{PiecesAsked, PartsAsked}
 abbrev pub emptyArrays : PieceArrays
 emptyArrays = arraysOf (replicate 288 0) (replicate 289 0) (replicate 256 0) (replicate 32 0) (replicate 256 0)
 
-pieces-asked : {b roots : List ℕ} {limit : ℕ} {bounds arcs table : List ℕ} → PartsReady b roots limit table
-    → WholeAround b roots bounds arcs → PiecesAsked b roots limit bounds arcs emptyArrays
+pieces-asked : {g : Graph} {roots : List ℕ} {limit : ℕ} {bounds arcs table : List ℕ} → PartsReady g roots limit table
+    → WholeAround g roots bounds arcs → PiecesAsked g roots limit bounds arcs emptyArrays
 pieces-asked r around =
     let given = r .asked .decidable .given in
-    let most = given .graph .valid .vertices-most in
+    let most = given .valid .vertices-most in
     let few = given .few in
     record {
       given = given;
@@ -32,13 +32,13 @@ pieces-asked r around =
       places-room = omega (arith, most, length-replicate {A = ℕ} 256 0);
     }
 
-pub parts-asked : {b roots : List ℕ} {limit : ℕ} {bounds arcs table : List ℕ} → PartsReady b roots limit table → WholeAround b roots bounds arcs
-    → {rows : List ℕ} → graphOf b .vertices * length roots ≤ length rows
-    → PartsAsked b roots limit bounds arcs table emptyArrays rows (replicate 256 0)
+pub parts-asked : {g : Graph} {roots : List ℕ} {limit : ℕ} {bounds arcs table : List ℕ} → PartsReady g roots limit table → WholeAround g roots bounds arcs
+    → {rows : List ℕ} → g .vertices * length roots ≤ length rows
+    → PartsAsked g roots limit bounds arcs table emptyArrays rows (replicate 256 0)
 parts-asked r around room =
     record {
       pieces = pieces-asked r around;
       ready = limit-ready (r .asked);
       rows-room = room;
-      out-room = omega (arith, r .asked .decidable .given .graph .valid .vertices-most, length-replicate {A = ℕ} 256 0);
+      out-room = omega (arith, r .asked .decidable .given .valid .vertices-most, length-replicate {A = ℕ} 256 0);
     }

@@ -9,7 +9,6 @@ use native.Mathlib.Nat.{mul-le-mul-right}
 use native.Mathlib.Omega.{arith}
 use lib.ListN.{length, take}
 use Rattle.graph.specs.Graph.{Graph}
-use Rattle.graph.specs.Bytes.{graphOf}
 use Rattle.matching.specs.Assignment.{IsDeficient}
 use Rattle.rules.specs.Cover.{rooted}
 use Rattle.rules.specs.RootedTrial.{unjoinedAt, rootedParts, mayGo, isAssignable}
@@ -28,15 +27,15 @@ use Rattle.rooted_answer.proofs.RootedAnswers.{answers-cover, answers-p
 use Rattle.deficient.proofs.TooLowPlaced.{too-low-given, too-low-written}
 
 -- Where every vertex is joined to a root, the parts answer.
-pub joined-asked : {b roots : List ℕ} {limit : ℕ} {order kept bounds arcs table lasts : List ℕ} {room : ℕ}
-    → RootedAnswerAsked b roots limit order kept bounds arcs table lasts room → unjoinedAt (graphOf b) roots limit ≡ none
-    → JoinedAsked b roots limit order bounds arcs table lasts room
+pub joined-asked : {g : Graph} {roots : List ℕ} {limit : ℕ} {order kept bounds arcs table lasts : List ℕ} {room : ℕ}
+    → RootedAnswerAsked g roots limit order kept bounds arcs table lasts room → unjoinedAt g roots limit ≡ none
+    → JoinedAsked g roots limit order bounds arcs table lasts room
 joined-asked a joined = record { asked = rw (a .prepared .decidable .forest) at a; joined = joined }
 
-module _ {b roots : List ℕ} {limit : ℕ} {order bounds arcs table lasts rows : List ℕ} {edges-room room : ℕ}
-    (l : JoinedLent b roots limit order bounds arcs table lasts rows edges-room room) where
+module _ {g : Graph} {roots : List ℕ} {limit : ℕ} {order bounds arcs table lasts rows : List ℕ} {edges-room room : ℕ}
+    (l : JoinedLent g roots limit order bounds arcs table lasts rows edges-room room) where
   -- The parts may be placed,
-  pub joined-ready : PartsReady b roots limit table
+  pub joined-ready : PartsReady g roots limit table
   joined-ready =
       let a = l .asked .asked in
       record {
@@ -45,12 +44,12 @@ module _ {b roots : List ℕ} {limit : ℕ} {order bounds arcs table lasts rows 
       }
 
   -- and where they are, in rows no shorter than those lent, they may be answered.
-  pub placed-given : {a : TrialArrays} {parts : ℕ} {assigned : Bool} → PartsPlaced (graphOf b) roots limit a parts assigned → length rows ≤ length (a .rows)
-      → PlacedGiven b roots limit order table lasts a parts assigned edges-room room
+  pub placed-given : {a : TrialArrays} {parts : ℕ} {assigned : Bool} → PartsPlaced g roots limit a parts assigned → length rows ≤ length (a .rows)
+      → PlacedGiven g roots limit order table lasts a parts assigned edges-room room
   placed-given {parts = parts} placed large =
       let asked = l .asked .asked in
       let d = asked .prepared .decidable in
-      let few : parts ≤ graphOf b .vertices = omega (arith, parts-count (placed .pieces), rooted-parts-few (graphOf b) roots limit (d .given .graph .valid)) in
+      let few : parts ≤ g .vertices = omega (arith, parts-count (placed .pieces), rooted-parts-few g roots limit (d .given .valid)) in
       record {
         cover =
             record {
@@ -65,11 +64,8 @@ module _ {b roots : List ℕ} {limit : ℕ} {order bounds arcs table lasts rows 
         rows-room = omega (arith, mul-le-mul-right (length roots) few, l .rows-room);
       }
 
-module _ {b roots : List ℕ} {limit : ℕ} {order table lasts starts cuts flat lefts places rows out : List ℕ} {parts : ℕ} {assigned : Bool}
-    {edges-room room : ℕ} (p : PlacedGiven b roots limit order table lasts (trialArrays starts cuts flat lefts places rows out) parts assigned edges-room room) where
-  abbrev g : Graph
-  g = graphOf b
-
+module _ {g : Graph} {roots : List ℕ} {limit : ℕ} {order table lasts starts cuts flat lefts places rows out : List ℕ} {parts : ℕ} {assigned : Bool}
+    {edges-room room : ℕ} (p : PlacedGiven g roots limit order table lasts (trialArrays starts cuts flat lefts places rows out) parts assigned edges-room room) where
   placed-as : (t : Bool) → assigned ≡ t → PartsPlaced g roots limit (trialArrays starts cuts flat lefts places rows out) parts t
   placed-as t q = rw q at (p .placed)
 
@@ -77,7 +73,7 @@ module _ {b roots : List ℕ} {limit : ℕ} {order table lasts starts cuts flat 
   decided t q = sym (placed-as t q .rows .assigned-is)
 
   -- Where each part has a root of its own, the cover may be written,
-  pub cover-asked : assigned ≡ true → CoverAsked b order table lasts roots (arraysOf starts cuts flat lefts places) parts out edges-room room
+  pub cover-asked : assigned ≡ true → CoverAsked g order table lasts roots (arraysOf starts cuts flat lefts places) parts out edges-room room
   cover-asked q = record { limit = limit; rows = rows; ready = p .cover; placed = placed-as true q }
 
   -- and is the answer.
@@ -90,7 +86,7 @@ module _ {b roots : List ℕ} {limit : ℕ} {order table lasts starts cuts flat 
 
   -- Otherwise the deficient set may be written,
   pub set-given : assigned ≡ false → SetGiven cuts flat places parts rows out (length roots) room
-  set-given q = too-low-given (placed-as false q) (p .cover .ready .given .graph .valid) (p .rows-room) (p .cover .most)
+  set-given q = too-low-given (placed-as false q) (p .cover .ready .given .valid) (p .rows-room) (p .cover .most)
 
   -- and is the answer.
   pub set-answered : assigned ≡ false → {before after : List ℕ} {r : Reply}

@@ -35,7 +35,7 @@ fn answer_placed(
     edges: &mut [u16],
     buf: &mut [u8],
 ) -> Reply
-    requires { ⌜ PlacedGiven (now b) (now roots) limit (now order) (now table) (now lasts)
+    requires { ⌜ PlacedGiven (graphOf (now b)) (now roots) limit (now order) (now table) (now lasts)
         (trialArrays (now starts) (now cuts) (now flat) (now lefts) (now places) (now rows) (now out)) (placed .parts) (placed .assigned)
         (length (now edges)) (length (now buf)) ⌝ }
     ensures { λ r. ⌜ Answers (graphOf (now (b .entry))) (rooted (now (roots .entry))) limit (now (buf .entry)) (now (buf .exit)) r ⌝ }
@@ -77,7 +77,7 @@ fn answer_parts(
     edges: &mut [u16],
     buf: &mut [u8],
 ) -> Reply
-    requires { ⌜ JoinedLent (now b) (now roots) limit (now order) (now bounds) (now arcs) (now table) (now lasts) (now rows) (length (now edges))
+    requires { ⌜ JoinedLent (graphOf (now b)) (now roots) limit (now order) (now bounds) (now arcs) (now table) (now lasts) (now rows) (length (now edges))
         (length (now buf)) ⌝ }
     ensures { λ r. ⌜ Answers (graphOf (now (b .entry))) (rooted (now (roots .entry))) limit (now (buf .entry)) (now (buf .exit)) r ⌝ }
 {
@@ -134,7 +134,7 @@ fn answer_small(
     lasts: &[u32],
     buf: &mut [u8],
 ) -> Reply
-    requires { ⌜ JoinedSmall (now b) (now roots) limit (now order) (now bounds) (now arcs) (now table) (now lasts) (length (now buf)) ⌝ }
+    requires { ⌜ JoinedSmall (graphOf (now b)) (now roots) limit (now order) (now bounds) (now arcs) (now table) (now lasts) (length (now buf)) ⌝ }
     ensures { λ r. ⌜ Answers (graphOf (now (b .entry))) (rooted (now (roots .entry))) limit (now (buf .entry)) (now (buf .exit)) r ⌝ }
 {
     let mut rows = [0u8; 512];
@@ -166,7 +166,7 @@ fn answer_full(
     lasts: &[u32],
     buf: &mut [u8],
 ) -> Reply
-    requires { ⌜ JoinedAsked (now b) (now roots) limit (now order) (now bounds) (now arcs) (now table) (now lasts) (length (now buf)) ⌝ }
+    requires { ⌜ JoinedAsked (graphOf (now b)) (now roots) limit (now order) (now bounds) (now arcs) (now table) (now lasts) (length (now buf)) ⌝ }
     ensures { λ r. ⌜ Answers (graphOf (now (b .entry))) (rooted (now (roots .entry))) limit (now (buf .entry)) (now (buf .exit)) r ⌝ }
 {
     let mut rows = [0u8; 8192];
@@ -199,7 +199,7 @@ pub fn answer_rooted(
     lasts: &[u32],
     buf: &mut [u8],
 ) -> Reply
-    requires { ⌜ RootedAnswerAsked (now b) (now roots) limit (now order) (now kept) (now bounds) (now arcs) (now table) (now lasts) (length (now buf)) ⌝ }
+    requires { ⌜ RootedAnswerAsked (graphOf (now b)) (now roots) limit (now order) (now kept) (now bounds) (now arcs) (now table) (now lasts) (length (now buf)) ⌝ }
     ensures { λ r. ⌜ Answers (graphOf (now (b .entry))) (rooted (now (roots .entry))) limit (now (buf .entry)) (now (buf .exit)) r ⌝ }
 {
     let light = light_forest(b, kept, limit);

@@ -17,7 +17,6 @@ use Rattle.lists.proofs.Put.{put-length}
 use Rattle.lists.proofs.Runs.{length-below, map-same}
 use Rattle.lists.proofs.Segments.{segment-kept, segment-new, bounded-more}
 use Rattle.graph.specs.Graph.{Graph}
-use Rattle.graph.specs.Bytes.{graphOf}
 use Rattle.graph.specs.Valid.{Valid}
 use Rattle.rules.specs.Cover.{Tree, heaviest}
 use Rattle.rules.specs.CoverBytes.{encode}
@@ -61,17 +60,14 @@ module _ {g : Graph} {table lasts roots : List ℕ} {a : PieceArrays} {out : Lis
             (rw new (t .is-tree));
       }
 
-module _ {b order table lasts roots : List ℕ} {a : PieceArrays} {parts : ℕ} {out : List ℕ} {edges-room room : ℕ}
-    (asked : CoverAsked b order table lasts roots a parts out edges-room room) {used : ℕ} {bounds edges : List ℕ}
-    (laid : TreesLaid (graphOf b) table lasts roots (partsOf parts a) out (length roots) used bounds edges) where
-  abbrev g : Graph
-  g = graphOf b
-
-  abbrev ready : LimitReady b roots (asked .limit) table
+module _ {g : Graph} {order table lasts roots : List ℕ} {a : PieceArrays} {parts : ℕ} {out : List ℕ} {edges-room room : ℕ}
+    (asked : CoverAsked g order table lasts roots a parts out edges-room room) {used : ℕ} {bounds edges : List ℕ}
+    (laid : TreesLaid g table lasts roots (partsOf parts a) out (length roots) used bounds edges) where
+  abbrev ready : LimitReady g roots (asked .limit) table
   ready = asked .ready .ready
 
   abbrev valid : Valid g
-  valid = ready .given .graph .valid
+  valid = ready .given .valid
 
   -- The trees that are laid.
   abbrev trees : List Tree

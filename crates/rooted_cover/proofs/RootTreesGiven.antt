@@ -7,7 +7,6 @@ use native.Mathlib.Omega.{arith}
 use lib.ListN.{length, getD}
 use lib.Seq.{getD-take}
 use Rattle.graph.specs.Graph.{Graph}
-use Rattle.graph.specs.Bytes.{graphOf}
 use Rattle.distance_table.specs.Tabled.{rowOf}
 use Rattle.rooted_state.specs.Prepared.{LimitReady}
 use Rattle.rooted_state.specs.Placed.{PieceArrays}
@@ -16,40 +15,37 @@ use Rattle.rooted_cover.specs.Tree.{ReachGiven}
 use Rattle.rooted_cover.specs.CoverTrees.{RootTreesGiven, partsOf, CoverAsked}
 use Rattle.rooted_cover.proofs.AssignedPart.{bytes-room, byte-is-root, row-whole, part-edge, left-edge, part-back}
 
-module _ {b order table lasts roots : List ℕ} {a : PieceArrays} {parts : ℕ} {out : List ℕ} {edges-room room : ℕ}
-    (asked : CoverAsked b order table lasts roots a parts out edges-room room) where
-  abbrev g : Graph
-  g = graphOf b
-
-  abbrev ready : LimitReady b roots (asked .limit) table
+module _ {g : Graph} {order table lasts roots : List ℕ} {a : PieceArrays} {parts : ℕ} {out : List ℕ} {edges-room room : ℕ}
+    (asked : CoverAsked g order table lasts roots a parts out edges-room room) where
+  abbrev ready : LimitReady g roots (asked .limit) table
   ready = asked .ready .ready
 
   -- The part of a root may be marked, with the path to it.
   reach : (j : ℕ) → j < length roots → (i : ℕ) → i < parts → getD out i 0 ≡ j
-      → ReachGiven b (rowOf (g .vertices) table j) (rowOf (g .vertices) lasts j) (getD roots j 0) (pieceAt a i .start) (pieceAt a i .edges) 2048
+      → ReachGiven g (rowOf (g .vertices) table j) (rowOf (g .vertices) lasts j) (getD roots j 0) (pieceAt a i .start) (pieceAt a i .edges) 2048
   reach j h i l q =
       let p = asked .placed in
-      let graph = ready .given .graph in
+      let valid = ready .given .valid in
       rw (← q) (record {
-        part = record { graph = graph; room = row-whole (g .vertices) table _ _ (byte-is-root p i l) (ready .distances .room); start-inside = start-in (p .pieces) i l };
-        marks = λ e m. omega (arith, part-edge p i l e m, graph .valid .edges-most);
-        back = λ v n. part-back p (graph .valid) (ready .distances) (omega (arith, ready .limit-most)) i l (asked .ready .last-edges) n;
+        part = record { valid = valid; room = row-whole (g .vertices) table _ _ (byte-is-root p i l) (ready .distances .room); start-inside = start-in (p .pieces) i l };
+        marks = λ e m. omega (arith, part-edge p i l e m, valid .edges-most);
+        back = λ v n. part-back p valid (ready .distances) (omega (arith, ready .limit-most)) i l (asked .ready .last-edges) n;
       })
 
-  pub roots-given : RootTreesGiven b order table lasts roots (partsOf parts a) out
+  pub roots-given : RootTreesGiven g order table lasts roots (partsOf parts a) out
   roots-given =
       let p = asked .placed in
-      let graph = ready .given .graph in
+      let valid = ready .given .valid in
       let many = places-many (p .pieces) in
       record {
-        graph = graph;
+        valid = valid;
         table-room = ready .distances .room;
         last-room = asked .ready .last-edges .room;
         each =
             λ j h room l.
             record {
-              asked = record { graph = graph; in-order = asked .ready .in-order; room = l };
-              piece = record { held = p .pieces .lefts-held j h; marks = λ e m. omega (arith, left-edge p j h e m, graph .valid .edges-most) };
+              asked = record { valid = valid; in-order = asked .ready .in-order; room = l };
+              piece = record { held = p .pieces .lefts-held j h; marks = λ e m. omega (arith, left-edge p j h e m, valid .edges-most) };
               assigned =
                   record {
                     bytes = omega (arith, bytes-room p);

@@ -9,7 +9,6 @@ use lib.Seq.{take-all, drop-drop}
 use Rattle.lists.specs.Put.{PutTo}
 use Rattle.lists.proofs.Put.{put-count, put-front}
 use Rattle.graph.specs.Graph.{Graph}
-use Rattle.graph.specs.Bytes.{graphOf}
 use Rattle.distance_table.specs.Tabled.{rowOf}
 use Rattle.rooted_state.specs.Placed.{PieceArrays}
 use Rattle.rooted_cover.specs.Tree.{RootGiven, RootWritten}
@@ -46,9 +45,9 @@ row-fits j k n m size q h room = rw q (row-room j k m size h room)
 
 module _ {table lasts roots : List ℕ} {a : PieceArrays} {out : List ℕ} {j n root left : ℕ} where
   -- What the tree asks, by the values read.
-  pub tree-asked : {b order : List ℕ} → RootTreesGiven b order table lasts roots a out → j < length roots → n ≡ graphOf b .vertices → root ≡ getD roots j 0
-      → left ≡ getD (a .lefts) j 0 → (room : List ℕ) → graphOf b .vertices ≤ length room
-      → RootGiven b order (rowThere table j n) (rowThere lasts j n) root (a .starts) (a .cuts) (a .flat) left (a .places) out j room
+  pub tree-asked : {g : Graph} {order : List ℕ} → RootTreesGiven g order table lasts roots a out → j < length roots → n ≡ g .vertices → root ≡ getD roots j 0
+      → left ≡ getD (a .lefts) j 0 → (room : List ℕ) → g .vertices ≤ length room
+      → RootGiven g order (rowThere table j n) (rowThere lasts j n) root (a .starts) (a .cuts) (a .flat) left (a .places) out j room
   tree-asked given h count is-root is-left room l = rw (row-is table j n count, row-is lasts j n count, is-root, is-left) (given .each j h room l)
 
   -- What it is, and where it stands.

@@ -8,8 +8,7 @@ use lib.ListN.{length, getD, take}
 use Rattle.lists.specs.Put.{Put, PutTo}
 use Rattle.lists.specs.Segments.{segment, Bounded}
 use Rattle.graph.specs.Graph.{Graph}
-use Rattle.graph.specs.Bytes.{graphOf}
-use Rattle.graph.specs.Valid.{IsGraph}
+use Rattle.graph.specs.Valid.{Valid}
 use Rattle.rules.specs.Cover.{heaviest}
 use Rattle.rules.specs.CoverBytes.{encode}
 use Rattle.rules.specs.RootedTrial.{Choices, GoodChoices, unionTree, rootedCover}
@@ -24,21 +23,21 @@ pub record RootTree (g : Graph) (table lasts roots : List ℕ) (a : PieceArrays)
   pub assigned : AssignedAre g (rowOf (g .vertices) table j) (rowOf (g .vertices) lasts j) (getD roots j 0) (a .starts) (a .cuts) (a .flat) (a .places) out j edges
   pub is : tree ≡ unionTree g (getD roots j 0) (edges ++ segment (a .cuts) (a .flat) (getD (a .lefts) j 0)) .edges
 
--- What the trees of all roots ask: the graph's bytes, a row of distances and of last edges for each root, and of each what its tree asks, wherever there
+-- What the trees of all roots ask: a valid graph, a row of distances and of last edges for each root, and of each what its tree asks, wherever there
 -- is room for an edge of each vertex.
-pub record RootTreesGiven (b order table lasts roots : List ℕ) (a : PieceArrays) (out : List ℕ) : Type 0 where
-  pub graph : IsGraph b
-  pub table-room : length roots * graphOf b .vertices ≤ length table
-  pub last-room : length roots * graphOf b .vertices ≤ length lasts
-  pub each : (j : ℕ) → j < length roots → (room : List ℕ) → graphOf b .vertices ≤ length room
-      → RootGiven b order (rowOf (graphOf b .vertices) table j) (rowOf (graphOf b .vertices) lasts j) (getD roots j 0) (a .starts) (a .cuts) (a .flat)
+pub record RootTreesGiven (g : Graph) (order table lasts roots : List ℕ) (a : PieceArrays) (out : List ℕ) : Type 0 where
+  pub valid : Valid g
+  pub table-room : length roots * g .vertices ≤ length table
+  pub last-room : length roots * g .vertices ≤ length lasts
+  pub each : (j : ℕ) → j < length roots → (room : List ℕ) → g .vertices ≤ length room
+      → RootGiven g order (rowOf (g .vertices) table j) (rowOf (g .vertices) lasts j) (getD roots j 0) (a .starts) (a .cuts) (a .flat)
       (getD (a .lefts) j 0) (a .places) out j room
 
 -- What putting root j's tree behind the others asks besides: one of the roots, and room behind them.
-pub record TreeGivenAt (b order table lasts roots : List ℕ) (a : PieceArrays) (out : List ℕ) (j at room : ℕ) : Type 0 where
-  pub given : RootTreesGiven b order table lasts roots a out
+pub record TreeGivenAt (g : Graph) (order table lasts roots : List ℕ) (a : PieceArrays) (out : List ℕ) (j at room : ℕ) : Type 0 where
+  pub given : RootTreesGiven g order table lasts roots a out
   pub root : j < length roots
-  pub fits : at + graphOf b .vertices ≤ room
+  pub fits : at + g .vertices ≤ room
 
 -- Root j's tree was put there; it has fewer edges than there are vertices.
 pub record TreePut (g : Graph) (table lasts roots : List ℕ) (a : PieceArrays) (out : List ℕ) (j at : ℕ) (before after : List ℕ) (r : ℕ) : Type 0 where
@@ -48,11 +47,11 @@ pub record TreePut (g : Graph) (table lasts roots : List ℕ) (a : PieceArrays) 
   pub fewer : r < at + g .vertices
 
 -- What laying the trees of all roots asks: at most 32 roots, and for each room for an edge of each vertex.
-pub record LayRootsGiven (b order table lasts roots : List ℕ) (a : PieceArrays) (out : List ℕ) (bounds-room edges-room : ℕ) : Type 0 where
-  pub given : RootTreesGiven b order table lasts roots a out
+pub record LayRootsGiven (g : Graph) (order table lasts roots : List ℕ) (a : PieceArrays) (out : List ℕ) (bounds-room edges-room : ℕ) : Type 0 where
+  pub given : RootTreesGiven g order table lasts roots a out
   pub few : length roots ≤ 32
   pub bounds-fit : 33 ≤ bounds-room
-  pub edges-fit : length roots * graphOf b .vertices ≤ edges-room
+  pub edges-fit : length roots * g .vertices ≤ edges-room
 
 -- The trees of the first i roots are laid: they take up the array's elements before `used`.
 pub record TreesLaid (g : Graph) (table lasts roots : List ℕ) (a : PieceArrays) (out : List ℕ) (i used : ℕ) (bounds edges : List ℕ) : Type 0 where
@@ -65,11 +64,11 @@ abbrev pub partsOf : ℕ → PieceArrays → PieceArrays
 partsOf parts a = arraysOf (a .starts) (a .cuts) (a .flat) (a .lefts) (take parts (a .places))
 
 -- What writing the cover asks: what a cover is made by at some limit, and the parts placed there with an assignment of them.
-pub record CoverAsked (b order table lasts roots : List ℕ) (a : PieceArrays) (parts : ℕ) (out : List ℕ) (edges-room room : ℕ) : Type 0 where
+pub record CoverAsked (g : Graph) (order table lasts roots : List ℕ) (a : PieceArrays) (parts : ℕ) (out : List ℕ) (edges-room room : ℕ) : Type 0 where
   pub limit : ℕ
   pub rows : List ℕ
-  pub ready : CoverReady b roots limit order table lasts edges-room room
-  pub placed : PartsPlaced (graphOf b) roots limit (record { pieces = a; rows = rows; out = out }) parts true
+  pub ready : CoverReady g roots limit order table lasts edges-room room
+  pub placed : PartsPlaced g roots limit (record { pieces = a; rows = rows; out = out }) parts true
 
 -- The bytes of the cover that the trial makes of some good choices are the buffer's first bytes, and r is the weight of its heaviest tree.
 pub record CoverWritten (g : Graph) (roots : List ℕ) (limit : ℕ) (before after : List ℕ) (r : ℕ) : Type 0 where

@@ -10,8 +10,7 @@ use Rattle.lists.specs.Put.{PutTo}
 use Rattle.lists.specs.Segments.{segment}
 use Rattle.lists.specs.Sort.{rise}
 use Rattle.graph.specs.Graph.{Graph}
-use Rattle.graph.specs.Bytes.{graphOf}
-use Rattle.graph.specs.Valid.{IsGraph}
+use Rattle.graph.specs.Valid.{Valid}
 use Rattle.matching.specs.Assignment.{marked}
 use Rattle.rules.specs.Order.{ordered}
 use Rattle.rules.specs.Labels.{apart}
@@ -39,11 +38,11 @@ pub record BackGiven (last : List ℕ) (root v room : ℕ) : Type 0 where
   pub trail : CanGoBack last root v 256
   pub marks : (e : ℕ) → e ∈ trailOf last root v → e < room
 
--- What keeping a tree's edges asks: the bytes are a graph's, its edges in order, and room for an edge of each vertex.
-pub record TreeAsked (b order tree : List ℕ) : Type 0 where
-  pub graph : IsGraph b
-  pub in-order : order ≡ ordered (graphOf b)
-  pub room : graphOf b .vertices ≤ length tree
+-- What keeping a tree's edges asks: a valid graph, its edges in order, and room for an edge of each vertex.
+pub record TreeAsked (g : Graph) (order tree : List ℕ) : Type 0 where
+  pub valid : Valid g
+  pub in-order : order ≡ ordered g
+  pub room : g .vertices ≤ length tree
 
 -- The marked edges were kept, and stand by rising number at the front of the array, r of them.
 pub record TreeKept (g : Graph) (marks before after : List ℕ) (r : ℕ) : Type 0 where
@@ -52,10 +51,10 @@ pub record TreeKept (g : Graph) (marks before after : List ℕ) (r : ℕ) : Type
 
 -- What marking a part and the path to it asks: the distances from the root, a mark for each of the part's edges, and a path back from whichever
 -- of the part's vertices is nearest.
-pub record ReachGiven (b dist last : List ℕ) (root start : ℕ) (edges : List ℕ) (room : ℕ) : Type 0 where
-  pub part : NearestGiven b dist start
+pub record ReachGiven (g : Graph) (dist last : List ℕ) (root start : ℕ) (edges : List ℕ) (room : ℕ) : Type 0 where
+  pub part : NearestGiven g dist start
   pub marks : (e : ℕ) → e ∈ edges → e < room
-  pub back : (v : ℕ) → Nearest (graphOf b) dist (treeOf start edges) v → BackGiven last root v room
+  pub back : (v : ℕ) → Nearest g dist (treeOf start edges) v → BackGiven last root v room
 
 -- The edges of the part were marked, and of the path back from one of its nearest vertices.
 pub record ReachMarked (g : Graph) (dist last : List ℕ) (root start : ℕ) (edges before after : List ℕ) : Type 0 where
@@ -65,11 +64,11 @@ pub record ReachMarked (g : Graph) (dist last : List ℕ) (root start : ℕ) (ed
 
 -- What marking root j's part asks: a byte for each place, pieces that are held, and, at a place whose byte is j, a piece that may be marked
 -- with the path to it. Of other places nothing is asked: no path need lead to them.
-pub record AssignedGiven (b dist last : List ℕ) (root : ℕ) (starts cuts flat places out : List ℕ) (j room : ℕ) : Type 0 where
+pub record AssignedGiven (g : Graph) (dist last : List ℕ) (root : ℕ) (starts cuts flat places out : List ℕ) (j room : ℕ) : Type 0 where
   pub bytes : length places ≤ length out
   pub held : AllHeld cuts flat places
   pub reach : (i : ℕ) → i < length places → getD out i 0 ≡ j
-      → ReachGiven b dist last root (getD starts (getD places i 0) 0) (segment cuts flat (getD places i 0)) room
+      → ReachGiven g dist last root (getD starts (getD places i 0) 0) (segment cuts flat (getD places i 0)) room
 
 -- The edges of root j's part and of a path back from one of its nearest vertices; none where j stands at no place.
 pub data AssignedAre (g : Graph) (dist last : List ℕ) (root : ℕ) (starts cuts flat places out : List ℕ) (j : ℕ) (edges : List ℕ) : Type 0 where
@@ -85,10 +84,10 @@ pub record AssignedMarked (g : Graph) (dist last : List ℕ) (root : ℕ) (start
   pub marks : Marked (λ e. member e edges) before after
 
 -- What a root's tree asks: the graph and its order, a piece left at the root, and parts that may be marked.
-pub record RootGiven (b order dist last : List ℕ) (root : ℕ) (starts cuts flat : List ℕ) (left : ℕ) (places out : List ℕ) (j : ℕ) (tree : List ℕ) : Type 0 where
-  pub asked : TreeAsked b order tree
+pub record RootGiven (g : Graph) (order dist last : List ℕ) (root : ℕ) (starts cuts flat : List ℕ) (left : ℕ) (places out : List ℕ) (j : ℕ) (tree : List ℕ) : Type 0 where
+  pub asked : TreeAsked g order tree
   pub piece : PieceGiven cuts flat left 2048
-  pub assigned : AssignedGiven b dist last root starts cuts flat places out j 2048
+  pub assigned : AssignedGiven g dist last root starts cuts flat places out j 2048
 
 -- The tree of the union was written.
 pub record RootWritten (g : Graph) (dist last : List ℕ) (root : ℕ) (starts cuts flat : List ℕ) (left : ℕ) (places out : List ℕ) (j : ℕ)

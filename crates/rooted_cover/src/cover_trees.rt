@@ -27,7 +27,7 @@ fn put_tree(
     edges: &mut [u16],
     at: usize,
 ) -> usize
-    requires { ⌜ TreeGivenAt (now b) (now order) (now table) (now lasts) (now roots) (arraysOf (now starts) (now cuts) (now flat) (now lefts) (now places)) (now out) j at
+    requires { ⌜ TreeGivenAt (graphOf (now b)) (now order) (now table) (now lasts) (now roots) (arraysOf (now starts) (now cuts) (now flat) (now lefts) (now places)) (now out) j at
         (length (now edges)) ⌝ }
     ensures { λ r. ⌜ TreePut (graphOf (now (b .entry))) (now (table .entry)) (now (lasts .entry)) (now (roots .entry)) (arraysOf
         (now (starts .entry)) (now (cuts .entry)) (now (flat .entry)) (now (lefts .entry)) (now (places .entry))) (now (out .entry)) j at (now (edges .entry)) (now (edges .exit)) r ⌝ }
@@ -71,7 +71,7 @@ fn lay_trees(
     bounds: &mut [u16],
     edges: &mut [u16],
 )
-    requires { ⌜ LayRootsGiven (now b) (now order) (now table) (now lasts) (now roots) (arraysOf (now starts) (now cuts) (now flat) (now lefts) (now places)) (now out)
+    requires { ⌜ LayRootsGiven (graphOf (now b)) (now order) (now table) (now lasts) (now roots) (arraysOf (now starts) (now cuts) (now flat) (now lefts) (now places)) (now out)
         (length (now bounds)) (length (now edges)) ⌝ }
     ensures { λ _. ⌜ TreesLaid (graphOf (now (b .entry))) (now (table .entry)) (now (lasts .entry)) (now (roots .entry)) (arraysOf
         (now (starts .entry)) (now (cuts .entry)) (now (flat .entry)) (now (lefts .entry)) (now (places .entry))) (now (out .entry)) (length (now (roots .entry)))
@@ -120,7 +120,7 @@ pub fn write_rooted(
     edges: &mut [u16],
     buf: &mut [u8],
 ) -> u64
-    requires { ⌜ CoverAsked (now b) (now order) (now table) (now lasts) (now roots) (arraysOf (now starts) (now cuts) (now flat) (now lefts) (now places)) parts (now out)
+    requires { ⌜ CoverAsked (graphOf (now b)) (now order) (now table) (now lasts) (now roots) (arraysOf (now starts) (now cuts) (now flat) (now lefts) (now places)) parts (now out)
         (length (now edges)) (length (now buf)) ⌝ }
     ensures { λ r. ⌜ CoverAtLimits (graphOf (now (b .entry))) (now (roots .entry)) (arraysOf
         (now (starts .entry)) (now (cuts .entry)) (now (flat .entry)) (now (lefts .entry)) (now (places .entry))) parts (now (out .entry)) (now (buf .entry)) (now (buf .exit)) r ⌝ }

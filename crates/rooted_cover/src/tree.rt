@@ -52,7 +52,7 @@ fn mark_back(last: &[u32], root: usize, v: usize, marks: &mut [u8])
 
 // The marked edges in order, kept where their ends are not yet joined, written to the front of the array by rising number. Says how many.
 fn keep_risen(b: &[u8], order: &[u16], marks: &[u8], tree: &mut [u16]) -> usize
-    requires { ⌜ TreeAsked (now b) (now order) (now tree) ⌝ }
+    requires { ⌜ TreeAsked (graphOf (now b)) (now order) (now tree) ⌝ }
     ensures { λ r. ⌜ TreeKept (graphOf (now (b .entry))) (now (marks .entry)) (now (tree .entry)) (now (tree .exit)) r ⌝ }
 {
     let r = keep_union(b, order, marks, tree);
@@ -70,7 +70,7 @@ fn mark_reach(
     edges: &[u16],
     marks: &mut [u8],
 )
-    requires { ⌜ ReachGiven (now b) (now dist) (now last) root start (now edges) (length (now marks)) ⌝ }
+    requires { ⌜ ReachGiven (graphOf (now b)) (now dist) (now last) root start (now edges) (length (now marks)) ⌝ }
     ensures { λ _. ⌜ ReachMarked (graphOf (now (b .entry))) (now (dist .entry)) (now (last .entry)) root start (now (edges .entry))
         (now (marks .entry)) (now (marks .exit)) ⌝ }
 {
@@ -93,7 +93,7 @@ fn mark_assigned(
     j: usize,
     marks: &mut [u8],
 )
-    requires { ⌜ AssignedGiven (now b) (now dist) (now last) root (now starts) (now cuts) (now flat) (now places) (now out) j (length (now marks)) ⌝ }
+    requires { ⌜ AssignedGiven (graphOf (now b)) (now dist) (now last) root (now starts) (now cuts) (now flat) (now places) (now out) j (length (now marks)) ⌝ }
     ensures { λ _. ⌜ AssignedMarked (graphOf (now (b .entry))) (now (dist .entry)) (now (last .entry)) root (now (starts .entry)) (now (cuts .entry)) (now (flat .entry))
         (now (places .entry)) (now (out .entry)) j (now (marks .entry)) (now (marks .exit)) ⌝ }
 {
@@ -131,7 +131,7 @@ pub fn rooted_tree(
     j: usize,
     tree: &mut [u16],
 ) -> usize
-    requires { ⌜ RootGiven (now b) (now order) (now dist) (now last) root (now starts) (now cuts) (now flat) left (now places) (now out) j (now tree) ⌝ }
+    requires { ⌜ RootGiven (graphOf (now b)) (now order) (now dist) (now last) root (now starts) (now cuts) (now flat) left (now places) (now out) j (now tree) ⌝ }
     ensures { λ r. ⌜ RootWritten (graphOf (now (b .entry))) (now (dist .entry)) (now (last .entry)) root (now (starts .entry)) (now (cuts .entry)) (now (flat .entry)) left
         (now (places .entry)) (now (out .entry)) j (now (tree .entry)) (now (tree .exit)) r ⌝ }
 {

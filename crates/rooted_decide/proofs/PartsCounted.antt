@@ -8,7 +8,7 @@ use mathlib.Core.Option.{none}
 use native.Mathlib.Omega.{arith}
 use lib.ListN.{length}
 use Rattle.lists.specs.Count.{from, below}
-use Rattle.graph.specs.Bytes.{graphOf}
+use Rattle.graph.specs.Graph.{Graph}
 use Rattle.matching.specs.Assignable.{assignable}
 use Rattle.rules.specs.Split.{allParts}
 use Rattle.rules.specs.RootedTrial.{unjoinedAt, rootedParts, mayGo, isAssignable}
@@ -21,35 +21,35 @@ use Rattle.rooted_state.specs.Prepared.{TrialAsked, PartsReady}
 use Rattle.rooted_decide.specs.Decide.{CountReady, FewReady}
 
 -- Where every vertex is joined to a root within the limit, a trial may place its parts.
-pub parts-ready : {b roots : List ℕ} {limit : ℕ} {kept table : List ℕ} → TrialAsked b roots limit kept table
-    → unjoinedAt (graphOf b) roots limit ≡ none → PartsReady b roots limit table
+pub parts-ready : {g : Graph} {roots : List ℕ} {limit : ℕ} {kept table : List ℕ} → TrialAsked g roots limit kept table
+    → unjoinedAt g roots limit ≡ none → PartsReady g roots limit table
 parts-ready a joined = record { asked = rw (a .decidable .forest) at a; joined = joined }
 
-module _ {b roots : List ℕ} {limit : ℕ} {table walk : List ℕ} (r : CountReady b roots limit table walk) where
+module _ {g : Graph} {roots : List ℕ} {limit : ℕ} {table walk : List ℕ} (r : CountReady g roots limit table walk) where
   pub count-asked : Countable limit walk
   count-asked = record { inside = r .walked .inside; threshold-most = omega (arith, r .ready .asked .limit-most) }
 
   module _ {p : ℕ} (counted : p ≡ partsCounted limit walk) where
-    parts-counted : p ≡ length (rootedParts (graphOf b) roots limit)
+    parts-counted : p ≡ length (rootedParts g roots limit)
     unfolding rootedParts
     parts-counted =
         counted
         ∙ r .walked .counts limit
-        ∙ ap (λ ps. length (allParts ps)) (sym (pieces-of-whole (graphOf b) roots limit (r .ready .asked .decidable .given .graph .valid) (r .ready .joined)))
+        ∙ ap (λ ps. length (allParts ps)) (sym (pieces-of-whole g roots limit (r .ready .asked .decidable .given .valid) (r .ready .joined)))
 
-    pub many-refused : length roots < p → false ≡ isAssignable (graphOf b) roots limit
+    pub many-refused : length roots < p → false ≡ isAssignable g roots limit
     unfolding isAssignable
-    many-refused more = sym (too-many (mayGo (graphOf b) roots limit) (omega (arith, parts-counted)))
+    many-refused more = sym (too-many (mayGo g roots limit) (omega (arith, parts-counted)))
 
-    pub none-assigned : p ≡ 0 → true ≡ isAssignable (graphOf b) roots limit
+    pub none-assigned : p ≡ 0 → true ≡ isAssignable g roots limit
     unfolding isAssignable assignable below from
-    none-assigned q = let none : length (rootedParts (graphOf b) roots limit) ≡ 0 = omega (arith, parts-counted) in rw none
+    none-assigned q = let none : length (rootedParts g roots limit) ≡ 0 = omega (arith, parts-counted) in rw none
 
     -- Some, and no more than the roots, may be assigned. Where there is a part the limit is not 0.
-    pub few-ready : 0 < p → p ≤ length roots → FewReady b roots limit table walk
+    pub few-ready : 0 < p → p ≤ length roots → FewReady g roots limit table walk
     few-ready some few =
         record {
           counted = r;
           few = omega (arith, parts-counted);
-          limit-some = part-at (graphOf b) roots limit 0 (omega (arith, parts-counted)) .limit-some;
+          limit-some = part-at g roots limit 0 (omega (arith, parts-counted)) .limit-some;
         }

@@ -12,7 +12,6 @@ use Rattle.lists.specs.Lists.{any}
 use Rattle.lists.proofs.Places.{map-at}
 use Rattle.lists.proofs.Put.{only-first-length}
 use Rattle.graph.specs.Graph.{Graph}
-use Rattle.graph.specs.Bytes.{graphOf}
 use Rattle.graph.specs.Valid.{Valid}
 use Rattle.graph.proofs.Ranges.{one-end-below, other-end-below}
 use Rattle.rules.specs.Walk.{Joins, onward, back, Walk, stay, step}
@@ -40,10 +39,7 @@ walk-inside {g} valid (step {e} {u = u} {w = w} j rest) h = from j
     from (onward q _) = rw q (one-end-below valid e)
     from (back q _) = rw q (other-end-below valid e)
 
-module _ {b roots : List ℕ} {limit : ℕ} {table walk : List ℕ} (f : FewReady b roots limit table walk) where
-  abbrev g : Graph
-  g = graphOf b
-
+module _ {g : Graph} {roots : List ℕ} {limit : ℕ} {table walk : List ℕ} (f : FewReady g roots limit table walk) where
   abbrev k : ℕ
   k = length roots
 
@@ -51,7 +47,7 @@ module _ {b roots : List ℕ} {limit : ℕ} {table walk : List ℕ} (f : FewRead
   parts = rootedParts g roots limit
 
   valid : Valid g
-  valid = f .counted .ready .asked .decidable .given .graph .valid
+  valid = f .counted .ready .asked .decidable .given .valid
 
   -- The pass tells of each part of the trial whether a test holds at one of its vertices.
   touched-parts : (test : ℕ → Bool) → partsTouched limit test walk ≡ map (λ part. any test (treeVertices g part)) parts

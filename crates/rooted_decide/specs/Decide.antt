@@ -5,7 +5,7 @@ use mathlib.Core.Path.{_≡_}
 use mathlib.Core.Bool.{false}
 use mathlib.Core.List.{List}
 use lib.ListN.{length}
-use Rattle.graph.specs.Bytes.{graphOf}
+use Rattle.graph.specs.Graph.{Graph}
 use Rattle.rules.specs.Cover.{rooted}
 use Rattle.rules.specs.Order.{ordered}
 use Rattle.rules.specs.Labels.{together}
@@ -15,28 +15,28 @@ use Rattle.rules.specs.Search.{noCover}
 use Rattle.rooted_state.specs.Prepared.{RootsGiven, WholeWalked, TrialAsked, PartsReady}
 
 -- What saying "no cover" asks: the roots, and the whole forest.
-pub record NoCoverAsked (b roots kept : List ℕ) : Type 0 where
-  pub given : RootsGiven b roots
-  pub forest : kept ≡ keep (graphOf b) (together roots) (ordered (graphOf b))
+pub record NoCoverAsked (g : Graph) (roots kept : List ℕ) : Type 0 where
+  pub given : RootsGiven g roots
+  pub forest : kept ≡ keep g (together roots) (ordered g)
 
 -- What deciding a limit asks besides: the walk of the whole forest's trees, and that the whole graph joins every vertex to a root.
-pub record RootedDecisionAsked (b roots : List ℕ) (limit : ℕ) (kept table walk : List ℕ) : Type 0 where
-  pub asked : TrialAsked b roots limit kept table
-  pub walked : WholeWalked b roots walk
-  pub some-cover : noCover (graphOf b) (rooted roots) ≡ false
+pub record RootedDecisionAsked (g : Graph) (roots : List ℕ) (limit : ℕ) (kept table walk : List ℕ) : Type 0 where
+  pub asked : TrialAsked g roots limit kept table
+  pub walked : WholeWalked g roots walk
+  pub some-cover : noCover g (rooted roots) ≡ false
 
 -- What counting the parts asks besides: the walk of the whole forest's trees.
-pub record CountReady (b roots : List ℕ) (limit : ℕ) (table walk : List ℕ) : Type 0 where
-  pub ready : PartsReady b roots limit table
-  pub walked : WholeWalked b roots walk
+pub record CountReady (g : Graph) (roots : List ℕ) (limit : ℕ) (table walk : List ℕ) : Type 0 where
+  pub ready : PartsReady g roots limit table
+  pub walked : WholeWalked g roots walk
 
 -- What assigning some parts, and no more than roots, asks.
-pub record FewReady (b roots : List ℕ) (limit : ℕ) (table walk : List ℕ) : Type 0 where
-  pub counted : CountReady b roots limit table walk
-  pub few : length (rootedParts (graphOf b) roots limit) ≤ length roots
+pub record FewReady (g : Graph) (roots : List ℕ) (limit : ℕ) (table walk : List ℕ) : Type 0 where
+  pub counted : CountReady g roots limit table walk
+  pub few : length (rootedParts g roots limit) ≤ length roots
   pub limit-some : 0 < limit
 
 -- What writing the roots near each part asks besides: a word for each root, and so for each part.
-pub record NearReady (b roots : List ℕ) (limit : ℕ) (table walk parts : List ℕ) : Type 0 where
-  pub ready : FewReady b roots limit table walk
+pub record NearReady (g : Graph) (roots : List ℕ) (limit : ℕ) (table walk parts : List ℕ) : Type 0 where
+  pub ready : FewReady g roots limit table walk
   pub room : length roots ≤ length parts

@@ -20,7 +20,7 @@ ghost use Rattle.rooted_decide.specs.Decide.{NoCoverAsked, RootedDecisio
 
 // Whether some vertex is joined to no root by any edge ("no cover"). The whole forest joins what all edges join.
 pub fn no_cover_rooted(b: &[u8], roots: &[u16], kept: &[u16]) -> bool
-    requires { ⌜ NoCoverAsked (now b) (now roots) (now kept) ⌝ }
+    requires { ⌜ NoCoverAsked (graphOf (now b)) (now roots) (now kept) ⌝ }
     ensures { λ r. ⌜ r ≡ noCover (graphOf (now (b .entry))) (rooted (now (roots .entry))) ⌝ }
 {
     let mut label = [0u16; 256];
@@ -41,7 +41,7 @@ fn parts_near(
     walk: &[u64],
     parts: &mut [u32],
 ) -> usize
-    requires { ⌜ NearReady (now b) (now roots) limit (now table) (now walk) (now parts) ⌝ }
+    requires { ⌜ NearReady (graphOf (now b)) (now roots) limit (now table) (now walk) (now parts) ⌝ }
     ensures { λ r. ⌜ PartsNear (graphOf (now (b .entry))) (now (roots .entry)) limit (now (parts .exit)) r ⌝ }
 {
     let mut near = [0u32; 256];
@@ -52,7 +52,7 @@ fn parts_near(
 // Whether each part of the trial gets a root of its own, where there are some parts and no more than roots. So few have rows of at most 32 times 32
 // bytes.
 fn few_assigned(b: &[u8], roots: &[u16], limit: u64, table: &[u32], walk: &[u64]) -> bool
-    requires { ⌜ FewReady (now b) (now roots) limit (now table) (now walk) ⌝ }
+    requires { ⌜ FewReady (graphOf (now b)) (now roots) limit (now table) (now walk) ⌝ }
     ensures { λ r. ⌜ r ≡ isAssignable (graphOf (now (b .entry))) (now (roots .entry)) limit ⌝ }
 {
     let k = roots.len();
@@ -68,7 +68,7 @@ fn few_assigned(b: &[u8], roots: &[u16], limit: u64, table: &[u32], walk: &[u64]
 // Whether each part of the trial gets a root of its own, where every vertex is joined to a root. The parts are counted first: more than there are
 // roots never do, and where there is none nothing is needed, so that no distance is looked at for them.
 fn parts_assigned(b: &[u8], roots: &[u16], limit: u64, table: &[u32], walk: &[u64]) -> bool
-    requires { ⌜ CountReady (now b) (now roots) limit (now table) (now walk) ⌝ }
+    requires { ⌜ CountReady (graphOf (now b)) (now roots) limit (now table) (now walk) ⌝ }
     ensures { λ r. ⌜ r ≡ isAssignable (graphOf (now (b .entry))) (now (roots .entry)) limit ⌝ }
 {
     let parts = count_parts(walk, limit);
@@ -90,7 +90,7 @@ pub fn accepts_rooted(
     table: &[u32],
     walk: &[u64],
 ) -> bool
-    requires { ⌜ RootedDecisionAsked (now b) (now roots) limit (now kept) (now table) (now walk) ⌝ }
+    requires { ⌜ RootedDecisionAsked (graphOf (now b)) (now roots) limit (now kept) (now table) (now walk) ⌝ }
     ensures { λ r. ⌜ r ≡ accepts (graphOf (now (b .entry))) (rooted (now (roots .entry))) limit ⌝ }
 {
     if light_forest(b, kept, limit) < kept.len() {

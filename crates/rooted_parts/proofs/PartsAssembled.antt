@@ -7,27 +7,23 @@ use native.Mathlib.Nat.{mul-le-mul-right}
 use native.Mathlib.Omega.{arith}
 use lib.ListN.{length, take}
 use Rattle.graph.specs.Graph.{Graph}
-use Rattle.graph.specs.Bytes.{graphOf}
 use Rattle.planner_laws.proofs.RootedSize.{rooted-parts-few}
 use Rattle.rooted_state.specs.Placed.{PieceArrays, arraysOf, PiecesPlaced}
 use Rattle.rooted_state.proofs.PlacedPieces.{places-many, parts-count}
 use Rattle.rooted_parts.specs.Parts.{PartsAsked, PartsHeld}
 
 -- Where the pieces are placed, the parts are held.
-pub asked-held : {b roots : List ℕ} {limit : ℕ} {bounds arcs table : List ℕ} {a : PieceArrays} {rows out starts cuts flat lefts places : List ℕ} {p : ℕ}
-    → PartsAsked b roots limit bounds arcs table a rows out → PiecesPlaced (graphOf b) roots limit (arraysOf starts cuts flat lefts places) p
-    → PartsHeld b roots limit table starts cuts flat places p
+pub asked-held : {g : Graph} {roots : List ℕ} {limit : ℕ} {bounds arcs table : List ℕ} {a : PieceArrays} {rows out starts cuts flat lefts places : List ℕ} {p : ℕ}
+    → PartsAsked g roots limit bounds arcs table a rows out → PiecesPlaced g roots limit (arraysOf starts cuts flat lefts places) p
+    → PartsHeld g roots limit table starts cuts flat places p
 asked-held {lefts = lefts} asked placed = record { ready = asked .ready; lefts = lefts; placed = placed }
 
-module _ {b roots : List ℕ} {limit : ℕ} {table starts cuts flat places : List ℕ} {p : ℕ} (held : PartsHeld b roots limit table starts cuts flat places p) where
-  abbrev g : Graph
-  g = graphOf b
-
+module _ {g : Graph} {roots : List ℕ} {limit : ℕ} {table starts cuts flat places : List ℕ} {p : ℕ} (held : PartsHeld g roots limit table starts cuts flat places p) where
   abbrev k : ℕ
   k = length roots
 
   pub few : p < g .vertices
-  few = omega (arith, parts-count (held .placed), rooted-parts-few g roots limit (held .ready .given .graph .valid))
+  few = omega (arith, parts-count (held .placed), rooted-parts-few g roots limit (held .ready .given .valid))
 
   -- Rows for all vertices have room for those of the parts.
   pub rows-enough : {m : ℕ} → g .vertices * k ≤ m → p * k ≤ m

@@ -12,7 +12,6 @@ use Rattle.lists.specs.Sort.{rise}
 use Rattle.lists.proofs.Places.{at-place}
 use Rattle.lists.proofs.Put.{put-count, put-taken, put-fits, put-length, only-first-length}
 use Rattle.graph.specs.Graph.{Graph}
-use Rattle.graph.specs.Bytes.{graphOf}
 use Rattle.graph.specs.Valid.{Valid}
 use Rattle.rules.specs.Cover.{Tree}
 use Rattle.rules.specs.Grow.{grow}
@@ -36,8 +35,8 @@ use Rattle.rooted_parts.specs.Parts.{PiecesAsked}
 use Rattle.unions.proofs.PartsBetween.{between-lefts}
 
 -- The trees of the whole forest can be split.
-pub can-split : {b roots : List ℕ} {limit : ℕ} {bounds arcs starts cuts flat lefts places : List ℕ} {n : ℕ}
-    → PiecesAsked b roots limit bounds arcs (arraysOf starts cuts flat lefts places) → n ≡ graphOf b .vertices → Splittable n bounds arcs roots (lent starts cuts flat lefts)
+pub can-split : {g : Graph} {roots : List ℕ} {limit : ℕ} {bounds arcs starts cuts flat lefts places : List ℕ} {n : ℕ}
+    → PiecesAsked g roots limit bounds arcs (arraysOf starts cuts flat lefts places) → n ≡ g .vertices → Splittable n bounds arcs roots (lent starts cuts flat lefts)
 can-split {bounds = bounds} {arcs = arcs} asked q =
     record {
       around = subst (λ m. Arcs m bounds arcs) (sym q) (asked .around .sound);
@@ -49,13 +48,10 @@ can-split {bounds = bounds} {arcs = arcs} asked q =
       lefts-room = asked .lefts-room;
     }
 
-module _ {b roots : List ℕ} {limit : ℕ} {bounds arcs starts cuts flat lefts places : List ℕ}
-    (asked : PiecesAsked b roots limit bounds arcs (arraysOf starts cuts flat lefts places))
-    {starts′ cuts′ flat′ lefts′ : List ℕ} {n r : ℕ} (n-is : n ≡ graphOf b .vertices)
+module _ {g : Graph} {roots : List ℕ} {limit : ℕ} {bounds arcs starts cuts flat lefts places : List ℕ}
+    (asked : PiecesAsked g roots limit bounds arcs (arraysOf starts cuts flat lefts places))
+    {starts′ cuts′ flat′ lefts′ : List ℕ} {n r : ℕ} (n-is : n ≡ g .vertices)
     (x : ForestSplit n bounds arcs roots limit (lent starts cuts flat lefts) (lent starts′ cuts′ flat′ lefts′) r) where
-  abbrev g : Graph
-  g = graphOf b
-
   -- The edges of the whole forest, and what its trees are split into: the trial's pieces.
   abbrev edges : List ℕ
   edges = rise (keep g (together roots) (ordered g))

@@ -10,7 +10,6 @@ use Rattle.lists.specs.Lists.{any}
 use Rattle.lists.proofs.Places.{at-place}
 use Rattle.lists.proofs.Put.{only-first-length}
 use Rattle.graph.specs.Graph.{Graph}
-use Rattle.graph.specs.Bytes.{graphOf}
 use Rattle.rules.specs.Cover.{Tree}
 use Rattle.rules.specs.Distance.{treeVertices, reachesPart}
 use Rattle.rules.specs.Held.{treeAt}
@@ -23,18 +22,15 @@ use Rattle.rooted_state.proofs.NearMeansMayGo.{tree-reaches, reaches-risen}
 use Rattle.rooted_state.proofs.PlacedPieces.{parts-count, part-is, start-in}
 use Rattle.rooted_parts.proofs.PartsAssembled.{many}
 
-module _ {b roots : List ℕ} {limit : ℕ} {table starts cuts flat places : List ℕ} {p : ℕ} {words : List ℕ}
-    (a : WordsAsked b roots limit table starts cuts flat places p words) where
-  abbrev g : Graph
-  g = graphOf b
-
+module _ {g : Graph} {roots : List ℕ} {limit : ℕ} {table starts cuts flat places : List ℕ} {p : ℕ} {words : List ℕ}
+    (a : WordsAsked g roots limit table starts cuts flat places p words) where
   -- What is asked for the words of the parts.
-  pub near-pieces-asked : {near : List ℕ} → 256 ≤ length near → NearPiecesAsked b near starts cuts flat (take p places) words
+  pub near-pieces-asked : {near : List ℕ} → 256 ≤ length near → NearPiecesAsked g near starts cuts flat (take p places) words
   near-pieces-asked room =
-      let graph = a .held .ready .given .graph in
+      let valid = a .held .ready .given .valid in
       let placed = a .held .placed in
       record {
-        given = record { graph = graph; room = omega (arith, graph .valid .vertices-most) };
+        given = record { valid = valid; room = omega (arith, valid .vertices-most) };
         trees = λ i h. let m = at-place 0 (take p places) i h in record { held = placed .parts-held _ m; start-inside = placed .starts-inside _ m };
         words-room = rw (many (a .held)) (a .words-room);
       }
@@ -57,6 +53,6 @@ module _ {b roots : List ℕ} {limit : ℕ} {table starts cuts flat places : Lis
           let same : getD (take p places) i 0 ≡ c = getD-take p places i 0 h in
           pieces .each i (omega (arith, many (a .held))) .each j
           ∙ ap (λ x. any (λ v. bitAt j (getD near v 0)) (treeVertices g (treeAt starts cuts flat x))) same
-          ∙ tree-reaches (a .held .ready .given .graph .valid) limit root (λ v. bitAt j (getD near v 0)) (λ v m. vertices .each v j m l) t (start-in (a .held .placed) i h)
+          ∙ tree-reaches (a .held .ready .given .valid) limit root (λ v. bitAt j (getD near v 0)) (λ v m. vertices .each v j m l) t (start-in (a .held .placed) i h)
           ∙ reaches-risen g limit root t
           ∙ ap (reachesPart g limit root) (sym (part-is (a .held .placed) i h))

@@ -10,7 +10,6 @@ use lib.Seq.{getD-take, length-take-le}
 use Rattle.lists.proofs.OnlyFirst.{only-front}
 use Rattle.lists.proofs.Zeros.{zeros-at}
 use Rattle.graph.specs.Graph.{Graph}
-use Rattle.graph.specs.Bytes.{graphOf}
 use Rattle.distance_table.specs.Tabled.{distanceIn}
 use Rattle.near.specs.Bits.{bitAt}
 use Rattle.near.specs.Vertices.{NearAsked, NearVertices}
@@ -19,18 +18,15 @@ use Rattle.rooted_parts.specs.Near.{WithinAsked, WithinDone}
 use Rattle.rooted_state.proofs.NearMeansMayGo.{says-within}
 
 -- 256 words of zero are enough.
-pub within-asked : {b roots : List ℕ} {limit : ℕ} {table : List ℕ} → LimitReady b roots limit table → WithinAsked b roots limit table (replicate 256 0)
+pub within-asked : {g : Graph} {roots : List ℕ} {limit : ℕ} {table : List ℕ} → LimitReady g roots limit table → WithinAsked g roots limit table (replicate 256 0)
 within-asked ready =
     record {
       ready = ready;
-      room = omega (arith, ready .given .graph .valid .vertices-most, length-replicate {A = ℕ} 256 0);
+      room = omega (arith, ready .given .valid .vertices-most, length-replicate {A = ℕ} 256 0);
       zeros = λ v _. zeros-at 256 v;
     }
 
-module _ {b roots : List ℕ} {limit : ℕ} {table words : List ℕ} (a : WithinAsked b roots limit table words) where
-  abbrev g : Graph
-  g = graphOf b
-
+module _ {g : Graph} {roots : List ℕ} {limit : ℕ} {table words : List ℕ} (a : WithinAsked g roots limit table words) where
   -- The words of the vertices are lent, which stand first.
   module _ (n : ℕ) (n-is : n ≡ g .vertices) where
     pub lent : length (take n words) ≡ n

@@ -7,16 +7,15 @@ use mathlib.Core.Option.{none}
 use lib.ListN.{length, getD}
 use Rattle.lists.specs.Put.{OnlyFirst}
 use Rattle.graph.specs.Graph.{Graph}
-use Rattle.graph.specs.Bytes.{graphOf}
 use Rattle.rules.specs.Distance.{distances, isWithin}
 use Rattle.rules.specs.RootedTrial.{rootedParts, mayGo}
 use Rattle.near.specs.Bits.{bitAt}
 use Rattle.rooted_state.specs.Prepared.{LimitReady}
 
 -- What is asked for the words of the vertices: the distances from the roots at a limit, and a word of zero for each vertex.
-pub record WithinAsked (b roots : List ℕ) (limit : ℕ) (table words : List ℕ) : Type 0 where
-  pub ready : LimitReady b roots limit table
-  pub room : graphOf b .vertices ≤ length words
+pub record WithinAsked (g : Graph) (roots : List ℕ) (limit : ℕ) (table words : List ℕ) : Type 0 where
+  pub ready : LimitReady g roots limit table
+  pub room : g .vertices ≤ length words
   pub zeros : (v : ℕ) → v < length words → getD words v 0 ≡ 0
 
 -- The word of each vertex has the roots whose distance to it is at most the limit.

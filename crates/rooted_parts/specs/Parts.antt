@@ -8,7 +8,7 @@ use mathlib.Core.Option.{none}
 use lib.ListN.{length, getD, take}
 use Rattle.lists.specs.Count.{below}
 use Rattle.lists.specs.Put.{OnlyFirst}
-use Rattle.graph.specs.Bytes.{graphOf}
+use Rattle.graph.specs.Graph.{Graph}
 use Rattle.matching.specs.Assignment.{IsAssignment, IsDeficient}
 use Rattle.matching.specs.Assignable.{assignable}
 use Rattle.matching.specs.Input.{allowedAt}
@@ -17,15 +17,15 @@ use Rattle.rooted_state.specs.Prepared.{RootsGiven, WholeAround, LimitReady}
 use Rattle.rooted_state.specs.Placed.{PieceArrays, arraysOf, PiecesPlaced}
 
 -- What is asked for the pieces: the arcs of the whole forest, which joins every vertex to a root within the limit; and room.
-pub record PiecesAsked (b roots : List ℕ) (limit : ℕ) (bounds arcs : List ℕ) (a : PieceArrays) : Type 0 where
-  pub given : RootsGiven b roots
-  pub around : WholeAround b roots bounds arcs
-  pub joined : unjoinedAt (graphOf b) roots limit ≡ none
-  pub starts-room : graphOf b .vertices + length roots ≤ length (a .starts)
-  pub cuts-room : graphOf b .vertices + length roots < length (a .cuts)
-  pub flat-room : graphOf b .vertices ≤ length (a .flat)
+pub record PiecesAsked (g : Graph) (roots : List ℕ) (limit : ℕ) (bounds arcs : List ℕ) (a : PieceArrays) : Type 0 where
+  pub given : RootsGiven g roots
+  pub around : WholeAround g roots bounds arcs
+  pub joined : unjoinedAt g roots limit ≡ none
+  pub starts-room : g .vertices + length roots ≤ length (a .starts)
+  pub cuts-room : g .vertices + length roots < length (a .cuts)
+  pub flat-room : g .vertices ≤ length (a .flat)
   pub lefts-room : length roots ≤ length (a .lefts)
-  pub places-room : graphOf b .vertices ≤ length (a .places)
+  pub places-room : g .vertices ≤ length (a .places)
 
 -- What an assignment that is not refused asks: at most 255 parts, 1 to 32 roots, a byte of 0 or 1 for each part and root, and room.
 pub record AssignAsked (p k : ℕ) (rows out : List ℕ) : Type 0 where
@@ -44,26 +44,26 @@ pub record AssignDone (p k : ℕ) (rows before after : List ℕ) (r : Bool) : Ty
   pub rest : OnlyFirst p before after
 
 -- The parts of a trial stand in the arrays, beside the distances from all roots.
-pub record PartsHeld (b roots : List ℕ) (limit : ℕ) (table starts cuts flat places : List ℕ) (parts : ℕ) : Type 0 where
-  pub ready : LimitReady b roots limit table
+pub record PartsHeld (g : Graph) (roots : List ℕ) (limit : ℕ) (table starts cuts flat places : List ℕ) (parts : ℕ) : Type 0 where
+  pub ready : LimitReady g roots limit table
   pub lefts : List ℕ
-  pub placed : PiecesPlaced (graphOf b) roots limit (arraysOf starts cuts flat lefts places) parts
+  pub placed : PiecesPlaced g roots limit (arraysOf starts cuts flat lefts places) parts
 
 -- What marking the roots near them asks besides: a word for each part.
-pub record WordsAsked (b roots : List ℕ) (limit : ℕ) (table starts cuts flat places : List ℕ) (parts : ℕ) (words : List ℕ) : Type 0 where
-  pub held : PartsHeld b roots limit table starts cuts flat places parts
+pub record WordsAsked (g : Graph) (roots : List ℕ) (limit : ℕ) (table starts cuts flat places : List ℕ) (parts : ℕ) (words : List ℕ) : Type 0 where
+  pub held : PartsHeld g roots limit table starts cuts flat places parts
   pub words-room : parts ≤ length words
 
 -- What making their rows and assigning them asks besides: room for a row for each part, and a byte for each.
-pub record RowsAsked (b roots : List ℕ) (limit : ℕ) (table starts cuts flat places : List ℕ) (parts : ℕ) (rows out : List ℕ) : Type 0 where
-  pub held : PartsHeld b roots limit table starts cuts flat places parts
+pub record RowsAsked (g : Graph) (roots : List ℕ) (limit : ℕ) (table starts cuts flat places : List ℕ) (parts : ℕ) (rows out : List ℕ) : Type 0 where
+  pub held : PartsHeld g roots limit table starts cuts flat places parts
   pub rows-room : parts * length roots ≤ length rows
   pub out-room : parts ≤ length out
 
 -- What placing the parts asks besides the pieces: the distances from all roots, a limit no larger than document 01 has it, room for a row for each
 -- part, and a byte for each.
-pub record PartsAsked (b roots : List ℕ) (limit : ℕ) (bounds arcs table : List ℕ) (a : PieceArrays) (rows out : List ℕ) : Type 0 where
-  pub pieces : PiecesAsked b roots limit bounds arcs a
-  pub ready : LimitReady b roots limit table
-  pub rows-room : graphOf b .vertices * length roots ≤ length rows
-  pub out-room : graphOf b .vertices ≤ length out
+pub record PartsAsked (g : Graph) (roots : List ℕ) (limit : ℕ) (bounds arcs table : List ℕ) (a : PieceArrays) (rows out : List ℕ) : Type 0 where
+  pub pieces : PiecesAsked g roots limit bounds arcs a
+  pub ready : LimitReady g roots limit table
+  pub rows-room : g .vertices * length roots ≤ length rows
+  pub out-room : g .vertices ≤ length out

@@ -31,7 +31,7 @@ fn place_pieces(
     lefts: &mut [u16],
     places: &mut [u16],
 ) -> usize
-    requires { ⌜ PiecesAsked (now b) (now roots) limit (now bounds) (now arcs) (arraysOf (now starts) (now cuts) (now flat) (now lefts) (now places)) ⌝ }
+    requires { ⌜ PiecesAsked (graphOf (now b)) (now roots) limit (now bounds) (now arcs) (arraysOf (now starts) (now cuts) (now flat) (now lefts) (now places)) ⌝ }
     ensures { λ r. ⌜ PiecesPlaced (graphOf (now (b .entry))) (now (roots .entry)) limit
         (arraysOf (now (starts .exit)) (now (cuts .exit)) (now (flat .exit)) (now (lefts .exit)) (now (places .exit))) r ⌝ }
 {
@@ -66,7 +66,7 @@ fn pieces_near(
     parts: usize,
     words: &mut [u32],
 )
-    requires { ⌜ WordsAsked (now b) (now roots) limit (now table) (now starts) (now cuts) (now flat) (now places) parts (now words) ⌝ }
+    requires { ⌜ WordsAsked (graphOf (now b)) (now roots) limit (now table) (now starts) (now cuts) (now flat) (now places) parts (now words) ⌝ }
     ensures { λ _. ⌜ PartsNear (graphOf (now (b .entry))) (now (roots .entry)) limit (now (words .exit)) parts ⌝ }
 {
     let mut near = [0u32; 256];
@@ -88,7 +88,7 @@ fn assign_parts(
     rows: &mut [u8],
     out: &mut [u8],
 ) -> bool
-    requires { ⌜ RowsAsked (now b) (now roots) limit (now table) (now starts) (now cuts) (now flat) (now places) parts (now rows) (now out) ⌝ }
+    requires { ⌜ RowsAsked (graphOf (now b)) (now roots) limit (now table) (now starts) (now cuts) (now flat) (now places) parts (now rows) (now out) ⌝ }
     ensures { λ r. ⌜ RowsAssigned (graphOf (now (b .entry))) (now (roots .entry)) limit parts (now (rows .exit)) (now (out .exit)) r ⌝ }
 {
     let mut words = [0u32; 256];
@@ -127,7 +127,7 @@ pub fn place_parts(
     rows: &mut [u8],
     out: &mut [u8],
 ) -> Placed
-    requires { ⌜ PartsAsked (now b) (now roots) limit (now bounds) (now arcs) (now table)
+    requires { ⌜ PartsAsked (graphOf (now b)) (now roots) limit (now bounds) (now arcs) (now table)
         (arraysOf (now starts) (now cuts) (now flat) (now lefts) (now places)) (now rows) (now out) ⌝ }
     ensures { λ r. ⌜ PartsPlaced (graphOf (now (b .entry))) (now (roots .entry)) limit
         (trialArrays (now (starts .exit)) (now (cuts .exit)) (now (flat .exit)) (now (lefts .exit)) (now (places .exit)) (now (rows .exit)) (now (out .exit)))

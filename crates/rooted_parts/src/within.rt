@@ -5,7 +5,7 @@ ghost use Rattle.rooted_parts.specs.Near.{WithinAsked, WithinDone};
 
 // For each vertex a word, whose bit j says whether root j is within the limit of it. The words come as zeros.
 pub fn roots_within(b: &[u8], roots: &[u16], limit: u64, table: &[u32], words: &mut [u32])
-    requires { ⌜ WithinAsked (now b) (now roots) limit (now table) (now words) ⌝ }
+    requires { ⌜ WithinAsked (graphOf (now b)) (now roots) limit (now table) (now words) ⌝ }
     ensures { λ _. ⌜ WithinDone (graphOf (now (b .entry))) (now (roots .entry)) limit (now (words .entry)) (now (words .exit)) ⌝ }
 {
     let n = graph::vertex_count(b);

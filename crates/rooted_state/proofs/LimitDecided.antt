@@ -27,10 +27,10 @@ use Rattle.rooted_state.specs.Prepared.{RootsGiven}
 use Rattle.rooted_state.proofs.RootsReady.{roots-inside}
 
 -- A label for each of 256 vertices is enough to look for a vertex joined to no root.
-pub stop-asked : {b roots : List ℕ} → RootsGiven b roots → StopAsked b roots (replicate 256 0)
+pub stop-asked : {g : Graph} {roots : List ℕ} → RootsGiven g roots → StopAsked g roots (replicate 256 0)
 stop-asked given =
     record {
-      labelable = record { graph = given .graph; room = omega (arith, given .graph .valid .vertices-most, length-replicate {A = ℕ} 256 0) };
+      labelable = record { valid = given .valid; room = omega (arith, given .valid .vertices-most, length-replicate {A = ℕ} 256 0) };
       roots-some = given .some;
       roots-inside = roots-inside given;
     }

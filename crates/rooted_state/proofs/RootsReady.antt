@@ -4,11 +4,11 @@ use Prim.Native.Nat.{ℕ, _<_}
 use mathlib.Core.List.{List}
 use Rattle.lists.specs.Member.{_∈_}
 use Rattle.lists.proofs.Places.{place-of}
-use Rattle.graph.specs.Bytes.{graphOf}
+use Rattle.graph.specs.Graph.{Graph}
 use Rattle.rooted_state.specs.Prepared.{RootsGiven, LimitReady, TrialAsked}
 
-pub roots-inside : {b roots : List ℕ} → RootsGiven b roots → (r : ℕ) → r ∈ roots → r < graphOf b .vertices
+pub roots-inside : {g : Graph} {roots : List ℕ} → RootsGiven g roots → (r : ℕ) → r ∈ roots → r < g .vertices
 roots-inside given r m = let (j, h, q) = place-of 0 m in rw q at (given .inside j h)
 
-pub limit-ready : {b roots : List ℕ} {limit : ℕ} {kept table : List ℕ} → TrialAsked b roots limit kept table → LimitReady b roots limit table
+pub limit-ready : {g : Graph} {roots : List ℕ} {limit : ℕ} {kept table : List ℕ} → TrialAsked g roots limit kept table → LimitReady g roots limit table
 limit-ready a = record { given = a .decidable .given; distances = a .decidable .distances; limit-most = a .limit-most }

@@ -10,7 +10,6 @@ use Rattle.lists.specs.Member.{_∈_}
 use Rattle.lists.specs.Segments.{segment}
 use Rattle.lists.specs.Sort.{rise}
 use Rattle.graph.specs.Graph.{Graph}
-use Rattle.graph.specs.Bytes.{graphOf}
 use Rattle.matching.specs.Assignment.{IsAssignment, IsDeficient}
 use Rattle.matching.specs.Input.{allowedAt}
 use Rattle.rules.specs.Held.{treesAt, risen}
@@ -65,9 +64,9 @@ pub record PartsPlaced (g : Graph) (roots : List ℕ) (limit : ℕ) (a : TrialAr
 
 -- What a cover is made by, beside the parts: the edges in order, the distances from the roots with their last edges, a limit, for each root room for
 -- an edge of each vertex, and a large buffer.
-pub record CoverReady (b roots : List ℕ) (limit : ℕ) (order table lasts : List ℕ) (edges-room room : ℕ) : Type 0 where
-  pub ready : LimitReady b roots limit table
-  pub in-order : order ≡ ordered (graphOf b)
-  pub last-edges : LastsTabled (graphOf b) roots table lasts
-  pub edges-fit : length roots * graphOf b .vertices ≤ edges-room
+pub record CoverReady (g : Graph) (roots : List ℕ) (limit : ℕ) (order table lasts : List ℕ) (edges-room room : ℕ) : Type 0 where
+  pub ready : LimitReady g roots limit table
+  pub in-order : order ≡ ordered g
+  pub last-edges : LastsTabled g roots table lasts
+  pub edges-fit : length roots * g .vertices ≤ edges-room
   pub most : 32708 ≤ room

@@ -7,8 +7,8 @@ use mathlib.Core.List.{List}
 use mathlib.Core.Option.{none}
 use lib.ListN.{length, getD}
 use Rattle.lists.specs.Sort.{rise}
-use Rattle.graph.specs.Bytes.{graphOf}
-use Rattle.graph.specs.Valid.{IsGraph}
+use Rattle.graph.specs.Graph.{Graph}
+use Rattle.graph.specs.Valid.{Valid}
 use Rattle.rules.specs.Order.{ordered}
 use Rattle.rules.specs.Labels.{together}
 use Rattle.rules.specs.Forest.{keep}
@@ -17,46 +17,46 @@ use Rattle.edges.specs.Around.{Around}
 use Rattle.steps.specs.WalkPut.{TreeSteps}
 use Rattle.distance_table.specs.Tabled.{DistancesTabled, LastsTabled}
 
--- A graph's bytes, and roots among its vertices, at least one and at most 32.
-pub record RootsGiven (b roots : List ℕ) : Type 0 where
-  pub graph : IsGraph b
-  pub inside : (j : ℕ) → j < length roots → getD roots j 0 < graphOf b .vertices
+-- A valid graph, and roots among its vertices, at least one and at most 32.
+pub record RootsGiven (g : Graph) (roots : List ℕ) : Type 0 where
+  pub valid : Valid g
+  pub inside : (j : ℕ) → j < length roots → getD roots j 0 < g .vertices
   pub some : 1 ≤ length roots
   pub few : length roots ≤ 32
 
 -- What deciding a limit takes, beside a walk: the roots, the whole forest by weight, and the distances from the roots.
-pub record Decidable (b roots kept table : List ℕ) : Type 0 where
-  pub given : RootsGiven b roots
-  pub forest : kept ≡ keep (graphOf b) (together roots) (ordered (graphOf b))
-  pub distances : DistancesTabled (graphOf b) roots table
+pub record Decidable (g : Graph) (roots kept table : List ℕ) : Type 0 where
+  pub given : RootsGiven g roots
+  pub forest : kept ≡ keep g (together roots) (ordered g)
+  pub distances : DistancesTabled g roots table
 
 -- The edges around each vertex over the whole forest.
-abbrev pub WholeAround : List ℕ → List ℕ → List ℕ → List ℕ → Type 0
-WholeAround b roots bounds arcs = Around (graphOf b) (rise (keep (graphOf b) (together roots) (ordered (graphOf b)))) bounds arcs
+abbrev pub WholeAround : Graph → List ℕ → List ℕ → List ℕ → Type 0
+WholeAround g roots bounds arcs = Around g (rise (keep g (together roots) (ordered g))) bounds arcs
 
 -- The walk of the whole forest's trees, by which every limit's parts are counted, and their vertices passed.
-abbrev pub WholeWalked : List ℕ → List ℕ → List ℕ → Type 0
-WholeWalked b roots walk = TreeSteps (graphOf b) (rise (keep (graphOf b) (together roots) (ordered (graphOf b)))) roots walk
+abbrev pub WholeWalked : Graph → List ℕ → List ℕ → Type 0
+WholeWalked g roots walk = TreeSteps g (rise (keep g (together roots) (ordered g))) roots walk
 
 -- What writing an answer takes besides: the edges around each vertex, all edges in order, and the last edges of the shortest paths.
-pub record Prepared (b roots order kept bounds arcs table lasts : List ℕ) : Type 0 where
-  pub decidable : Decidable b roots kept table
-  pub around : WholeAround b roots bounds arcs
-  pub in-order : order ≡ ordered (graphOf b)
-  pub last-edges : LastsTabled (graphOf b) roots table lasts
+pub record Prepared (g : Graph) (roots order kept bounds arcs table lasts : List ℕ) : Type 0 where
+  pub decidable : Decidable g roots kept table
+  pub around : WholeAround g roots bounds arcs
+  pub in-order : order ≡ ordered g
+  pub last-edges : LastsTabled g roots table lasts
 
 -- The distances from the roots, and a limit no larger than document 01 has it.
-pub record LimitReady (b roots : List ℕ) (limit : ℕ) (table : List ℕ) : Type 0 where
-  pub given : RootsGiven b roots
-  pub distances : DistancesTabled (graphOf b) roots table
+pub record LimitReady (g : Graph) (roots : List ℕ) (limit : ℕ) (table : List ℕ) : Type 0 where
+  pub given : RootsGiven g roots
+  pub distances : DistancesTabled g roots table
   pub limit-most : limit ≤ 2048000000
 
 -- What a trial at a limit asks: what is prepared, and a limit no larger than document 01 has it.
-pub record TrialAsked (b roots : List ℕ) (limit : ℕ) (kept table : List ℕ) : Type 0 where
-  pub decidable : Decidable b roots kept table
+pub record TrialAsked (g : Graph) (roots : List ℕ) (limit : ℕ) (kept table : List ℕ) : Type 0 where
+  pub decidable : Decidable g roots kept table
   pub limit-most : limit ≤ 2048000000
 
 -- What a trial asks for its parts: the edges within the limit join every vertex to a root.
-pub record PartsReady (b roots : List ℕ) (limit : ℕ) (table : List ℕ) : Type 0 where
-  pub asked : TrialAsked b roots limit (keep (graphOf b) (together roots) (ordered (graphOf b))) table
-  pub joined : unjoinedAt (graphOf b) roots limit ≡ none
+pub record PartsReady (g : Graph) (roots : List ℕ) (limit : ℕ) (table : List ℕ) : Type 0 where
+  pub asked : TrialAsked g roots limit (keep g (together roots) (ordered g)) table
+  pub joined : unjoinedAt g roots limit ≡ none

@@ -4,6 +4,7 @@ use Prim.Native.Nat.{ℕ}
 use mathlib.Core.Path.{_≡_}
 use mathlib.Core.List.{List}
 use native.Mathlib.Omega.{arith}
+use Rattle.graph.specs.Graph.{Graph}
 use Rattle.cover.specs.declared.crews.Kind.{Kind}
 use Rattle.cover.specs.declared.crews.Kind.the-variants.{Rooted, Unrooted}
 use Rattle.rooted_decide.specs.Decide.{RootedDecisionAsked}
@@ -14,8 +15,8 @@ pub one-kind : {kind : Kind} → kind ≡ Rooted → kind ≡ Unrooted → ⊥
 one-kind {kind} p q = let z : _≡_ {A = ℕ} 0 1 = cc in omega arith
 
 -- What a decision by crews with roots asks.
-pub rooted-decision : {kind : Kind} {k limit : ℕ} {b roots kept table total until walk : List ℕ}
-    → DecisionAsked kind k b roots limit kept table total until walk → kind ≡ Rooted → RootedDecisionAsked b roots limit kept table walk
+pub rooted-decision : {kind : Kind} {k limit : ℕ} {g : Graph} {roots kept table total until walk : List ℕ}
+    → DecisionAsked kind k g roots limit kept table total until walk → kind ≡ Rooted → RootedDecisionAsked g roots limit kept table walk
 rooted-decision {kind} a q =
     let same : kind ≡ Rooted = q in
     record {

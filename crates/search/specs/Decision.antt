@@ -4,7 +4,7 @@ use Prim.Native.Nat.{ℕ, _≤_}
 use mathlib.Core.Path.{_≡_}
 use mathlib.Core.Bool.{false}
 use mathlib.Core.List.{List}
-use Rattle.graph.specs.Bytes.{graphOf}
+use Rattle.graph.specs.Graph.{Graph}
 use Rattle.rules.specs.Search.{noCover}
 use Rattle.cover.specs.declared.crews.Kind.{Kind}
 use Rattle.cover.specs.declared.crews.Kind.the-variants.{Rooted}
@@ -12,12 +12,12 @@ use Rattle.rooted_state.specs.Prepared.{WholeWalked}
 use Rattle.prepare.specs.Crews.{crewsWith, CrewsReady}
 
 -- What every decision of a search takes: what is prepared, and that the crews have some cover.
-pub record CrewsPrepared (kind : Kind) (k : ℕ) (b roots kept table total until : List ℕ) : Type 0 where
-  pub ready : CrewsReady kind b roots kept table total until
-  pub some-cover : noCover (graphOf b) (crewsWith kind k roots) ≡ false
+pub record CrewsPrepared (kind : Kind) (k : ℕ) (g : Graph) (roots kept table total until : List ℕ) : Type 0 where
+  pub ready : CrewsReady kind g roots kept table total until
+  pub some-cover : noCover g (crewsWith kind k roots) ≡ false
 
 -- The same, with the walk of the whole forest's trees, which crews with roots read, and a limit within document 01's range.
-pub record DecisionAsked (kind : Kind) (k : ℕ) (b roots : List ℕ) (limit : ℕ) (kept table total until walk : List ℕ) : Type 0 where
-  pub crews : CrewsPrepared kind k b roots kept table total until
-  pub walked : kind ≡ Rooted → WholeWalked b roots walk
+pub record DecisionAsked (kind : Kind) (k : ℕ) (g : Graph) (roots : List ℕ) (limit : ℕ) (kept table total until walk : List ℕ) : Type 0 where
+  pub crews : CrewsPrepared kind k g roots kept table total until
+  pub walked : kind ≡ Rooted → WholeWalked g roots walk
   pub limit-most : limit ≤ 2048000000

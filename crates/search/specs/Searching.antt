@@ -5,7 +5,6 @@ use mathlib.Core.Path.{_≡_}
 use mathlib.Core.List.{List}
 use lib.ListN.{length, take}
 use Rattle.graph.specs.Graph.{Graph}
-use Rattle.graph.specs.Bytes.{graphOf}
 use Rattle.rules.specs.Cover as cover
 use Rattle.rules.specs.Order.{ordered}
 use Rattle.rules.specs.Search.{accepts, Bounds, searched}
@@ -23,30 +22,30 @@ abbrev pub searchEnd : Graph → cover.Crews → ℕ → ℕ → ℕ
 searchEnd g crews sum budget = searched (accepts g crews) budget (between 0 sum) .high
 
 -- What the search asks: prepared crews, the walk of the whole forest's trees, and a sum within document 01's range.
-pub record SearchAsked (kind : Kind) (k : ℕ) (b roots kept table total until walk : List ℕ) (sum : ℕ) : Type 0 where
-  pub crews : CrewsPrepared kind k b roots kept table total until
-  pub walked : kind ≡ Rooted → WholeWalked b roots walk
+pub record SearchAsked (kind : Kind) (k : ℕ) (g : Graph) (roots kept table total until walk : List ℕ) (sum : ℕ) : Type 0 where
+  pub crews : CrewsPrepared kind k g roots kept table total until
+  pub walked : kind ≡ Rooted → WholeWalked g roots walk
   pub sum-most : sum ≤ 2048000000
 
 -- What the best limit by the walk asks: the edges in order, by which the sum is taken.
-pub record WalkedAsked (kind : Kind) (k : ℕ) (b roots order kept table total until walk : List ℕ) : Type 0 where
-  pub crews : CrewsPrepared kind k b roots kept table total until
-  pub in-order : order ≡ ordered (graphOf b)
-  pub walked : kind ≡ Rooted → WholeWalked b roots walk
+pub record WalkedAsked (kind : Kind) (k : ℕ) (g : Graph) (roots order kept table total until walk : List ℕ) : Type 0 where
+  pub crews : CrewsPrepared kind k g roots kept table total until
+  pub in-order : order ≡ ordered g
+  pub walked : kind ≡ Rooted → WholeWalked g roots walk
 
 -- What the best limit asks where no walk is written yet: for crews with roots the edges around each vertex of the whole forest.
-pub record BestAsked (kind : Kind) (k : ℕ) (b roots order kept bounds arcs table total until : List ℕ) : Type 0 where
-  pub crews : CrewsPrepared kind k b roots kept table total until
-  pub in-order : order ≡ ordered (graphOf b)
-  pub around : kind ≡ Rooted → WholeAround b roots bounds arcs
+pub record BestAsked (kind : Kind) (k : ℕ) (g : Graph) (roots order kept bounds arcs table total until : List ℕ) : Type 0 where
+  pub crews : CrewsPrepared kind k g roots kept table total until
+  pub in-order : order ≡ ordered g
+  pub around : kind ≡ Rooted → WholeAround g roots bounds arcs
 
 -- What writing the walk asks: where crews have roots, the edges around each vertex of the whole forest; and a place for each vertex.
-pub record WalkGiven (kind : Kind) (b roots bounds arcs walk : List ℕ) : Type 0 where
-  pub given : kind ≡ Rooted → RootsGiven b roots
-  pub around : kind ≡ Rooted → WholeAround b roots bounds arcs
+pub record WalkGiven (kind : Kind) (g : Graph) (roots bounds arcs walk : List ℕ) : Type 0 where
+  pub given : kind ≡ Rooted → RootsGiven g roots
+  pub around : kind ≡ Rooted → WholeAround g roots bounds arcs
   pub room : length walk ≡ 256
 
 -- The first r elements are the walk of the whole forest's trees, where crews have roots.
-pub record WalkFor (kind : Kind) (b roots walk : List ℕ) (r : ℕ) : Type 0 where
+pub record WalkFor (kind : Kind) (g : Graph) (roots walk : List ℕ) (r : ℕ) : Type 0 where
   pub fits : r ≤ length walk
-  pub walked : kind ≡ Rooted → WholeWalked b roots (take r walk)
+  pub walked : kind ≡ Rooted → WholeWalked g roots (take r walk)

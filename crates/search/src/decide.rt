@@ -21,7 +21,7 @@ pub(crate) fn accepts_at(
     until: &[u16],
     walk: &[u64],
 ) -> bool
-    requires { ⌜ DecisionAsked kind k (now b) (now roots) limit (now kept) (now table) (now total) (now until) (now walk) ⌝ }
+    requires { ⌜ DecisionAsked kind k (graphOf (now b)) (now roots) limit (now kept) (now table) (now total) (now until) (now walk) ⌝ }
     ensures { λ r. ⌜ r ≡ accepts (graphOf (now (b .entry))) (crewsWith kind k (now (roots .entry))) limit ⌝ }
 {
     match kind {

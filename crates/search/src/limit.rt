@@ -23,7 +23,7 @@ fn search(
     sum: u64,
     budget: usize,
 ) -> u64
-    requires { ⌜ SearchAsked kind k (now b) (now roots) (now kept) (now table) (now total) (now until) (now walk) sum ⌝ }
+    requires { ⌜ SearchAsked kind k (graphOf (now b)) (now roots) (now kept) (now table) (now total) (now until) (now walk) sum ⌝ }
     ensures { λ r. ⌜ r ≡ searchEnd (graphOf (now (b .entry))) (crewsWith kind k (now (roots .entry))) sum budget ⌝ }
 {
     let mut low = 0;
@@ -57,7 +57,7 @@ fn search_limit(
     until: &[u16],
     walk: &[u64],
 ) -> u64
-    requires { ⌜ WalkedAsked kind k (now b) (now roots) (now order) (now kept) (now table) (now total) (now until) (now walk) ⌝ }
+    requires { ⌜ WalkedAsked kind k (graphOf (now b)) (now roots) (now order) (now kept) (now table) (now total) (now until) (now walk) ⌝ }
     ensures { λ r. ⌜ r ≡ bestLimit (graphOf (now (b .entry))) (crewsWith kind k (now (roots .entry))) ⌝ }
 {
     if accepts_at(kind, k, b, roots, 0, kept, table, total, until, walk) {
@@ -76,8 +76,8 @@ fn write_walk(
     arcs: &[u64],
     walk: &mut [u64],
 ) -> usize
-    requires { ⌜ WalkGiven kind (now b) (now roots) (now bounds) (now arcs) (now walk) ⌝ }
-    ensures { λ r. ⌜ WalkFor kind (now (b .entry)) (now (roots .entry)) (now (walk .exit)) r ⌝ }
+    requires { ⌜ WalkGiven kind (graphOf (now b)) (now roots) (now bounds) (now arcs) (now walk) ⌝ }
+    ensures { λ r. ⌜ WalkFor kind (graphOf (now (b .entry))) (now (roots .entry)) (now (walk .exit)) r ⌝ }
 {
     match kind {
         Kind::Rooted => put_walk(graph::vertex_count(b), bounds, arcs, roots, walk),
@@ -99,7 +99,7 @@ pub fn best_limit(
     total: &[u64],
     until: &[u16],
 ) -> u64
-    requires { ⌜ BestAsked kind k (now b) (now roots) (now order) (now kept) (now bounds) (now arcs) (now table) (now total) (now until) ⌝ }
+    requires { ⌜ BestAsked kind k (graphOf (now b)) (now roots) (now order) (now kept) (now bounds) (now arcs) (now table) (now total) (now until) ⌝ }
     ensures { λ r. ⌜ r ≡ bestLimit (graphOf (now (b .entry))) (crewsWith kind k (now (roots .entry))) ⌝ }
 {
     let mut walk = [0u64; 256];

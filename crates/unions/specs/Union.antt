@@ -6,16 +6,15 @@ use lib.ListN.{length}
 use Rattle.lists.specs.Lists.{filter}
 use Rattle.lists.specs.Put.{PutTo}
 use Rattle.graph.specs.Graph.{Graph}
-use Rattle.graph.specs.Bytes.{graphOf}
-use Rattle.graph.specs.Valid.{IsGraph}
+use Rattle.graph.specs.Valid.{Valid}
 use Rattle.matching.specs.Assignment.{marked}
 use Rattle.rules.specs.Labels.{apart}
 use Rattle.rules.specs.Forest.{keep}
 
--- What keeping the edges of a union asks: the bytes are a graph's, and there is room for an edge of each vertex.
-pub record UnionGiven (b out : List ℕ) : Type 0 where
-  pub graph : IsGraph b
-  pub room : graphOf b .vertices ≤ length out
+-- What keeping the edges of a union asks: a valid graph, and room for an edge of each vertex.
+pub record UnionGiven (g : Graph) (out : List ℕ) : Type 0 where
+  pub valid : Valid g
+  pub room : g .vertices ≤ length out
 
 -- The marked edges of the order, "kept if their ends are not yet joined", were written, r of them.
 pub record UnionKept (g : Graph) (order marks before after : List ℕ) (r : ℕ) : Type 0 where

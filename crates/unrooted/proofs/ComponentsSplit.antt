@@ -10,7 +10,6 @@ use Rattle.lists.specs.Sort.{rise}
 use Rattle.lists.proofs.Put.{put-count, put-taken, put-fits, put-length, only-first-length}
 use Rattle.lists.proofs.Places.{at-place}
 use Rattle.graph.specs.Graph.{Graph, edgeCount}
-use Rattle.graph.specs.Bytes.{graphOf}
 use Rattle.rules.specs.Labels.{apart}
 use Rattle.rules.specs.Forest.{forest, labelsAt, lowest}
 use Rattle.rules.specs.UnrootedTrial.{components}
@@ -24,18 +23,15 @@ use Rattle.needs.specs.Roots.{RootsWritten}
 use Rattle.unrooted.specs.Unrooted.{SplitAsked, ComponentsSplit}
 
 -- The edges of the forest are the graph's, and fewer than its vertices.
-module _ {b edges : List ℕ} {limit : ℕ} (f : ForestGiven b edges limit) where
-  pub forest-edges-few : length edges < graphOf b .vertices
-  forest-edges-few = omega (arith, ap length (f .are), forest-few (f .graph .valid) apart limit)
+module _ {g : Graph} {edges : List ℕ} {limit : ℕ} (f : ForestGiven g edges limit) where
+  pub forest-edges-few : length edges < g .vertices
+  forest-edges-few = omega (arith, ap length (f .are), forest-few (f .valid) apart limit)
 
-  pub forest-edges-inside : (e : ℕ) → e ∈ edges → e < edgeCount (graphOf b)
-  forest-edges-inside e m = forest-light (graphOf b) apart limit e (rw (f .are) at m) .0
+  pub forest-edges-inside : (e : ℕ) → e ∈ edges → e < edgeCount g
+  forest-edges-inside e m = forest-light g apart limit e (rw (f .are) at m) .0
 
-module _ {b edges : List ℕ} {limit : ℕ} {starts cuts flat lefts roots₀ roots bounds₀ bounds arcs₀ arcs : List ℕ} {k n : ℕ} (a : SplitAsked b edges limit starts cuts flat lefts)
-    (w : RootsWritten (graphOf b) edges roots₀ roots k) (p : AroundPut (graphOf b) (rise edges) bounds₀ bounds arcs₀ arcs) (q : n ≡ graphOf b .vertices) where
-  abbrev g : Graph
-  g = graphOf b
-
+module _ {g : Graph} {edges : List ℕ} {limit : ℕ} {starts cuts flat lefts roots₀ roots bounds₀ bounds arcs₀ arcs : List ℕ} {k n : ℕ} (a : SplitAsked g edges limit starts cuts flat lefts)
+    (w : RootsWritten g edges roots₀ roots k) (p : AroundPut g (rise edges) bounds₀ bounds arcs₀ arcs) (q : n ≡ g .vertices) where
   abbrev lows : List ℕ
   lows = lowest g (labelsAt g apart limit)
 
@@ -46,7 +42,7 @@ module _ {b edges : List ℕ} {limit : ℕ} {starts cuts flat lefts roots₀ roo
   roots-count = put-count (w .at-limit limit (a .forest-given .are))
 
   small : n ≤ 256
-  small = omega (arith, q, a .forest-given .graph .valid .vertices-most)
+  small = omega (arith, q, a .forest-given .valid .vertices-most)
 
   -- What the splitting asks,
   pub splittable : Splittable n bounds arcs (take k roots) (lent starts cuts flat lefts)

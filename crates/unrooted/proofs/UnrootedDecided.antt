@@ -9,7 +9,6 @@ use lib.Dec.{leb, ltb}
 use borrow.Author.Tests.{le-leb, lt-leb}
 use Rattle.lists.proofs.PutPlaces.{put-at-front}
 use Rattle.graph.specs.Graph.{Graph}
-use Rattle.graph.specs.Bytes.{graphOf}
 use Rattle.rules.specs.Cover.{unrooted, heaviest}
 use Rattle.rules.specs.Order.{ordered}
 use Rattle.rules.specs.Labels.{apart, mergeAll}
@@ -28,15 +27,15 @@ use Rattle.unrooted.specs.declared.unrooted.Written.{Written}
 use Rattle.needs.proofs.WholeForest.{kept-apart, all-kept}
 use Rattle.needs.proofs.HistoryNeeds.{components-left}
 
-module _ {b kept : List ℕ} (f : ForestKept b kept) where
+module _ {g : Graph} {kept : List ℕ} (f : ForestKept g kept) where
   -- The components that the whole forest makes are those of all edges, so their number tells whether there is a cover.
-  pub none-at-all : (k : ℕ) {n : ℕ} → n ≡ graphOf b .vertices → ltb k (n - length kept) ≡ noCover (graphOf b) (unrooted k)
+  pub none-at-all : (k : ℕ) {n : ℕ} → n ≡ g .vertices → ltb k (n - length kept) ≡ noCover g (unrooted k)
   unfolding noCover
   none-at-all k count =
-      let g = graphOf b in
+      let g = g in
       let same : mergeAll g apart kept ≡ mergeAll g apart (ordered g) = ap (mergeAll g apart) (kept-apart f) ∙ kept-merges g apart (ordered g) in
       ap (λ n. ltb k (n - length kept)) count
-      ∙ ap (ltb k) (sym (components-left (f .graph .valid) (all-kept f)) ∙ ap (λ label. length (lowest g label)) same)
+      ∙ ap (ltb k) (sym (components-left (f .valid) (all-kept f)) ∙ ap (λ label. length (lowest g label)) same)
 
 -- "The sum C" decides.
 module _ (g : Graph) (k limit : ℕ) {C : ℕ} (sum : C ≡ needed g limit) where

@@ -6,7 +6,6 @@ use mathlib.Core.Path.{_≡_}
 use mathlib.Core.List.{List}
 use lib.ListN.{length, take}
 use Rattle.graph.specs.Graph.{Graph}
-use Rattle.graph.specs.Bytes.{graphOf}
 use Rattle.rules.specs.Labels.{apart}
 use Rattle.rules.specs.Forest.{forest}
 use Rattle.rules.specs.UnrootedTrial.{needed}
@@ -14,10 +13,10 @@ use Rattle.needs.specs.Given.{ForestKept}
 use Rattle.needs.specs.History.{HistoryKept}
 use Rattle.unrooted.specs.declared.answer.AtLimit.{AtLimit}
 
--- A graph's bytes, its whole forest, and the history of its merges.
-pub record HistoryReady (b kept total until : List ℕ) : Type 0 where
-  pub forest-kept : ForestKept b kept
-  pub history : HistoryKept (graphOf b) kept total until
+-- A valid graph, its whole forest, and the history of its merges.
+pub record HistoryReady (g : Graph) (kept total until : List ℕ) : Type 0 where
+  pub forest-kept : ForestKept g kept
+  pub history : HistoryKept g kept total until
 
 -- The front of the whole forest that is the forest at the limit, and "the sum C" there.
 pub record LimitKnown (g : Graph) (kept : List ℕ) (limit : ℕ) (r : AtLimit) : Type 0 where
@@ -26,8 +25,8 @@ pub record LimitKnown (g : Graph) (kept : List ℕ) (limit : ℕ) (r : AtLimit) 
   pub needs : r .trees ≡ needed g limit
 
 -- The same, crews and a limit that 21 and 22 do not refuse, and room for the bytes of any cover.
-pub record UnrootedAnswerAsked (b : List ℕ) (k limit : ℕ) (kept total until : List ℕ) (room : ℕ) : Type 0 where
-  pub ready : HistoryReady b kept total until
+pub record UnrootedAnswerAsked (g : Graph) (k limit : ℕ) (kept total until : List ℕ) (room : ℕ) : Type 0 where
+  pub ready : HistoryReady g kept total until
   pub crews-few : k ≤ 32
   pub limit-most : limit ≤ 2048000000
   pub enough : 32708 ≤ room

@@ -8,7 +8,6 @@ use Rattle.lists.specs.Count.{below}
 use Rattle.lists.specs.Put.{Put}
 use Rattle.lists.specs.Sort.{rise, sortBy}
 use Rattle.graph.specs.Graph.{Graph}
-use Rattle.graph.specs.Bytes.{graphOf}
 use Rattle.rules.specs.Cover.{heaviest}
 use Rattle.rules.specs.CoverBytes.{encode}
 use Rattle.rules.specs.Held.{treesAt, risen}
@@ -25,8 +24,8 @@ use Rattle.unrooted.specs.declared.unrooted.Split.{Split}
 use Rattle.unrooted.specs.declared.unrooted.Written.{Written}
 
 -- The forest at the limit, and room for the pieces of any.
-pub record SplitAsked (b edges : List ℕ) (limit : ℕ) (starts cuts flat lefts : List ℕ) : Type 0 where
-  pub forest-given : ForestGiven b edges limit
+pub record SplitAsked (g : Graph) (edges : List ℕ) (limit : ℕ) (starts cuts flat lefts : List ℕ) : Type 0 where
+  pub forest-given : ForestGiven g edges limit
   pub limit-most : limit ≤ 2048000000
   pub starts-room : 512 ≤ length starts
   pub cuts-room : 512 < length cuts
@@ -58,9 +57,9 @@ pub record TreesOrdered (g : Graph) (pieces : ℕ) (lefts starts₀ starts₁ cu
   pub room : t ≤ length chosen
 
 -- The forest at a limit whose components need at most 32 trees, and room for the bytes of any such cover.
-pub record UnrootedTreesAsked (b edges : List ℕ) (limit : ℕ) (buf : List ℕ) : Type 0 where
-  pub forest-given : ForestGiven b edges limit
-  pub needs-few : needed (graphOf b) limit ≤ 32
+pub record UnrootedTreesAsked (g : Graph) (edges : List ℕ) (limit : ℕ) (buf : List ℕ) : Type 0 where
+  pub forest-given : ForestGiven g edges limit
+  pub needs-few : needed g limit ≤ 32
   pub limit-most : limit ≤ 2048000000
   pub room : 32708 ≤ length buf
 

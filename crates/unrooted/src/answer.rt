@@ -21,7 +21,7 @@ pub struct AtLimit {
 
 // How many trees the components at the limit need ("the sum C"), and the edges of their forest: so many of the first.
 fn at_limit(b: &[u8], limit: u64, kept: &[u16], total: &[u64], until: &[u16]) -> AtLimit
-    requires { ⌜ HistoryReady (now b) (now kept) (now total) (now until) ⌝ }
+    requires { ⌜ HistoryReady (graphOf (now b)) (now kept) (now total) (now until) ⌝ }
     ensures { λ r. ⌜ LimitKnown (graphOf (now (b .entry))) (now (kept .entry)) limit r ⌝ }
 {
     let edges = light_forest(b, kept, limit);
@@ -39,7 +39,7 @@ pub fn answer_unrooted(
     until: &[u16],
     buf: &mut [u8],
 ) -> Reply
-    requires { ⌜ UnrootedAnswerAsked (now b) k limit (now kept) (now total) (now until) (length (now buf)) ⌝ }
+    requires { ⌜ UnrootedAnswerAsked (graphOf (now b)) k limit (now kept) (now total) (now until) (length (now buf)) ⌝ }
     ensures { λ r. ⌜ Answers (graphOf (now (b .entry))) (unrooted k) limit (now (buf .entry)) (now (buf .exit)) r ⌝ }
 {
     let at = at_limit(b, limit, kept, total, until);
@@ -60,7 +60,7 @@ pub fn accepts_unrooted(
     total: &[u64],
     until: &[u16],
 ) -> bool
-    requires { ⌜ HistoryReady (now b) (now kept) (now total) (now until) ⌝ }
+    requires { ⌜ HistoryReady (graphOf (now b)) (now kept) (now total) (now until) ⌝ }
     ensures { λ r. ⌜ r ≡ accepts (graphOf (now (b .entry))) (unrooted k) limit ⌝ }
 {
     let n = graph::vertex_count(b);
@@ -73,7 +73,7 @@ pub fn accepts_unrooted(
 
 // Whether no cover exists at all: there are "more components than k". Each edge of the whole forest leaves one component fewer than the vertices are.
 pub fn no_cover_unrooted(b: &[u8], k: usize, kept: &[u16]) -> bool
-    requires { ⌜ ForestKept (now b) (now kept) ⌝ }
+    requires { ⌜ ForestKept (graphOf (now b)) (now kept) ⌝ }
     ensures { λ r. ⌜ r ≡ noCover (graphOf (now (b .entry))) (unrooted k) ⌝ }
 {
     k < graph::vertex_count(b) - kept.len()

@@ -35,7 +35,7 @@ fn split_components(
     flat: &mut [u16],
     lefts: &mut [u16],
 ) -> Split
-    requires { ⌜ SplitAsked (now b) (now edges) limit (now starts) (now cuts) (now flat) (now lefts) ⌝ }
+    requires { ⌜ SplitAsked (graphOf (now b)) (now edges) limit (now starts) (now cuts) (now flat) (now lefts) ⌝ }
     ensures { λ r. ⌜ ComponentsSplit (graphOf (now (b .entry))) limit (now (starts .exit)) (now (cuts .exit)) (now (flat .exit)) (now (lefts .exit)) r ⌝ }
 {
     let mut roots = [0u16; 256];
@@ -84,7 +84,7 @@ fn order_trees(
 // The trees of the answer at a limit, as the buffer's first bytes: the components at the limit, from the edges of the forest there, split
 // into at most 32 trees. Everything behind the bytes stays.
 pub(crate) fn unrooted_trees(b: &[u8], edges: &[u16], limit: u64, buf: &mut [u8]) -> Written
-    requires { ⌜ UnrootedTreesAsked (now b) (now edges) limit (now buf) ⌝ }
+    requires { ⌜ UnrootedTreesAsked (graphOf (now b)) (now edges) limit (now buf) ⌝ }
     ensures { λ r. ⌜ TreesWritten (graphOf (now (b .entry))) limit (now (buf .entry)) (now (buf .exit)) r ⌝ }
 {
     let mut starts = [0u16; 512];

@@ -32,9 +32,9 @@ slice-aggregate-keep-whole-2 c = search needs
 keep-whole-requires : tie.Need-keep-whole-requires
 keep-whole-requires c κs =
     let o = (let d = c .before .before .before .before in let e = d .before .before .before .before in e .before) in
-    let graph = s o .pre .for-order .graph in
+    let valid = s o .pre .for-order .valid in
     record {
-      keepable = record { labelable = record { graph = graph; room = omega (arith, graph .valid .vertices-most) }; room = omega (arith, s o .pre .kept-room) };
+      keepable = record { labelable = record { valid = valid; room = omega (arith, valid .vertices-most) }; room = omega (arith, s o .pre .kept-room) };
       in-order = ordered-is o;
     }
 

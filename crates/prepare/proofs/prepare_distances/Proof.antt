@@ -54,9 +54,9 @@ put-around-requires c κs =
     let u = (let d = c .before .before .before .before in d .before) in
     let asked = s u .pre in
     record {
-      graph = asked .given .graph;
+      valid = asked .given .valid;
       inside = λ e m. of-below (edgeCount (g u)) (rw (all-are u) at m);
-      few = omega (arith, size u, asked .given .graph .valid .edges-most);
+      few = omega (arith, size u, asked .given .valid .edges-most);
       bounds-room = omega (arith, asked .bounds-room);
       arcs-room = omega (arith, size u, asked .all-room);
     }

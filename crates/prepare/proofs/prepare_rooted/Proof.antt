@@ -36,7 +36,7 @@ keep-forest-requires c κs =
     record {
       for-order =
           record {
-            graph = asked .given .graph;
+            valid = asked .given .valid;
             keys-room = omega (arith, asked .room .all-room);
             spare-room = omega (arith, asked .room .spare-room);
             room = omega (arith, asked .room .order-room);
@@ -57,10 +57,10 @@ put-arcs-requires c κs =
     let roots = s k .args .roots .now in
     let fewer = k .keep-forest .ensures .fewer in
     record {
-      graph = asked .given .graph;
+      valid = asked .given .valid;
       inside = λ e m. of-ordered (g k) (kept-subset (g k) (together roots) (ordered (g k)) (rw (k .keep-forest .ensures .forest) at m));
       once = rw (k .keep-forest .ensures .forest) (kept-once (g k) (together roots) (ordered (g k)));
-      few = omega (arith, size k, fewer, asked .given .graph .valid .vertices-most);
+      few = omega (arith, size k, fewer, asked .given .valid .vertices-most);
       bounds-room = omega (arith, asked .room .bounds-room);
       arcs-room = omega (arith, size k, fewer, asked .room .arcs-room);
     }

@@ -48,7 +48,7 @@ returns c =
       edges-room = f .edges-room;
       forest-room = f .forest-room;
       in-order = f .in-order;
-      history = record { forest-kept = record { graph = s .pre .for-forest .for-order .graph; forest-is = f .forest }; history = m .record-merges .ensures .history };
+      history = record { forest-kept = record { valid = s .pre .for-forest .for-order .valid; forest-is = f .forest }; history = m .record-merges .ensures .history };
     }
 
 pub prepare-unrooted-spec : {M : Type 1} → statement M

@@ -43,7 +43,7 @@ module _ (v : tie.After-vertex-count) where
   abbrev looked : tie.After-stop-at
   looked = v .before .before .before .before
 
-  asked : JoinedAsked (s looked .args .b .now) (s looked .args .roots .now) (s looked .args .limit) (s looked .args .order .now) (s looked .args .bounds .now)
+  asked : JoinedAsked (graphOf (s looked .args .b .now)) (s looked .args .roots .now) (s looked .args .limit) (s looked .args .order .now) (s looked .args .bounds .now)
       (s looked .args .arcs .now) (s looked .args .table .now) (s looked .args .lasts .now) (length (s looked .args .buf .now))
   asked = joined-asked (s looked .pre) (found-is looked ∙ ap vertexIn (v .before .enum-told .given .1))
 
@@ -72,7 +72,7 @@ vertex-count-requires c κs = search needs
 mul-if1 : tie.Need-mul-if1
 mul-if1 c =
     let given = s (looked c) .pre .prepared .decidable .given in
-    let h = mul-le-mul (given .graph .valid .vertices-most) (given .few) in
+    let h = mul-le-mul (given .valid .vertices-most) (given .few) in
     rw (c .vertex-count .ensures .is) (omega arith)
 
 answer-small-requires : tie.Need-answer-small-requires
@@ -94,7 +94,7 @@ returns-2 c =
     let m = c .before in
     let f = m .before .before .before in
     let given = s f .pre .prepared .decidable .given in
-    answers-stop (g f) (s f .args .roots .now) (s f .args .limit) (given .graph .valid) (roots-inside given)
+    answers-stop (g f) (s f .args .roots .now) (s f .args .limit) (given .valid) (roots-inside given)
     (found-is f ∙ ap vertexIn (m .found .given .1)) (s f .args .buf .now)
 
 same-length-2 : tie.Need-same-length-2

@@ -33,7 +33,7 @@ returns : tie.Need-returns
 returns c =
     let l = c .before in
     let d = s l .pre .asked .decidable in
-    heavy-refused (g l) (s l .args .roots .now) (d .forest) (l .light-forest .ensures) (d .given .graph .valid) (omega arith)
+    heavy-refused (g l) (s l .args .roots .now) (d .forest) (l .light-forest .ensures) (d .given .valid) (omega arith)
 
 parts-assigned-requires : tie.Need-parts-assigned-requires
 parts-assigned-requires c κs = let l = c .before in record { ready = parts-ready (s l .pre .asked) (joined l (omega arith)); walked = s l .pre .walked }

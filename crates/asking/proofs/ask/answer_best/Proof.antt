@@ -37,7 +37,7 @@ answer-at-requires : tie.Need-answer-at-requires
 answer-at-requires c κs =
     let l = c .before in
     let p = s (l .before .before) .pre in
-    record { answer = p; limit-most = omega (arith, l .best-limit .ensures, best-limit-most (p .ready .graph .valid) (crews (l .before .before))) }
+    record { answer = p; limit-most = omega (arith, l .best-limit .ensures, best-limit-most (p .ready .valid) (crews (l .before .before))) }
 
 same-length : tie.Need-same-length
 same-length c = search needs

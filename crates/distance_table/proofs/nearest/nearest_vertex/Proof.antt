@@ -25,7 +25,7 @@ module _ (s : tie.Start Inv-loop μ-loop) where
   g = graphOf (s .args .b .now)
 
   valid : Valid g
-  valid = s .pre .graph .valid
+  valid = s .pre .valid
 
   abbrev far : ℕ → ℕ
   far v = getD (s .args .dist .now) v 0

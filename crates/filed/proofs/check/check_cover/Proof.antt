@@ -58,7 +58,7 @@ returns c =
 check-filed-requires : tie.Need-check-filed-requires
 check-filed-requires c κs =
     let t = c .before .before .before in
-    yes-graph (s t .args .b .now) (sheet-passed t ∙ ap sheet.says (t .n .given .1)) .graph
+    yes-graph (s t .args .b .now) (sheet-passed t ∙ ap sheet.says (t .n .given .1)) .graph .valid
 
 returns-2 : tie.Need-returns-2
 returns-2 c =

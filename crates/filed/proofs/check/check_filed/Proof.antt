@@ -102,7 +102,7 @@ returns-5 c =
 
 check-trees-requires : tie.Need-check-trees-requires
 check-trees-requires c κs =
-    record { graph = s₅ c .pre; starts = starts-below-passed (c .before .before .before); entries = entries-passed c }
+    record { valid = s₅ c .pre; starts = starts-below-passed (c .before .before .before); entries = entries-passed c }
 
 returns-6 : tie.Need-returns-6
 returns-6 c =

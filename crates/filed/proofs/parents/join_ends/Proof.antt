@@ -19,7 +19,7 @@ module _ (s : tie.Start) where
   g = graphOf (s .args .b .now)
 
   abbrev valid : Valid g
-  valid = s .pre .graph .valid
+  valid = s .pre .valid
 
   below : (oneEnd g (s .args .e) < 256) × (otherEnd g (s .args .e) < 256)
   below =

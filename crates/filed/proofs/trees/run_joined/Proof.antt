@@ -31,10 +31,10 @@ module _ (s : tie.Start Inv-loop μ-loop) where
   g = graphOf (s .args .b .now)
 
   end-below : (e : ℕ) → oneEnd g e < 256
-  end-below e = omega (arith, one-end-below (s .pre .1 .graph .valid) e, s .pre .1 .graph .valid .vertices-most)
+  end-below e = omega (arith, one-end-below (s .pre .1 .valid) e, s .pre .1 .valid .vertices-most)
 
   start-below : s .args .start < 256
-  start-below = omega (arith, s .pre .0, s .pre .1 .graph .valid .vertices-most)
+  start-below = omega (arith, s .pre .0, s .pre .1 .valid .vertices-most)
 
 -- In a turn, who stands for one end of the entry's edge was found.
 module _ (t : tie.After-stands-for2 Inv-loop μ-loop) where

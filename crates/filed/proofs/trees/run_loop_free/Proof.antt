@@ -46,7 +46,7 @@ entry-edge-requires c κs = tt
 join-ends-requires : tie.Need-join-ends-requires Inv-loop μ-loop
 join-ends-requires c κs =
     let l = c .before .before .before in
-    record { graph = start l .pre .1 .graph; parented = l .loop .inv .parents }
+    record { valid = start l .pre .1 .valid; parented = l .loop .inv .parents }
 
 same-length : tie.Need-same-length Inv-loop μ-loop
 same-length c =

@@ -33,7 +33,7 @@ set-apart-requires c κs = search needs
 run-loop-free-requires : tie.Need-run-loop-free-requires
 run-loop-free-requires c κs =
     let t = c .before .before .before in
-    (s t .pre .forward, record { graph = s t .pre .graph; parented = apart-parents (room t) (t .set-apart .ensures) })
+    (s t .pre .forward, record { valid = s t .pre .valid; parented = apart-parents (room t) (t .set-apart .ensures) })
 
 same-length : tie.Need-same-length
 same-length c = search needs
@@ -54,7 +54,7 @@ run-joined-requires c κs =
     let e = c .before .before in
     let t = e .before .before .before in
     let p = s (parted t) .pre in
-    (omega (arith, c .before .start-in .ensures .is, p .start), record { graph = p .graph; parented = t .run-loop-free .ensures .parents })
+    (omega (arith, c .before .start-in .ensures .is, p .start), record { valid = p .valid; parented = t .run-loop-free .ensures .parents })
 
 same-length-2 : tie.Need-same-length-2
 same-length-2 c = search needs

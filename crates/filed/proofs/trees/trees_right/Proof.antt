@@ -69,7 +69,7 @@ tree-right-requires c κs =
     let l = c .before .before .before in
     let s = start l in
     record {
-      graph = s .pre .cover .graph;
+      valid = s .pre .cover .valid;
       room = l .loop .inv .0 ∙ s .pre .room;
       start = start-passed (s .args .c .now) (g (start l) .vertices) (s .pre .cover .starts) (l .loop .j) (omega arith);
       forward = c .before .run-end .ensures .run .forward;

@@ -57,10 +57,10 @@ module _ (t : tie.After-other-end Inv-loop μ-loop) where
   other-read = t .other-end .ensures .is ∙ ap (otherEnd (g s)) (t .before .before .entry-edge .ensures .is)
 
   one-place : oneEnd (g s) e < length (s .args .marks .now)
-  one-place = omega (arith, one-end-below (s .pre .graph .valid) e, s .pre .room)
+  one-place = omega (arith, one-end-below (s .pre .valid) e, s .pre .room)
 
   other-place : otherEnd (g s) e < length (s .args .marks .now)
-  other-place = omega (arith, other-end-below (s .pre .graph .valid) e, s .pre .room)
+  other-place = omega (arith, other-end-below (s .pre .valid) e, s .pre .room)
 
 slice-write-marks : tie.Need-slice-write-marks Inv-loop μ-loop
 slice-write-marks c = omega (arith, one-place c, one-read c, turn c .loop .inv .0)

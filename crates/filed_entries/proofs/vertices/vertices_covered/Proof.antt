@@ -21,7 +21,7 @@ slice-aggregate-mark-starts c = search needs
 mark-starts-requires : tie.Need-mark-starts-requires
 mark-starts-requires c κs =
     let s = c .before .before .before in
-    λ j h. omega (arith, start-passed (s .args .c .now) (g s .vertices) (s .pre .starts) j h, s .pre .graph .valid .vertices-most)
+    λ j h. omega (arith, start-passed (s .args .c .now) (g s .vertices) (s .pre .starts) j h, s .pre .valid .vertices-most)
 
 slice-aggregate-mark-ends : tie.Need-slice-aggregate-mark-ends
 slice-aggregate-mark-ends c = search needs

@@ -19,7 +19,7 @@ module _ (k : tie.After-other-end) where
   g = graphOf (start .args .b .now)
 
   valid : Valid g
-  valid = start .pre .graph .valid
+  valid = start .pre .valid
 
   ends-below : (k .before .one-end .result < g .vertices) × (k .other-end .result < g .vertices)
   ends-below =

@@ -27,7 +27,7 @@ module _ (t : tie.At-loop Inv-loop μ-loop) where
   g = graphOf (start .args .b .now)
 
   valid : Valid g
-  valid = start .pre .labelable .graph .valid
+  valid = start .pre .labelable .valid
 
   few : t .loop .r < g .vertices
   few = taking-few (t .loop .inv .1) valid
@@ -54,7 +54,7 @@ wide-requires c κs = search needs
 join-ends-requires : tie.Need-join-ends-requires Inv-loop μ-loop
 join-ends-requires c κs =
     let k = start (c .before .before .before .before) .pre .labelable in
-    record { graph = k .graph; room = omega arith }
+    record { valid = k .valid; room = omega arith }
 
 loop-less : tie.Need-loop-less Inv-loop μ-loop
 loop-less c = search needs

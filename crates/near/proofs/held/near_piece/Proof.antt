@@ -42,10 +42,10 @@ module _ (o : tie.After-other-end Inv-loop μ-loop) where
   other = o .other-end .ensures .is ∙ ap (otherEnd g) (o .before .before .wide .ensures .is)
 
   one-inside : o .before .one-end .result < length (s .args .near .now)
-  one-inside = omega (arith, one, one-end-below (s .pre .given .graph .valid) e, s .pre .given .room)
+  one-inside = omega (arith, one, one-end-below (s .pre .given .valid) e, s .pre .given .room)
 
   other-inside : o .other-end .result < length (s .args .near .now)
-  other-inside = omega (arith, other, other-end-below (s .pre .given .graph .valid) e, s .pre .given .room)
+  other-inside = omega (arith, other, other-end-below (s .pre .given .valid) e, s .pre .given .room)
 
 mul-word : tie.Need-mul-word Inv-loop μ-loop
 mul-word c = search needs

@@ -32,7 +32,7 @@ module _ (t : tie.At-loop Inv-loop μ-loop) where
   g = graphOf (start .args .b .now)
 
   valid : Valid g
-  valid = start .pre .history .forest-kept .graph .valid
+  valid = start .pre .history .forest-kept .valid
 
   edges-kept : AllKept g apart (start .args .kept .now)
   edges-kept = all-kept (start .pre .history .forest-kept)
@@ -86,7 +86,7 @@ merge-edge-requires : tie.Need-merge-edge-requires Inv-loop μ-loop
 merge-edge-requires c κs =
     let w = c .before .before .before .before in
     record {
-      labelable = record { graph = start (turn w) .pre .history .forest-kept .graph; room = room (turn w) .labels };
+      labelable = record { valid = start (turn w) .pre .history .forest-kept .valid; room = room (turn w) .labels };
       note =
           note-asked (valid (turn w)) (edges-kept (turn w)) (edges-few (turn w)) (turn w .loop .i) (omega arith) (room (turn w)) (turn w .loop .inv .0) (w .wide .result)
           (w .wide .ensures .is);

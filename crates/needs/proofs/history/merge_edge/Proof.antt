@@ -17,7 +17,7 @@ module _ (c : tie.After-one-end) where
   first = c .before .before .before .before .before .before
 
   one-inside : c .one-end .result < graphOf (first .args .b .now) .vertices
-  one-inside = omega (arith, c .one-end .ensures .is, one-end-below (first .pre .labelable .graph .valid) (first .args .e))
+  one-inside = omega (arith, c .one-end .ensures .is, one-end-below (first .pre .labelable .valid) (first .args .e))
 
 -- Where the other end is.
 module _ (c : tie.After-other-end) where
@@ -25,7 +25,7 @@ module _ (c : tie.After-other-end) where
   one-read = c .before .before .before
 
   other-inside : c .other-end .result < graphOf (first one-read .args .b .now) .vertices
-  other-inside = omega (arith, c .other-end .ensures .is, other-end-below (first one-read .pre .labelable .graph .valid) (first one-read .args .e))
+  other-inside = omega (arith, c .other-end .ensures .is, other-end-below (first one-read .pre .labelable .valid) (first one-read .args .e))
 
 -- Where all is read: both labels.
 module _ (w : tie.After-weight) where

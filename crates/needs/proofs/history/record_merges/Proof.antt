@@ -40,7 +40,7 @@ merge-all-requires c κs =
     let l = c .before .before .before .before .before in
     let s = start l in
     let total = s .args .total .now in
-    let most = s .pre .forest-kept .graph .valid .vertices-most in
+    let most = s .pre .forest-kept .valid .vertices-most in
     record {
       history = record { forest-kept = s .pre .forest-kept; total-most = omega (arith, length-set total 0 0, s .pre .total-most); until-most = s .pre .until-most };
       labels-room = omega (arith, most);

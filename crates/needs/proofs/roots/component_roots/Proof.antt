@@ -28,9 +28,9 @@ lowest-of-each-requires c κs =
     let s = let d = l .before .before .before in d .before .before .before in
     let count = v .vertex-count .ensures .is in
     record {
-      most = omega (arith, count, s .pre .graph .valid .vertices-most);
+      most = omega (arith, count, s .pre .valid .vertices-most);
       labels-room = search needs;
-      labels-below = rw count (labels-below (s .pre .graph .valid) (s .args .edges .now) (l .label-edges .last .1 .1 .1 .0) (l .label-edges .ensures .labels));
+      labels-below = rw count (labels-below (s .pre .valid) (s .args .edges .now) (l .label-edges .last .1 .1 .1 .0) (l .label-edges .ensures .labels));
       room = search needs;
     }
 

@@ -30,7 +30,7 @@ sweep-edges-requires c κs =
     record {
       once = a .once;
       inside = λ e m. omega (arith, a .inside e m, n .edge-count .ensures .is);
-      most = omega (arith, n .edge-count .ensures .is, a .graph .valid .edges-most);
+      most = omega (arith, n .edge-count .ensures .is, a .valid .edges-most);
       room = a .few;
     }
 
@@ -46,7 +46,7 @@ put-around-requires c κs =
     let a = s r .pre in
     let size = ap length (rises r) ∙ rise-length (s r .args .edges .now) in
     record {
-      graph = a .graph;
+      valid = a .valid;
       inside = λ e m. a .inside e (of-rise (s r .args .edges .now) (rw (rises r) at m));
       few = omega (arith, size, a .few);
       bounds-room = a .bounds-room;

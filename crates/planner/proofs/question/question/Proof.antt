@@ -83,7 +83,7 @@ ask-crews-requires c κs =
     let o = x .before .before in
     let w = o .before in
     record {
-      graph = yes-graph (s w .args .b .now) (passed w) .graph;
+      valid = yes-graph (s w .args .b .now) (passed w) .graph .valid;
       crews-right = quiet o;
       limit-fits = x .before .limit-right .ensures .right (within x);
       room-most = omega (arith, c .before .if3 .left);

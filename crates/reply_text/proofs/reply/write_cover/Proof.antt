@@ -6,6 +6,7 @@ use mathlib.Core.List.{List, [], _∷_, _++_, append-nil}
 use native.Mathlib.Omega.{arith}
 use lib.ListN.{length}
 use Rattle.lists.proofs.PutOneByOne.{PutSoFar, so-far-none, so-far-on, so-far-all, so-far-room}
+use Rattle.graph.specs.Bytes.{graphOf}
 use Rattle.reply_text.specs.Lines.{bytesOf, spaced, ended}
 use Rattle.reply_text.proofs.TextLengths as text
 use borrow.Author.Needs.{needs}
@@ -15,23 +16,23 @@ use Rattle.reply_text.proofs.reply.write_cover.Tie as tie
 -- The text, from its parts on. Nothing is put yet.
 module _ (s : tie.Start) where
   abbrev limit-on : List ℕ
-  limit-on = text.fromLimit (s .args .b .now) (s .args .limit) (s .args .heaviest) (s .args .t) (s .args .c .now)
+  limit-on = text.fromLimit (graphOf (s .args .b .now)) (s .args .limit) (s .args .heaviest) (s .args .t) (s .args .c .now)
 
   abbrev heaviest-on : List ℕ
-  heaviest-on = text.fromHeaviest (s .args .b .now) (s .args .limit) (s .args .heaviest) (s .args .t) (s .args .c .now)
+  heaviest-on = text.fromHeaviest (graphOf (s .args .b .now)) (s .args .limit) (s .args .heaviest) (s .args .t) (s .args .c .now)
 
   abbrev count-on : List ℕ
-  count-on = text.fromCount (s .args .b .now) (s .args .limit) (s .args .heaviest) (s .args .t) (s .args .c .now)
+  count-on = text.fromCount (graphOf (s .args .b .now)) (s .args .limit) (s .args .heaviest) (s .args .t) (s .args .c .now)
 
   abbrev trees : List ℕ
-  trees = text.trees (s .args .b .now) (s .args .limit) (s .args .heaviest) (s .args .t) (s .args .c .now)
+  trees = text.trees (graphOf (s .args .b .now)) (s .args .limit) (s .args .heaviest) (s .args .t) (s .args .c .now)
 
   abbrev whole : List ℕ
   whole = bytesOf "cover" ++ limit-on
 
   room : 0 + length whole ≤ length (s .args .out .now)
   room =
-      text.cover-room (s .args .b .now) (s .args .limit) (s .args .heaviest) (s .args .t) (s .args .c .now) (omega (arith, s .fits .limit))
+      text.cover-room (graphOf (s .args .b .now)) (s .args .limit) (s .args .heaviest) (s .args .t) (s .args .c .now) (omega (arith, s .fits .limit))
       (omega (arith, s .fits .heaviest)) (omega (arith, s .fits .t)) (s .pre .fits)
 
   begun : PutSoFar 0 whole whole (s .args .out .now) (s .args .out .now) 0
@@ -116,7 +117,7 @@ returns c =
     let t = c .before .before in
     let p = t .before .before .before .before in
     let s = s₄ p in
-    rw (text.cover-parts (s .args .b .now) (s .args .limit) (s .args .heaviest) (s .args .t) (s .args .c .now))
+    rw (text.cover-parts (graphOf (s .args .b .now)) (s .args .limit) (s .args .heaviest) (s .args .t) (s .args .c .now))
     (so-far-all (so-far-on (count-put p) {xs = trees s} {other = []} (sym (append-nil (trees s))) (t .put-trees .ensures)) refl)
 
 pub write-cover-spec : {M : Type 1} → statement M

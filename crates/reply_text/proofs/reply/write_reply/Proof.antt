@@ -35,9 +35,9 @@ returns c =
     let w = c .before .before in
     let n = w .before .before in
     let k = n .before .before in
-    let b = start (k .before .before) .args .b .now in
-    reply-written b (k .reply .given .1) (λ trees. fault-refused (graphOf b) trees (k .reply .given .0 .0))
-    (rw (n .number .ensures) at (w .write-refused .ensures .text (graphOf b)))
+    let g = graphOf (start (k .before .before) .args .b .now) in
+    reply-written g (k .reply .given .1) (λ trees. fault-refused g trees (k .reply .given .0 .0))
+    (rw (n .number .ensures) at (w .write-refused .ensures .text g))
 
 enum-told : tie.Need-enum-told
 enum-told c = search needs
@@ -53,8 +53,8 @@ unfolding textSaid textOf
 returns-2 c =
     let w = c .before .before in
     let k = w .before .before in
-    let b = start (k .before .before) .args .b .now in
-    reply-written b (k .enum-told .given .1) (λ trees. refl) (w .write-refused2 .ensures .text (graphOf b))
+    let g = graphOf (start (k .before .before) .args .b .now) in
+    reply-written g (k .enum-told .given .1) (λ trees. refl) (w .write-refused2 .ensures .text g)
 
 enum-told-2 : tie.Need-enum-told-2
 enum-told-2 c = search needs
@@ -70,8 +70,8 @@ unfolding textSaid textOf
 returns-3 c =
     let w = c .before .before in
     let k = w .before .before in
-    let b = start (k .before .before) .args .b .now in
-    reply-written b (k .enum-told2 .given .1) (λ trees. refl) (w .write-refused3 .ensures .text (graphOf b))
+    let g = graphOf (start (k .before .before) .args .b .now) in
+    reply-written g (k .enum-told2 .given .1) (λ trees. refl) (w .write-refused3 .ensures .text g)
 
 enum-told-3 : tie.Need-enum-told-3
 enum-told-3 c = search needs
@@ -87,8 +87,8 @@ unfolding textSaid textOf
 returns-4 c =
     let w = c .before .before in
     let k = w .before .before in
-    let b = start (k .before .before) .args .b .now in
-    reply-written b (k .enum-told3 .given .1) (λ trees. refl) (w .write-refused4 .ensures .text (graphOf b))
+    let g = graphOf (start (k .before .before) .args .b .now) in
+    reply-written g (k .enum-told3 .given .1) (λ trees. refl) (w .write-refused4 .ensures .text g)
 
 enum-known-reply-2 : tie.Need-enum-known-reply-2
 enum-known-reply-2 c = search needs
@@ -135,7 +135,7 @@ unfolding textSaid line
 returns-6 c =
     let w = c .before .before in
     let k = w .before .before .before .before in
-    reply-written (start (k .before .before) .args .b .now) (k .reply3 .given .1) (λ trees. refl) (w .write-line .ensures)
+    reply-written (graphOf (start (k .before .before) .args .b .now)) (k .reply3 .given .1) (λ trees. refl) (w .write-line .ensures)
 
 enum-known-reply-4 : tie.Need-enum-known-reply-4
 enum-known-reply-4 c = search needs
@@ -151,7 +151,7 @@ unfolding textSaid
 returns-7 c =
     let w = c .before .before in
     let k = w .before .before .before in
-    reply-written (start (k .before .before) .args .b .now) (k .reply4 .given .1) (λ trees. refl) (w .write-parts .ensures)
+    reply-written (graphOf (start (k .before .before) .args .b .now)) (k .reply4 .given .1) (λ trees. refl) (w .write-parts .ensures)
 
 enum-known-reply-5 : tie.Need-enum-known-reply-5
 enum-known-reply-5 c = search needs
@@ -170,7 +170,7 @@ unfolding textSaid line
 returns-8 c =
     let w = c .before .before in
     let k = w .before .before .before .before in
-    reply-written (start (k .before .before) .args .b .now) (k .reply5 .given .1) (λ trees. refl) (w .write-line2 .ensures)
+    reply-written (graphOf (start (k .before .before) .args .b .now)) (k .reply5 .given .1) (λ trees. refl) (w .write-line2 .ensures)
 
 enum-told-4 : tie.Need-enum-told-4
 enum-told-4 c = search needs
@@ -189,7 +189,7 @@ unfolding textSaid line ended allSpaced flat
 returns-9 c =
     let w = c .before .before in
     let k = w .before .before .before in
-    reply-written (start (k .before .before) .args .b .now) (k .enum-told4 .given .1) (λ trees. refl) (w .put-word .ensures)
+    reply-written (graphOf (start (k .before .before) .args .b .now)) (k .enum-told4 .given .1) (λ trees. refl) (w .put-word .ensures)
 
 pub write-reply-spec : {M : Type 1} → statement M
 write-reply-spec =

@@ -45,7 +45,7 @@ module _ (t : tie.In-loop Inv-loop μ-loop) where
   fits size many = omega (arith, t .before .loop .inv .few, row-room (t .before .loop .j) _ n size (t .loop-test .taken) many)
 
   small : t .before .loop .at + n ≤ 8192
-  small = fits 8192 (omega (arith, mul-le-mul (s .pre .few) (s .pre .given .graph .valid .vertices-most)))
+  small = fits 8192 (omega (arith, mul-le-mul (s .pre .few) (s .pre .given .valid .vertices-most)))
 
   room : t .before .loop .j + 1 < length (t .before .loop .bounds)
   room = omega (arith, t .loop-test .taken, t .before .loop .inv .bounds-size, s .pre .few, s .pre .bounds-fit, length-set (s .args .bounds .now) 0 0)

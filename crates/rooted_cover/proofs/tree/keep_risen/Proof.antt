@@ -8,7 +8,7 @@ use Rattle.rooted_cover.proofs.tree.keep_risen.Statement.{statement}
 use Rattle.rooted_cover.proofs.tree.keep_risen.Tie as tie
 
 keep-union-requires : tie.Need-keep-union-requires
-keep-union-requires c κs = let pre = c .before .before .before .before .before .pre in record { graph = pre .graph; room = pre .room }
+keep-union-requires c κs = let pre = c .before .before .before .before .before .pre in record { valid = pre .valid; room = pre .room }
 
 slice-relend-prefix-rise-edges : tie.Need-slice-relend-prefix-rise-edges
 slice-relend-prefix-rise-edges c = search needs

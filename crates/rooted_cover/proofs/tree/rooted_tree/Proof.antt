@@ -34,7 +34,7 @@ returns c =
     let t = c .before .before in
     let m = t .before .before .before .before in
     let p = m .before .before .before in
-    root-written (start p .pre .asked .graph .valid) (start p .args .left) (p .mark-piece .ensures) (m .mark-assigned .ensures) (t .keep-risen .ensures)
+    root-written (start p .pre .asked .valid) (start p .args .left) (p .mark-piece .ensures) (m .mark-assigned .ensures) (t .keep-risen .ensures)
 
 pub rooted-tree-spec : {M : Type 1} → statement M
 rooted-tree-spec =

@@ -58,7 +58,7 @@ pieces-near-requires c κs =
     let x = c .before .before .before .before in
     let y = x .before .before .before .before in
     let h = y .before .before .pre .held in
-    record { held = h; words-room = omega (arith, few h, h .ready .given .graph .valid .vertices-most, length-replicate {A = ℕ} 256 0) }
+    record { held = h; words-room = omega (arith, few h, h .ready .given .valid .vertices-most, length-replicate {A = ℕ} 256 0) }
 
 mul-size : tie.Need-mul-size
 mul-size c = search needs
@@ -83,7 +83,7 @@ is-assigned-requires c κs =
     let w = c .before .before .before .before in
     let a = s (q w) .pre in
     let h = a .held in
-    assign-asked (near (q w)) (put w) (a .rows-room) (omega (arith, few h, h .ready .given .graph .valid .vertices-most)) (h .ready .given .some) (h .ready .given .few) (a .out-room)
+    assign-asked (near (q w)) (put w) (a .rows-room) (omega (arith, few h, h .ready .given .valid .vertices-most)) (h .ready .given .some) (h .ready .given .few) (a .out-room)
 
 same-length : tie.Need-same-length
 same-length c = search needs

@@ -26,7 +26,7 @@ module _ (a : tie.After-accepts-at) where
   crews = crewsWith (s .args .kind) (s .args .k) (s .args .roots .now)
 
   valid : Valid g
-  valid = s .pre .crews .ready .graph .valid
+  valid = s .pre .crews .ready .valid
 
 -- Where the sum is known.
 module _ (w : tie.After-edges-weight) where

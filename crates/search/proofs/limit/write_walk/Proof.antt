@@ -14,10 +14,10 @@ module _ (v : tie.After-vertex-count) where
   abbrev s : tie.Start
   s = let d = v .before .before .before .before in d .before .before .before .before
 
-  given : RootsGiven (s .args .b .now) (s .args .roots .now)
+  given : RootsGiven (graphOf (s .args .b .now)) (s .args .roots .now)
   given = s .pre .given (v .before .enum-told .given .1)
 
-  around : WholeAround (s .args .b .now) (s .args .roots .now) (s .args .bounds .now) (s .args .arcs .now)
+  around : WholeAround (graphOf (s .args .b .now)) (s .args .roots .now) (s .args .bounds .now) (s .args .arcs .now)
   around = s .pre .around (v .before .enum-told .given .1)
 
   n-is : v .vertex-count .result ≡ graphOf (s .args .b .now) .vertices

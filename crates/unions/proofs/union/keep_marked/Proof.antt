@@ -31,7 +31,7 @@ module _ (l : tie.At-loop Inv-loop μ-loop) where
   g = graphOf (s .args .b .now)
 
   valid : Valid g
-  valid = s .pre .labelable .graph .valid
+  valid = s .pre .labelable .valid
 
   few : l .loop .r < 256
   few = omega (arith, keeping-few (l .loop .inv) valid, valid .vertices-most)

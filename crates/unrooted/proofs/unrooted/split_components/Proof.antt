@@ -41,9 +41,9 @@ slice-aggregate-put-arcs-2 c = search needs
 put-arcs-requires : tie.Need-put-arcs-requires
 put-arcs-requires c κs =
     let f = s (c .before .before .before) .pre .forest-given in
-    let most = f .graph .valid .vertices-most in
+    let most = f .valid .vertices-most in
     record {
-      graph = f .graph;
+      valid = f .valid;
       inside = forest-edges-inside f;
       once = rw (f .are) (forest-once _ apart _);
       few = omega (arith, forest-edges-few f);

@@ -61,7 +61,7 @@ order-trees-requires : tie.Need-order-trees-requires
 order-trees-requires c κs =
     let p = let d = c .before .before .before .before in let e = d .before .before .before .before in e .before in
     let x = p .split-components .ensures in
-    record { given = x .given; few = x .few; places = places-asked (s p .pre .forest-given .graph .valid) x (s p .pre .needs-few) (omega arith) }
+    record { given = x .given; few = x .few; places = places-asked (s p .pre .forest-given .valid) x (s p .pre .needs-few) (omega arith) }
 
 slice-aggregate-heaviest-chosen : tie.Need-slice-aggregate-heaviest-chosen
 slice-aggregate-heaviest-chosen c = search needs
@@ -79,7 +79,7 @@ heaviest-chosen-requires : tie.Need-heaviest-chosen-requires
 heaviest-chosen-requires c κs =
     let o = let d = c .before .before .before in d .before .before .before in
     let p = pieced o in
-    answer-held (s p .pre .forest-given .graph .valid) (p .split-components .ensures) (o .order-trees .ensures)
+    answer-held (s p .pre .forest-given .valid) (p .split-components .ensures) (o .order-trees .ensures)
 
 slice-aggregate-write-cover : tie.Need-slice-aggregate-write-cover
 slice-aggregate-write-cover c = search needs
@@ -101,7 +101,7 @@ write-cover-requires c κs =
     let h = let d = c .before .before .before in d .before .before in
     let o = ordered h in
     let p = pieced o in
-    let valid = s p .pre .forest-given .graph .valid in
+    let valid = s p .pre .forest-given .valid in
     answer-writable valid (p .split-components .ensures) (o .order-trees .ensures) (s p .pre .room) (s p .pre .needs-few)
 
 same-length : tie.Need-same-length
@@ -113,7 +113,7 @@ returns c =
     let h = let d = w .before .before .before in d .before .before .before in
     let o = ordered h in
     let p = pieced o in
-    let valid = s p .pre .forest-given .graph .valid in
+    let valid = s p .pre .forest-given .valid in
     let x = p .split-components .ensures in
     let y = o .order-trees .ensures in
     let trees = answer valid x y in
