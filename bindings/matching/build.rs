@@ -6,7 +6,7 @@ fn main() {
     let folder = match env::var_os("MATCHING_LIB_DIR") {
         Some(folder) => PathBuf::from(folder),
         None => {
-            PathBuf::from(env::var_os("CARGO_MANIFEST_DIR").unwrap()).join("../target/staticlib")
+            PathBuf::from(env::var_os("CARGO_MANIFEST_DIR").unwrap()).join("../../target/staticlib")
         }
     };
     println!("cargo:rerun-if-env-changed=MATCHING_LIB_DIR");
