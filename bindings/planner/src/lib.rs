@@ -1,6 +1,10 @@
 //! Min-max tree covers of a graph, from the proved static library `planner_c`: trials at a limit, the best limit, and the
 //! check of a filed cover. `include/planner.h` says what the bytes of a graph and of a cover are.
 
+mod cover;
+
+pub use cover::{Cover, Tree};
+
 use exported::{planner_best, planner_check, planner_trial};
 
 /// The functions of `include/planner.h` as they are, for callers that lend the memory themselves.
@@ -52,7 +56,8 @@ pub enum Kind {
 /// What [`trial`] and [`best`] answer.
 #[derive(Clone, Copy, Debug, PartialEq, Eq)]
 pub enum Reply {
-    /// A cover of so many trees stands at the buffer's front; its heaviest tree has this weight, at most four times the limit.
+    /// A cover of so many trees stands at the buffer's front, where [`Cover::read`] reads it; its heaviest tree has this
+    /// weight, at most four times the limit.
     Cover { limit: u64, heaviest: u64, trees: u64 },
     /// Too low: this is the lowest vertex joined to no root.
     TooLowStop { vertex: u64 },
