@@ -31,12 +31,18 @@ extern "C" {
  * A cover: t, the number of trees (2 bytes); q, the number of entries (2 bytes); t starts (2 bytes each); q tree numbers,
  * then q edge numbers (2 bytes each), rising strictly by tree, then by edge. 4 + 2t + 4q bytes.
  *
- * k is the number of crews, 1 to 32: a rooted cover has k trees, an unrooted one 1 to k. The roots of a rooted question are vertices 0 to k - 1, so k is at most n.
+ * k is the number of crews, 1 to 32: a rooted cover has k trees, an unrooted one 1 to k. The roots of a rooted question are
+ * vertices 0 to k - 1, so k is at most n.
  *
  * For all functions below: any input is answered. Each pointer is to as many bytes as its length says, `values` to exactly
  * three numbers; no pointer is null even where a length is 0, and what is written overlaps nothing else: nothing tests
  * this. Only the values of the answer's case are written, from the first on; of the buffer only the front that the cover
- * or the parts fill, as cover bytes. All else, and all of both at a refusal, is left as it came.
+ * or the parts fill, as cover bytes, whose length is 4 + 2t + 4q by the t and q that they begin with. All else, and all of
+ * both at a refusal, is left as it came.
+ *
+ * Stack: planner_trial and planner_best take up to 320 KiB, and 128 KiB even where they refuse; planner_check takes up to
+ * 4 KiB. Measured, with some room to spare, and not proved: a stack that is too small ends the program. No memory is
+ * allocated.
  */
 
 /*
