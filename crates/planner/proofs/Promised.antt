@@ -32,7 +32,7 @@ use Rattle.pieces.specs.Replies.{said, says, Replied}
 use Rattle.asking.specs.declared.ask.Asked.{Asked}
 use Rattle.asking.specs.declared.ask.Asked.the-variants.{At, Best}
 use Rattle.asking.specs.Asking.{Answered}
-use Rattle.planner.specs.Promise.{Refuses, TrialPromise, BestPromise, limitFaultOf, faultOf, LimitTested, QuestionPromise}
+use Rattle.planner.specs.Promise.{Refuses, TrialPromise, BestPromise, limitFaultOf, faultOf, LimitTested, RefusedAs, Passes, QuestionPromise}
 
 -- THE TESTS
 
@@ -67,49 +67,51 @@ module _ (asked : Asked) (kind : Kind) (k : ℕ) (b : List ℕ) where
   abbrev crews : cover.Crews
   crews = crewsOf kind k
 
-  -- A question that is refused: the reply says its number, and the buffer is as it came.
-  pub refused-with : (n : ℕ) {before : List ℕ} {r : Reply} → faultOf asked b crews (length before) ≡ some n → says r ≡ said n [] → QuestionPromise asked kind k b before before r
-  unfolding refusedOr bufferAfter written
-  refused-with n {before} {r} q s =
-      record {
-        choices = record { assignment = []; paths = []; marks = [] };
-        rule = rw q (record { same = s; buffer = refl });
-        good = λ e. absurd (Option·some-ne-none n (sym q ∙ e));
-      }
-
   -- The graph's bytes, 11 to 16,
-  pub sheet-refused : (n : ℕ) {before : List ℕ} {r : Reply} → sheet.checkOf b ≡ sheet.number n → says r ≡ said n [] → QuestionPromise asked kind k b before before r
+  pub sheet-refused : (n room : ℕ) {r : Reply} → sheet.checkOf b ≡ sheet.number n → says r ≡ said n [] → RefusedAs asked kind k b room r
   unfolding sheetFault numberIn inOrder firstFault
-  sheet-refused n {before} q s = refused-with n (fault-order asked b crews (length before) ∙ rw q refl) s
+  sheet-refused n room q s = record { number = n; is-refused = fault-order asked b crews room ∙ rw q refl; says-so = s }
 
   module _ {n m : ℕ} (q : sheet.checkOf b ≡ sheet.yes n m) where
     -- the crews, 21,
-    pub crews-refused : {before : List ℕ} {r : Reply} → crewFault crews (graphOf b .vertices) ≡ some 21 → says r ≡ said 21 [] → QuestionPromise asked kind k b before before r
+    pub crews-refused : (room : ℕ) {r : Reply} → crewFault crews (graphOf b .vertices) ≡ some 21 → says r ≡ said 21 [] → RefusedAs asked kind k b room r
     unfolding sheetFault numberIn inOrder firstFault
-    crews-refused {before} c s = refused-with 21 (fault-order asked b crews (length before) ∙ rw (q, c) refl) s
+    crews-refused room c s = record { number = 21; is-refused = fault-order asked b crews room ∙ rw (q, c) refl; says-so = s }
 
     module _ (c : crewFault crews (graphOf b .vertices) ≡ none) where
       -- the limit, 22,
-      pub limit-refused : {before : List ℕ} {r : Reply} → limitFaultOf asked ≡ some 22 → says r ≡ said 22 [] → QuestionPromise asked kind k b before before r
+      pub limit-refused : (room : ℕ) {r : Reply} → limitFaultOf asked ≡ some 22 → says r ≡ said 22 [] → RefusedAs asked kind k b room r
       unfolding sheetFault numberIn inOrder firstFault
-      limit-refused {before} l s = refused-with 22 (fault-order asked b crews (length before) ∙ rw (q, c, l) refl) s
+      limit-refused room l s = record { number = 22; is-refused = fault-order asked b crews room ∙ rw (q, c, l) refl; says-so = s }
 
       module _ (l : limitFaultOf asked ≡ none) where
         -- the buffer, 23;
-        pub room-refused : {before : List ℕ} {r : Reply} → length before < 32708 → says r ≡ said 23 [] → QuestionPromise asked kind k b before before r
+        pub room-refused : (room : ℕ) {r : Reply} → room < 32708 → says r ≡ said 23 [] → RefusedAs asked kind k b room r
         unfolding sheetFault numberIn inOrder firstFault roomFault faultIf
-        room-refused {before} h s = refused-with 23 (fault-order asked b crews (length before) ∙ rw (q, c, l, lt-ltb (length before) 32708 h) refl) s
+        room-refused room h s = record { number = 23; is-refused = fault-order asked b crews room ∙ rw (q, c, l, lt-ltb room 32708 h) refl; says-so = s }
 
-        nothing-refused : (room : ℕ) → 32708 ≤ room → faultOf asked b crews room ≡ none
+        -- and otherwise nothing is.
+        pub nothing-refused : (room : ℕ) → 32708 ≤ room → faultOf asked b crews room ≡ none
         unfolding sheetFault numberIn inOrder firstFault roomFault faultIf
         nothing-refused room h = fault-order asked b crews room ∙ rw (q, c, l, le-ltb room 32708 h) refl
 
-        -- and otherwise the question is answered.
-        pub answer-given : {before after : List ℕ} {r : Reply} → 32708 ≤ length before → Answered asked (graphOf b) crews before after r → QuestionPromise asked kind k b before after r
-        unfolding refusedOr
-        answer-given {before} h a =
-            let quiet : faultOf asked b crews (length before) ≡ none = nothing-refused (length before) h in
-            record { choices = a .choices; rule = rw quiet (a .replied); good = λ e. a .good }
+  -- A question that is refused: the reply says its number, and the buffer is as it came.
+  pub refusal-given : {before : List ℕ} {r : Reply} → RefusedAs asked kind k b (length before) r → QuestionPromise asked kind k b before before r
+  unfolding refusedOr bufferAfter written
+  refusal-given f =
+      let is = f .is-refused in
+      record {
+        choices = record { assignment = []; paths = []; marks = [] };
+        rule = rw is (record { same = f .says-so; buffer = refl });
+        good = λ e. absurd (Option·some-ne-none (f .number) (sym is ∙ e));
+      }
+
+  -- A question that is not: it is answered.
+  pub answer-given : {before after : List ℕ} {r : Reply} → Passes asked kind k b (length before) → Answered asked (graphOf b) crews before after r → QuestionPromise asked kind k b before after r
+  unfolding refusedOr
+  answer-given p a =
+      let quiet = p .quiet in
+      record { choices = a .choices; rule = rw quiet (a .replied); good = λ e. a .good }
 
 -- WHAT THE REPLIES MEAN
 

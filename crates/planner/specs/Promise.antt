@@ -21,7 +21,9 @@ use Rattle.pieces.specs.declared.reply.Reply.{Reply}
 use Rattle.pieces.specs.Replies.{said, says, Replied}
 use Rattle.asking.specs.declared.ask.Asked.{Asked}
 use Rattle.asking.specs.declared.ask.Asked.the-variants.{At, Best}
-use Rattle.asking.specs.Asking.{limitOf, replyTo, LimitFits}
+use Rattle.asking.specs.Asking.{limitOf, replyTo, LimitFits, CrewsAsked}
+use Rattle.planner.specs.declared.question.Tested.{Tested}
+use Rattle.planner.specs.declared.question.Tested.the-variants.{Refused, Passed}
 
 -- "A refused question returns its number alone; no lent byte changes."
 pub record Refuses (fault : Fault) (before after : List ℕ) (r : Reply) : Type 0 where
@@ -64,6 +66,22 @@ pub record LimitTested (asked : Asked) (r : Bool) : Type 0 where
   pub right : r ≡ true → LimitFits asked
   pub quiet : r ≡ true → limitFaultOf asked ≡ none
   pub wrong : r ≡ false → limitFaultOf asked ≡ some 22
+
+-- The question is refused, and the reply says its number.
+pub record RefusedAs (asked : Asked) (kind : Kind) (k : ℕ) (b : List ℕ) (room : ℕ) (r : Reply) : Type 0 where
+  pub number : ℕ
+  pub is-refused : faultOf asked b (crewsOf kind k) room ≡ some number
+  pub says-so : says r ≡ said number []
+
+-- The question is not refused, and can be asked.
+pub record Passes (asked : Asked) (kind : Kind) (k : ℕ) (b : List ℕ) (room : ℕ) : Type 0 where
+  pub quiet : faultOf asked b (crewsOf kind k) room ≡ none
+  pub asks : CrewsAsked kind k (graphOf b) asked room
+
+-- What the tests of a question come to.
+abbrev pub TestsTo : Asked → Kind → ℕ → List ℕ → ℕ → Tested → Type 0
+TestsTo asked kind k b room (Refused r) = RefusedAs asked kind k b room r
+TestsTo asked kind k b room Passed = Passes asked kind k b room
 
 -- The question is refused or answered as the rules have it, by good choices.
 pub record QuestionPromise (asked : Asked) (kind : Kind) (k : ℕ) (b before after : List ℕ) (r : Reply) : Type 0 where

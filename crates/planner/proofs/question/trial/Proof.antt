@@ -1,17 +1,37 @@
 -- `planner::question::trial` meets its contract: the question with a limit. Assumes nothing.
-use Rattle.planner.proofs.Promised.{trial-promised}
+use Rattle.planner.proofs.Promised.{refusal-given, answer-given, trial-promised}
+use Rattle.asking.specs.declared.ask.Asked.the-variants.{At}
 use borrow.Author.Needs.{needs}
 use Rattle.planner.proofs.question.trial.Statement.{statement}
 use Rattle.planner.proofs.question.trial.Tie as tie
 
-question-requires : tie.Need-question-requires
-question-requires c κs = search needs
+test-requires : tie.Need-test-requires
+test-requires c κs = search needs
+
+enum-known-reply : tie.Need-enum-known-reply
+enum-known-reply c = search needs
+
+enum-told : tie.Need-enum-told
+enum-told c = search needs
+
+ask-crews-requires : tie.Need-ask-crews-requires
+ask-crews-requires c κs = let t = c .before .before .before in (rw (c .before .enum-told .given .1) at (t .test .ensures)) .asks
+
+returns : tie.Need-returns
+returns c =
+    let t = c .before .before .before in
+    let s = t .before .before .before in
+    trial-promised (refusal-given (At (s .args .limit)) (s .args .kind) (s .args .k) (s .args .b .now) (rw (c .before .reply .given .1) at (t .test .ensures)))
 
 same-length : tie.Need-same-length
 same-length c = search needs
 
-returns : tie.Need-returns
-returns c = trial-promised (c .before .before .question .ensures)
+returns-2 : tie.Need-returns-2
+returns-2 c =
+    let e = c .before .before .before .before in
+    let t = e .before .before in
+    let s = t .before .before .before in
+    trial-promised (answer-given (At (s .args .limit)) (s .args .kind) (s .args .k) (s .args .b .now) (rw (e .enum-told .given .1) at (t .test .ensures)) (c .before .before .ask-crews .ensures))
 
 pub trial-spec : {M : Type 1} → statement M
-trial-spec = tie.close (tie.spec question-requires same-length returns)
+trial-spec = tie.close (tie.spec test-requires enum-known-reply enum-told ask-crews-requires returns same-length returns-2)

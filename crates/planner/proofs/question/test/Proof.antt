@@ -1,4 +1,4 @@
--- `planner::question::question` meets its contract: the graph's bytes, the crews, the limit, then the buffer decide; and what passes is asked.
+-- `planner::question::test` meets its contract: the graph's bytes, the crews, the limit, then the room decide.
 -- Assumes nothing.
 use mathlib.Core.Path.{_≡_, refl, sym, ap, _∙_}
 use mathlib.Core.Bool.{true}
@@ -10,10 +10,10 @@ use Rattle.graph_check.specs.Check as sheet
 use Rattle.graph_check.proofs.Exactly.{yes-graph}
 use Rattle.rules.specs.Questions.{crewFault}
 use Rattle.cover.specs.Crews.{crewsOf}
-use Rattle.planner.proofs.Promised.{sheet-refused, crews-refused, limit-refused, room-refused, answer-given}
+use Rattle.planner.proofs.Promised.{sheet-refused, crews-refused, limit-refused, room-refused, nothing-refused}
 use borrow.Author.Needs.{needs}
-use Rattle.planner.proofs.question.question.Statement.{statement}
-use Rattle.planner.proofs.question.question.Tie as tie
+use Rattle.planner.proofs.question.test.Statement.{statement}
+use Rattle.planner.proofs.question.test.Tie as tie
 
 -- Where the crews are tested: the graph's bytes passed.
 module _ (w : tie.After-crews-right) where
@@ -24,7 +24,7 @@ module _ (w : tie.After-crews-right) where
   checked = found .before .before
 
   abbrev s : tie.Start
-  s = checked .before .before .before
+  s = checked .before .before
 
   passed : sheet.checkOf (s .args .b .now) ≡ sheet.yes (found .n .given .0 .0) (found .n .given .0 .1 .0)
   passed = sym (checked .check-graph .ensures) ∙ ap sheet.says (found .n .given .1)
@@ -57,7 +57,7 @@ crews-right-requires c κs = search needs
 returns : tie.Need-returns
 returns c =
     let w = c .before in
-    crews-refused (s w .args .asked) (s w .args .kind) (s w .args .k) (s w .args .b .now) (passed w) (crews-of w ∙ w .crews-right .ensures .wrong (not-true (w .crews-right .result) (c .if1 .taken))) refl
+    crews-refused (s w .args .asked) (s w .args .kind) (s w .args .k) (s w .args .b .now) (passed w) (s w .args .room) (crews-of w ∙ w .crews-right .ensures .wrong (not-true (w .crews-right .result) (c .if1 .taken))) refl
 
 limit-right-requires : tie.Need-limit-right-requires
 limit-right-requires c κs = search needs
@@ -67,7 +67,7 @@ returns-2 c =
     let l = c .before in
     let o = l .before in
     let w = o .before in
-    limit-refused (s w .args .asked) (s w .args .kind) (s w .args .k) (s w .args .b .now) (passed w) (quiet o)
+    limit-refused (s w .args .asked) (s w .args .kind) (s w .args .k) (s w .args .b .now) (passed w) (quiet o) (s w .args .room)
     (l .limit-right .ensures .wrong (not-true (l .limit-right .result) (c .if2 .taken))) refl
 
 returns-3 : tie.Need-returns-3
@@ -75,41 +75,32 @@ returns-3 c =
     let x = c .before in
     let o = x .before .before in
     let w = o .before in
-    room-refused (s w .args .asked) (s w .args .kind) (s w .args .k) (s w .args .b .now) (passed w) (quiet o) (x .before .limit-right .ensures .quiet (within x)) (c .if3 .taken) refl
-
-ask-crews-requires : tie.Need-ask-crews-requires
-ask-crews-requires c κs =
-    let x = c .before .before in
-    let o = x .before .before in
-    let w = o .before in
-    record {
-      valid = yes-graph (s w .args .b .now) (passed w) .graph .valid;
-      crews-right = quiet o;
-      limit-fits = x .before .limit-right .ensures .right (within x);
-      room-most = omega (arith, c .before .if3 .left);
-    }
+    room-refused (s w .args .asked) (s w .args .kind) (s w .args .k) (s w .args .b .now) (passed w) (quiet o) (x .before .limit-right .ensures .quiet (within x)) (s w .args .room) (c .if3 .taken) refl
 
 returns-4 : tie.Need-returns-4
 returns-4 c =
     let f = c .before .f .given in
     let g = c .before .before .before in
-    let s₀ = g .before .before .before in
-    sheet-refused (s₀ .args .asked) (s₀ .args .kind) (s₀ .args .k) (s₀ .args .b .now) (sheet.numberOf (f .0 .0)) (sym (g .check-graph .ensures) ∙ ap sheet.says (f .1)) refl
-
-same-length : tie.Need-same-length
-same-length c = search needs
+    let s₀ = g .before .before in
+    sheet-refused (s₀ .args .asked) (s₀ .args .kind) (s₀ .args .k) (s₀ .args .b .now) (sheet.numberOf (f .0 .0)) (s₀ .args .room) (sym (g .check-graph .ensures) ∙ ap sheet.says (f .1)) refl
 
 returns-5 : tie.Need-returns-5
 returns-5 c =
-    let k = c .before .before in
-    let y = k .before .before in
-    let x = y .before in
+    let x = c .before in
     let o = x .before .before in
     let w = o .before in
-    answer-given (s w .args .asked) (s w .args .kind) (s w .args .k) (s w .args .b .now) (passed w) (quiet o) (x .before .limit-right .ensures .quiet (within x)) (omega (arith, y .if3 .left)) (k .ask-crews .ensures)
+    record {
+      quiet = nothing-refused (s w .args .asked) (s w .args .kind) (s w .args .k) (s w .args .b .now) (passed w) (quiet o) (x .before .limit-right .ensures .quiet (within x)) (s w .args .room) (omega (arith, c .if3 .left));
+      asks = record {
+        valid = yes-graph (s w .args .b .now) (passed w) .graph .valid;
+        crews-right = quiet o;
+        limit-fits = x .before .limit-right .ensures .right (within x);
+        room-most = omega (arith, c .if3 .left);
+      };
+    }
 
-pub question-spec : {M : Type 1} → statement M
-question-spec =
+pub test-spec : {M : Type 1} → statement M
+test-spec =
     tie.close
     (tie.spec
     check-graph-requires
@@ -120,7 +111,5 @@ question-spec =
     limit-right-requires
     returns-2
     returns-3
-    ask-crews-requires
     returns-4
-    same-length
     returns-5)
