@@ -40,8 +40,8 @@ extern "C" {
  * or the parts fill, as cover bytes, whose length is 4 + 2t + 4q by the t and q that they begin with. All else, and all of
  * both at a refusal, is left as it came.
  *
- * Stack: planner_trial and planner_best take up to 320 KiB, and 128 KiB even where they refuse; planner_check takes up to
- * 4 KiB. Measured, with some room to spare, and not proved: a stack that is too small ends the program. No memory is
+ * Stack: planner_trial and planner_best take up to 320 KiB; planner_check, and a refusal by any of them, up to 4 KiB.
+ * Measured, with some room to spare, and not proved: a stack that is too small ends the program. No memory is
  * allocated.
  */
 

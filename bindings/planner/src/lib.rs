@@ -1,9 +1,9 @@
 //! Min-max tree covers of a graph, from the proved static library `planner_c`: trials at a limit, the best limit, and the
 //! check of a filed cover. `include/planner.h` says what the bytes of a graph and of a cover are.
 //!
-//! Stack: [`trial`] and [`best`] take up to 320 KiB, and 128 KiB even where they refuse; [`check`] takes up to 4 KiB. Measured,
-//! with some room to spare, and not proved: a stack that is too small ends the program. The 2 MiB that a thread of the
-//! standard library has are enough; [`std::thread::Builder::stack_size`] gives a thread less.
+//! Stack: [`trial`] and [`best`] take up to 320 KiB; [`check`], and a refusal by any of them, up to 4 KiB. Measured, with some
+//! room to spare, and not proved: a stack that is too small ends the program. The 2 MiB that a thread of the standard library
+//! has are enough; [`std::thread::Builder::stack_size`] gives a thread less.
 
 mod cover;
 

@@ -1,4 +1,5 @@
-//! The stack that the documentation names is enough. Where it is not, the run of these tests ends in a fault.
+//! The stack that the documentation names is enough. Where it is not, the run of these tests ends in a fault. What takes up to
+//! 4 KiB is given 32: a thread has some of its own to keep there.
 
 use planner::{best, check, trial, Cover, Kind, Reply, BUFFER};
 use reference::graph::sheet;
@@ -37,8 +38,8 @@ fn the_deepest_questions() {
 fn refusals() {
     for kind in [Kind::Rooted, Kind::Unrooted] {
         let tried = move || trial(kind, 33, 1, &path(), &mut vec![0; BUFFER]);
-        assert_eq!(within(144, tried), Reply::Refused(21));
+        assert_eq!(within(32, tried), Reply::Refused(21));
         let asked = move || best(kind, 32, &path(), &mut vec![0; BUFFER - 1]);
-        assert_eq!(within(144, asked), Reply::Refused(23));
+        assert_eq!(within(32, asked), Reply::Refused(23));
     }
 }
