@@ -4,8 +4,8 @@ use Prim.Native.Nat.{ℕ}
 use mathlib.Core.Path.{_≡_}
 use mathlib.Core.List.{List}
 use Rattle.graph.specs.Graph.{Graph}
-use Rattle.cover.specs.declared.crews.Kind.{Kind}
-use Rattle.cover.specs.declared.crews.Kind.the-variants.{Rooted, Unrooted}
+use Rattle.admit.specs.declared.crews.Kind.{Kind}
+use Rattle.admit.specs.declared.crews.Kind.the-variants.{Rooted, Unrooted}
 use Rattle.rooted_answer.specs.Answer.{RootedAnswerAsked}
 use Rattle.unrooted.specs.Answer as unrooted
 use Rattle.prepare.specs.Crews.{CrewsReady}

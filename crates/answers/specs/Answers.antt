@@ -5,8 +5,8 @@ use mathlib.Core.Path.{_≡_}
 use mathlib.Core.List.{List}
 use Rattle.graph.specs.Graph.{Graph}
 use Rattle.rules.specs.Order.{ordered}
-use Rattle.cover.specs.declared.crews.Kind.{Kind}
-use Rattle.cover.specs.declared.crews.Kind.the-variants.{Rooted, Unrooted}
+use Rattle.admit.specs.declared.crews.Kind.{Kind}
+use Rattle.admit.specs.declared.crews.Kind.the-variants.{Rooted, Unrooted}
 use Rattle.distance_table.specs.Tabled.{LastsTabled}
 use Rattle.rooted_state.specs.Prepared.{WholeAround}
 use Rattle.rooted_decide.specs.Decide.{NoCoverAsked}

@@ -1,6 +1,6 @@
 // Whether there is no cover at all, and the answer at a limit, by crews of either kind.
-use cover::crews::Kind;
-use pieces::reply::Reply;
+use admit::crews::Kind;
+use replies::Reply;
 use rooted_answer::answer_rooted;
 use rooted_decide::no_cover_rooted;
 use unrooted::answer::answer_unrooted;
@@ -9,7 +9,7 @@ ghost use mathlib.Core.Path.{_≡_};
 ghost use lib.ListN.{length};
 ghost use Rattle.graph.specs.Bytes.{graphOf};
 ghost use Rattle.rules.specs.Search.{noCover};
-ghost use Rattle.pieces.specs.Replies.{Answers};
+ghost use Rattle.replies.specs.Replies.{Answers};
 ghost use Rattle.prepare.specs.Crews.{crewsWith};
 ghost use Rattle.answers.specs.Answers.{ForestReady, LimitAsked};
 

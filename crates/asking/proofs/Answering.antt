@@ -23,12 +23,12 @@ use Rattle.rules.specs.Questions.{crewCount, tooManyRoots, crewFault, written, 
 use Rattle.rules.specs.Fit.{GoodFor}
 use Rattle.rules.proofs.CrewsRight.{rooted-fit}
 use Rattle.planner_laws.proofs.SomeChoices.{some-choices}
-use Rattle.cover.specs.declared.crews.Kind.{Kind}
-use Rattle.cover.specs.declared.crews.Kind.the-variants.{Rooted, Unrooted}
-use Rattle.cover.specs.Crews.{crewsOf}
-use Rattle.pieces.specs.declared.reply.Reply.{Reply}
-use Rattle.pieces.specs.declared.reply.Reply.the-variants.{NoCover}
-use Rattle.pieces.specs.Replies.{Answers}
+use Rattle.admit.specs.declared.crews.Kind.{Kind}
+use Rattle.admit.specs.declared.crews.Kind.the-variants.{Rooted, Unrooted}
+use Rattle.admit.specs.Crews.{crewsOf}
+use Rattle.replies.specs.declared.Reply.{Reply}
+use Rattle.replies.specs.declared.Reply.the-variants.{NoCover}
+use Rattle.replies.specs.Replies.{Answers}
 use Rattle.asking.specs.declared.ask.Asked.{Asked}
 use Rattle.asking.specs.declared.ask.Asked.the-variants.{At, Best}
 use Rattle.rooted_state.proofs.RootsReady.{roots-inside}

@@ -5,7 +5,7 @@ use mathlib.Core.Path.{_≡_, refl}
 use mathlib.Core.List.{List, []}
 use Rattle.graph.specs.Graph.{Graph}
 use Rattle.rules.specs.Order.{ordered}
-use Rattle.cover.specs.declared.crews.Kind.the-variants.{Rooted, Unrooted}
+use Rattle.admit.specs.declared.crews.Kind.the-variants.{Rooted, Unrooted}
 use Rattle.rooted_state.specs.Prepared.{Prepared}
 use Rattle.unrooted.specs.Answer as unrooted
 use Rattle.search.proofs.KindDecides.{one-kind}

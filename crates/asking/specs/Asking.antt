@@ -13,10 +13,10 @@ use Rattle.rules.specs.RootedTrial.{Choices}
 use Rattle.rules.specs.Search.{trial, bestLimit, best}
 use Rattle.rules.specs.Fit.{GoodFor}
 use Rattle.rules.specs.Questions.{crewFault}
-use Rattle.cover.specs.Crews.{crewsOf}
-use Rattle.cover.specs.declared.crews.Kind.{Kind}
-use Rattle.pieces.specs.declared.reply.Reply.{Reply}
-use Rattle.pieces.specs.Replies.{Replied}
+use Rattle.admit.specs.Crews.{crewsOf}
+use Rattle.admit.specs.declared.crews.Kind.{Kind}
+use Rattle.replies.specs.declared.Reply.{Reply}
+use Rattle.replies.specs.Replies.{Replied}
 use Rattle.order.specs.Order.{RoomForOrder}
 use Rattle.asking.specs.declared.ask.Asked.{Asked}
 use Rattle.asking.specs.declared.ask.Asked.the-variants.{At, Best}

@@ -1,15 +1,15 @@
 // A question about a graph, prepared once and answered: a trial at a limit, or the best limit.
 use crate::ask_rooted::ask_rooted;
 use crate::ask_unrooted::ask_unrooted;
+use admit::crews::Kind;
 use answers::answer_at;
 use answers::no_cover;
-use cover::crews::Kind;
 use pieces::pieces::number_up;
-use pieces::reply::Reply;
+use replies::Reply;
 use search::limit::best_limit;
 ghost use lib.ListN.{length};
 ghost use Rattle.graph.specs.Bytes.{graphOf};
-ghost use Rattle.cover.specs.Crews.{crewsOf};
+ghost use Rattle.admit.specs.Crews.{crewsOf};
 ghost use Rattle.asking.specs.declared.ask.Asked.the-variants.{Best};
 ghost use Rattle.prepare.specs.Crews.{crewsWith};
 ghost use Rattle.answers.specs.Answers.{AnswerAsked};

@@ -2,9 +2,9 @@
 // what a question about a small graph costs.
 use crate::ask::Asked;
 use crate::ask::answer_asked;
-use cover::crews::Kind;
-use pieces::reply::Reply;
+use admit::crews::Kind;
 use prepare::prepare_rooted;
+use replies::Reply;
 ghost use lib.ListN.{length};
 ghost use Rattle.graph.specs.Bytes.{graphOf};
 ghost use Rattle.rules.specs.Cover.{rooted};

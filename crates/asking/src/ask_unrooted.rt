@@ -1,9 +1,9 @@
 // A question by crews without roots: prepared in arrays, and answered. The arrays for the order are small where that is enough.
 use crate::ask::Asked;
 use crate::ask::answer_asked;
-use cover::crews::Kind;
-use pieces::reply::Reply;
+use admit::crews::Kind;
 use prepare::prepare_unrooted;
+use replies::Reply;
 ghost use lib.ListN.{length};
 ghost use Rattle.graph.specs.Bytes.{graphOf};
 ghost use Rattle.rules.specs.Cover.{unrooted};

@@ -9,5 +9,3 @@ pub mod ChosenFit
 pub mod TreeRuns
 -- the weights of runs and trees
 pub mod Weights
--- the test of the crews' number
-pub mod CrewTests

@@ -3,5 +3,3 @@
 pub mod Chosen
 -- runs of entries
 pub mod Runs
--- crews of either kind
-pub mod Crews

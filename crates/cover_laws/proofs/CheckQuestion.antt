@@ -8,17 +8,16 @@ use mathlib.Core.Logic.{_↔_}
 use mathlib.Core.Option.{some, none}
 use native.Mathlib.Omega.{arith}
 use Rattle.graph.specs.Graph.{Graph}
-use Rattle.graph.specs.Bytes.{graphOf}
 use Rattle.graph.specs.Fault.{Fault, firstFault, refusedOr}
 use Rattle.rules.specs.Cover.{Crews, heaviest}
 use Rattle.rules.specs.CoverBytes.{decode}
 use Rattle.rules.specs.CheckCover.{coverFault}
 use Rattle.rules.specs.Reply.{Verdict, number}
-use Rattle.rules.specs.Questions.{sheetFault, crewFault, askCheck}
+use Rattle.rules.specs.Questions.{Question, graphIn, crewsIn, questionFault, checkFault, askCheck}
 use Rattle.rules.specs.Filed.{Filed}
 use Rattle.rules.proofs.Fields.{Bytes}
 use Rattle.graph.proofs.Faults.{quiet-each, first-quiet, none-quiet}
-use Rattle.rules.proofs.SheetRight.{sheet-right}
+use Rattle.rules.proofs.Admitted.{admitted}
 use Rattle.cover_laws.proofs.CheckedCovers.{heaviest-read, checked-covers}
 
 -- An answer of yes says that nothing is refused, and what it says.
@@ -33,35 +32,36 @@ unfolding refusedOr
 quiet-says e = rw e
 
 -- The check answers yes with h exactly where the bytes are those of a cover whose heaviest tree weighs h.
-pub yes-exactly-covers : (sheet : List ℕ) (crews : Crews) (b : List ℕ) → Bytes b → (h : ℕ) → (askCheck sheet crews b ≡ Verdict.yes h) ↔ Filed sheet crews b h
-unfolding askCheck
-yes-exactly-covers sheet crews b bytes h = (one, other)
+pub yes-exactly-covers : (q : Question) (b : List ℕ) → Bytes b → (h : ℕ) → (askCheck q b ≡ Verdict.yes h) ↔ Filed q b h
+unfolding askCheck checkFault
+yes-exactly-covers q b bytes h = (one, other)
   where
     g : Graph
-    g = graphOf sheet
+    g = graphIn q
+
+    crews : Crews
+    crews = crewsIn q
 
     faults : List Fault
-    faults = sheetFault sheet ∷ crewFault crews (g .vertices) ∷ coverFault g crews b ∷ []
+    faults = questionFault q ∷ coverFault g crews b ∷ []
 
-    one : refusedOr number (firstFault faults) (Verdict.yes (heaviest g (decode b))) ≡ Verdict.yes h → Filed sheet crews b h
+    one : refusedOr number (firstFault faults) (Verdict.yes (heaviest g (decode b))) ≡ Verdict.yes h → Filed q b h
     one e =
         let says = yes-says (firstFault faults) h (heaviest g (decode b)) e in
-        let is-graph = sheet-right sheet .0 (quiet-each faults (says .0) (List·Memᴰ·head refl)) in
-        let crews-right = quiet-each faults (says .0) (List·Memᴰ·tail (List·Memᴰ·head refl)) in
-        let cover-right = quiet-each faults (says .0) (List·Memᴰ·tail (List·Memᴰ·tail (List·Memᴰ·head refl))) in
-        let r = checked-covers g (is-graph .valid) crews crews-right b bytes .0 cover-right in
+        let quiet = quiet-each faults (says .0) (List·Memᴰ·head refl) in
+        let a = admitted q quiet in
+        let r = checked-covers g (a .valid) crews (a .crews-right) b bytes .0 (quiet-each faults (says .0) (List·Memᴰ·tail (List·Memᴰ·head refl))) in
         record {
-          is-graph = is-graph;
-          crews-right = crews-right;
+          admitted = quiet;
           trees = r .0;
           cover = r .1;
           bytes = r .2;
-          weighs = says .1 ∙ heaviest-read g (is-graph .valid) crews crews-right (r .0) (r .1) b (r .2);
+          weighs = says .1 ∙ heaviest-read g (a .valid) crews (a .crews-right) (r .0) (r .1) b (r .2);
         }
 
-    other : Filed sheet crews b h → refusedOr number (firstFault faults) (Verdict.yes (heaviest g (decode b))) ≡ Verdict.yes h
+    other : Filed q b h → refusedOr number (firstFault faults) (Verdict.yes (heaviest g (decode b))) ≡ Verdict.yes h
     other f =
-        let valid = f .is-graph .valid in
-        let cover-right = checked-covers g valid crews (f .crews-right) b bytes .1 (f .trees, f .cover, f .bytes) in
-        quiet-says (first-quiet _ (sheet-right sheet .1 (f .is-graph)) (first-quiet _ (f .crews-right) (first-quiet _ cover-right none-quiet)))
-        ∙ ap Verdict.yes (heaviest-read g valid crews (f .crews-right) (f .trees) (f .cover) b (f .bytes) ∙ sym (f .weighs))
+        let a = admitted q (f .admitted) in
+        let cover-right = checked-covers g (a .valid) crews (a .crews-right) b bytes .1 (f .trees, f .cover, f .bytes) in
+        quiet-says (first-quiet _ (f .admitted) (first-quiet _ cover-right none-quiet))
+        ∙ ap Verdict.yes (heaviest-read g (a .valid) crews (a .crews-right) (f .trees) (f .cover) b (f .bytes) ∙ sym (f .weighs))

@@ -14,8 +14,8 @@ use Rattle.rules.specs.CoverBytes.{encode}
 use Rattle.rules.specs.Held.{treesAt, risen}
 use Rattle.rules.specs.RootedTrial.{rootedParts, mayGo, chosenParts}
 use Rattle.cover.specs.Chosen.{IsHeld, AllHeld}
-use Rattle.pieces.specs.declared.reply.Reply.{Reply}
-use Rattle.pieces.specs.declared.reply.Reply.the-variants.{Parts}
+use Rattle.replies.specs.declared.Reply.{Reply}
+use Rattle.replies.specs.declared.Reply.the-variants.{Parts}
 use Rattle.deficient.specs.declared.Deficient.{Deficient}
 
 -- How many edges pieces of these numbers have together.

@@ -9,7 +9,7 @@ use pieces::pieces::element_at;
 use pieces::pieces::number_up;
 use pieces::pieces::piece_edges;
 use pieces::pieces::put_risen;
-use pieces::reply::Reply;
+use replies::Reply;
 use unions::deficient::count_allowed;
 use unions::deficient::marked_places;
 ghost use mathlib.Core.List.{map};

@@ -8,11 +8,13 @@ use lib.ListN.{length}
 use Rattle.lists.specs.Put.{PutTo}
 use Rattle.graph.specs.Bytes.{graphOf}
 use Rattle.rules.specs.Reply as rules
-use Rattle.cover.specs.declared.crews.Kind.{Kind}
+use Rattle.rules.specs.Questions.{Question, graphIn}
+use Rattle.admit.specs.declared.refusal.Refusal.{Refusal}
+use Rattle.admit.specs.Refusals.{numberOf}
 use Rattle.filed.specs.declared.check.Verdict.{Verdict}
-use Rattle.filed.specs.declared.check.Verdict.the-variants.{Yes}
+use Rattle.filed.specs.declared.check.Verdict.the-variants.{Yes, Refused}
 use Rattle.filed.specs.Promise.{says}
-use Rattle.pieces.specs.declared.reply.Reply.{Reply}
+use Rattle.replies.specs.declared.Reply.{Reply}
 use Rattle.reply_text.specs.Lines.{line}
 use Rattle.reply_text.specs.Text.{textOf}
 use Rattle.reply_text.specs.Replies.{TextAsked, TextWritten, RefusalWritten}
@@ -20,15 +22,15 @@ use Rattle.gate_replies.specs.Fixed.{FixedWritten}
 use Rattle.gate_replies.proofs.FixedReplies.{text-fits, fixed-fits}
 use Rattle.districts.specs.Text.{DistrictBy, DistrictWritten, verdictText}
 
-module _ {whole : Bool} {kind : Kind} {k : ℕ} {b : List ℕ} {reply : Reply} {buf before after : List ℕ} {r : ℕ} where
-  pub whole-written : whole ≡ true → TextWritten (graphOf b) reply buf before after r → DistrictWritten whole kind k b reply buf before after r
-  whole-written q w = record { text = subst (DistrictBy kind k b reply buf before after r) (sym q) w }
+module _ {whole : Bool} {asked : Question} {reply : Reply} {buf before after : List ℕ} {r : ℕ} where
+  pub whole-written : whole ≡ true → TextWritten (graphIn asked) reply buf before after r → DistrictWritten whole asked reply buf before after r
+  whole-written q w = record { text = subst (DistrictBy asked reply buf before after r) (sym q) w }
 
-  pub part-written : whole ≡ false → FixedWritten kind k b reply buf before after r → DistrictWritten whole kind k b reply buf before after r
-  part-written q w = record { text = subst (DistrictBy kind k b reply buf before after r) (sym q) w }
+  pub part-written : whole ≡ false → FixedWritten asked reply buf before after r → DistrictWritten whole asked reply buf before after r
+  part-written q w = record { text = subst (DistrictBy asked reply buf before after r) (sym q) w }
 
-pub district-fits : (whole : Bool) {kind : Kind} {k : ℕ} {b buf before after : List ℕ} {reply : Reply} {room r : ℕ} → TextAsked (graphOf b) reply buf room
-    → DistrictWritten whole kind k b reply buf before after r → r ≤ length before
+pub district-fits : (whole : Bool) {asked : Question} {buf before after : List ℕ} {reply : Reply} {room r : ℕ} → TextAsked (graphIn asked) reply buf room
+    → DistrictWritten whole asked reply buf before after r → r ≤ length before
 district-fits true a w = text-fits a (w .text)
 district-fits false {reply = reply} a w = fixed-fits reply a (w .text)
 
@@ -38,6 +40,6 @@ module _ (v : Verdict) {before after : List ℕ} {r : ℕ} where
   unfolding verdictText
   yes-put q p = subst (λ x. PutTo 0 (verdictText (says x)) before after r) (sym q) p
 
-  pub number-put : {n : ℕ} → says v ≡ rules.number n → RefusalWritten n before after r → PutTo 0 (verdictText (says v)) before after r
+  pub number-put : {f : Refusal} → v ≡ Refused f → RefusalWritten (numberOf f) before after r → PutTo 0 (verdictText (says v)) before after r
   unfolding verdictText textOf
-  number-put e p = subst (λ x. PutTo 0 (verdictText x) before after r) (sym e) (p .text (graphOf []))
+  number-put q p = subst (λ x. PutTo 0 (verdictText (says x)) before after r) (sym q) (p .text (graphOf []))

@@ -3,21 +3,20 @@
 use Prim.Native.Nat.{ℕ}
 use mathlib.Core.Bool.{Bool, true, false}
 use mathlib.Core.List.{List, [], _∷_}
-use Rattle.graph.specs.Bytes.{graphOf}
 use Rattle.rules.specs.Reply as rules
-use Rattle.cover.specs.declared.crews.Kind.{Kind}
-use Rattle.pieces.specs.declared.reply.Reply.{Reply}
+use Rattle.rules.specs.Questions.{Question, graphIn}
+use Rattle.replies.specs.declared.Reply.{Reply}
 use Rattle.reply_text.specs.Lines.{line}
 use Rattle.reply_text.specs.Replies.{TextWritten}
 use Rattle.gate_replies.specs.Fixed.{FixedWritten}
 
 -- The reply's whole text where that is asked for; otherwise what the rules fix of it.
-abbrev pub DistrictBy : Kind → ℕ → List ℕ → Reply → List ℕ → List ℕ → List ℕ → ℕ → Bool → Type 0
-DistrictBy kind k b reply buf before after r true = TextWritten (graphOf b) reply buf before after r
-DistrictBy kind k b reply buf before after r false = FixedWritten kind k b reply buf before after r
+abbrev pub DistrictBy : Question → Reply → List ℕ → List ℕ → List ℕ → ℕ → Bool → Type 0
+DistrictBy q reply buf before after r true = TextWritten (graphIn q) reply buf before after r
+DistrictBy q reply buf before after r false = FixedWritten q reply buf before after r
 
-pub record DistrictWritten (whole : Bool) (kind : Kind) (k : ℕ) (b : List ℕ) (reply : Reply) (buf before after : List ℕ) (r : ℕ) : Type 0 where
-  pub text : DistrictBy kind k b reply buf before after r whole
+pub record DistrictWritten (whole : Bool) (q : Question) (reply : Reply) (buf before after : List ℕ) (r : ℕ) : Type 0 where
+  pub text : DistrictBy q reply buf before after r whole
 
 -- `yes` heaviest, or `refused` number.
 unfoldable pub verdictText : rules.Verdict → List ℕ

@@ -5,8 +5,8 @@
 // implementation. The replies in full go to standard error, as bytes, for a judge that knows which choices are free.
 mod text;
 
+use admit::crews::Kind;
 use asking::ask::Asked;
-use cover::crews::Kind;
 use filed::check::check_cover;
 use gate_replies::full::filled;
 use gate_replies::full::room;
@@ -14,9 +14,9 @@ use gate_replies::full::write_full;
 use libc::STDERR_FILENO;
 use libc::STDIN_FILENO;
 use libc::STDOUT_FILENO;
-use pieces::reply::Reply;
 use planner::question::best;
 use planner::question::trial;
+use replies::Reply;
 use text::write_text;
 use text::write_verdict;
 ghost use Prim.Native.Nat.{_^_, _≤_, _<_};

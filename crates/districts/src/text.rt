@@ -1,9 +1,8 @@
 // What is printed of a reply, and of the check's answer.
-use cover::crews::Kind;
+use admit::crews::Kind;
 use filed::check::Verdict;
-use filed::check::number_of;
 use gate_replies::fixed::write_fixed;
-use pieces::reply::Reply;
+use replies::Reply;
 use reply_text::lines::put_line;
 use reply_text::reply::write_refused;
 use reply_text::reply::write_reply;
@@ -11,6 +10,7 @@ ghost use Prim.Native.Nat.{_≤_};
 ghost use lib.ListN.{length};
 ghost use Rattle.lists.specs.Put.{PutTo};
 ghost use Rattle.graph.specs.Bytes.{graphOf};
+ghost use Rattle.admit.specs.Crews.{asks};
 ghost use Rattle.filed.specs.Promise.{says};
 ghost use Rattle.reply_text.specs.Replies.{TextAsked};
 ghost use Rattle.districts.specs.Text.{DistrictWritten, verdictText};
@@ -26,7 +26,7 @@ pub(crate) fn write_text(
     out: &mut [u8],
 ) -> usize
     requires { ⌜ TextAsked (graphOf (now b)) reply (now buf) (length (now out)) ⌝ }
-    ensures { λ r. ⌜ DistrictWritten whole kind k (now (b .entry)) reply (now (buf .entry)) (now (out .entry)) (now (out .exit)) r ⌝ }
+    ensures { λ r. ⌜ DistrictWritten whole (asks kind k (now (b .entry))) reply (now (buf .entry)) (now (out .entry)) (now (out .exit)) r ⌝ }
 {
     if whole {
         return write_reply(b, reply, buf, out);
@@ -43,8 +43,8 @@ pub(crate) fn write_verdict(verdict: Verdict, out: &mut [u8]) -> usize
         Verdict::Yes(heaviest) => {
             return put_line(b"yes", heaviest, out, 0);
         }
-        _ => {
-            return write_refused(number_of(verdict) as u64, out);
+        Verdict::Refused(f) => {
+            return write_refused(admit::refusal::number(f) as u64, out);
         }
     }
 }

@@ -9,21 +9,17 @@ use native.Mathlib.Omega.{arith}
 use lib.ListN.{length}
 use borrow.Author.Tests.{le-leb, lt-leb, eq-eqb, ne-eqb}
 use Rattle.graph.specs.Graph.{Graph, edgeCount}
-use Rattle.graph.specs.Bytes.{graphOf}
 use Rattle.graph.proofs.Faults.{one-fault}
-use Rattle.graph_check.specs.Check as sheet
 use Rattle.graph.specs.Fault.{faultUnless, firstFault, refusedOr}
 use Rattle.rules.specs.Cover.{Crews, heaviest}
 use Rattle.rules.specs.CoverBytes.{coverLength, decode}
 use Rattle.rules.specs.CheckCover.{startsRight, startsBelow, entriesRight, treesRight, verticesCovered, coverFault}
 use Rattle.rules.specs.Reply as reply
-use Rattle.rules.specs.Questions.{numberIn, sheetFault, crewFault, askCheck}
+use Rattle.rules.specs.Questions.{Question, graphIn, crewsIn, questionFault, checkFault, askCheck}
 use Rattle.rules.proofs.Fields.{Bytes}
 use Rattle.cover_laws.proofs.CheckQuestion.{yes-exactly-covers}
-use Rattle.cover.specs.declared.crews.Kind.{Kind}
 use Rattle.filed.specs.declared.check.Verdict.{Verdict}
 use Rattle.filed.specs.declared.check.Verdict.the-variants as verdict
-use Rattle.cover.specs.Crews.{crewsOf}
 use Rattle.filed.specs.Promise.{says, answer, treesFault, CheckPromise}
 
 -- The cover's bytes, for a graph and crews.
@@ -82,21 +78,15 @@ module _ (g : Graph) (c : List ℕ) where
     unfolding treesFault firstFault faultUnless refusedOr
     all-pass u = rw (t, u)
 
--- The question: the graph's bytes and the crews come first.
-module _ (b : List ℕ) (crews : Crews) (c : List ℕ) where
-  pub sheet-refused : {k : ℕ} → sheet.checkOf b ≡ sheet.number k → reply.number k ≡ askCheck b crews c
-  unfolding askCheck sheetFault numberIn firstFault refusedOr
-  sheet-refused q = rw q
+-- The question: what every question brings comes first, then the cover's bytes.
+module _ (q : Question) (c : List ℕ) where
+  pub question-refused : {k : ℕ} → some k ≡ questionFault q → reply.number k ≡ askCheck q c
+  unfolding askCheck checkFault firstFault refusedOr
+  question-refused e = rw (sym e)
 
-  module _ {n m : ℕ} (q : sheet.checkOf b ≡ sheet.yes n m) where
-    pub crews-refused : crewFault crews (graphOf b .vertices) ≡ some 21 → reply.number 21 ≡ askCheck b crews c
-    unfolding askCheck sheetFault numberIn firstFault refusedOr
-    crews-refused t = rw (q, t)
-
-    pub cover-decides : crewFault crews (graphOf b .vertices) ≡ none → {said : reply.Verdict} → said ≡ answer (graphOf b) c (coverFault (graphOf b) crews c)
-        → said ≡ askCheck b crews c
-    unfolding askCheck sheetFault numberIn firstFault
-    cover-decides t d = rw (q, t) (d ∙ ap (answer (graphOf b) c) (sym (one-fault (coverFault (graphOf b) crews c))))
+  pub cover-decides : none ≡ questionFault q → {said : reply.Verdict} → said ≡ answer (graphIn q) c (coverFault (graphIn q) (crewsIn q) c) → said ≡ askCheck q c
+  unfolding askCheck checkFault firstFault
+  cover-decides e d = rw (sym e) (d ∙ ap (answer (graphIn q) c) (sym (one-fault (coverFault (graphIn q) (crewsIn q) c))))
 
 -- Yes is no number.
 not-number : {h k : ℕ} → reply.yes h ≡ reply.number k → ⊥
@@ -105,19 +95,13 @@ not-number q = let z : _≡_ {A = ℕ} 0 1 = cc in omega arith
 -- Only one answer says yes.
 says-yes : (r : Verdict) (h : ℕ) → says r ≡ reply.yes h → r ≡ verdict.Yes h
 says-yes (verdict.Yes k) h q = cc
-says-yes (verdict.Sheet f) h q = absurd (not-number (sym q))
-says-yes verdict.Crews h q = absurd (not-number (sym q))
-says-yes verdict.Length h q = absurd (not-number (sym q))
-says-yes verdict.Starts h q = absurd (not-number (sym q))
-says-yes verdict.Entries h q = absurd (not-number (sym q))
-says-yes verdict.Trees h q = absurd (not-number (sym q))
-says-yes verdict.Vertices h q = absurd (not-number (sym q))
+says-yes (verdict.Refused f) h q = absurd (not-number (sym q))
 
 -- An answer by the rules is yes exactly to covers.
-pub promised : (kind : Kind) (k : ℕ) (b c : List ℕ) (r : Verdict) → Bytes c → says r ≡ askCheck b (crewsOf kind k) c → CheckPromise kind k b c r
-promised kind k b c r bytes q =
-    let exactly = yes-exactly-covers b (crewsOf kind k) c bytes in
+pub promised : (q : Question) (c : List ℕ) (r : Verdict) → Bytes c → says r ≡ askCheck q c → CheckPromise q c r
+promised q c r bytes e =
+    let exactly = yes-exactly-covers q c bytes in
     record {
-      rule = q;
-      exactly = λ h. (λ e. exactly h .0 (sym q ∙ ap says e), λ f. says-yes r h (q ∙ exactly h .1 f));
+      rule = e;
+      exactly = λ h. (λ y. exactly h .0 (sym e ∙ ap says y), λ f. says-yes r h (e ∙ exactly h .1 f));
     }

@@ -7,5 +7,3 @@ pub mod RunTests
 pub mod TreeTests
 -- the check, test by test
 pub mod CheckSteps
--- a verdict that is not yes says a number
-pub mod VerdictNumbers

@@ -5,29 +5,21 @@ use mathlib.Core.Path.{_≡_}
 use mathlib.Core.Logic.{_↔_}
 use mathlib.Core.List.{List, [], _∷_}
 use Rattle.graph.specs.Graph.{Graph}
-use Rattle.graph_check.specs.Check.{numberOf}
 use Rattle.graph.specs.Fault.{Fault, faultUnless, firstFault, refusedOr}
 use Rattle.rules.specs.Cover as cover
 use Rattle.rules.specs.CoverBytes.{decode}
 use Rattle.rules.specs.CheckCover.{treesRight, verticesCovered}
 use Rattle.rules.specs.Reply as reply
-use Rattle.rules.specs.Questions.{askCheck}
+use Rattle.rules.specs.Questions.{Question, askCheck}
 use Rattle.rules.specs.Filed.{Filed}
-use Rattle.cover.specs.declared.crews.Kind.{Kind}
+use Rattle.admit.specs.Refusals.{numberOf}
 use Rattle.filed.specs.declared.check.Verdict.{Verdict}
-use Rattle.filed.specs.declared.check.Verdict.the-variants.{Yes, Sheet, Crews, Length, Starts, Entries, Trees, Vertices}
-use Rattle.cover.specs.Crews.{crewsOf}
+use Rattle.filed.specs.declared.check.Verdict.the-variants.{Yes, Refused}
 
 -- Document 01's value or number of each answer.
 abbrev pub says : Verdict → reply.Verdict
 says (Yes h) = reply.yes h
-says (Sheet f) = reply.number (numberOf f)
-says Crews = reply.number 21
-says Length = reply.number 31
-says Starts = reply.number 32
-says Entries = reply.number 33
-says Trees = reply.number 34
-says Vertices = reply.number 35
+says (Refused f) = reply.number (numberOf f)
 
 -- The number of a verdict, 0 where it is yes.
 abbrev pub numberOr0 : reply.Verdict → ℕ
@@ -45,6 +37,6 @@ treesFault g c =
     firstFault (faultUnless (treesRight g trees) 34 ∷ faultUnless (verticesCovered g trees) 35 ∷ [])
 
 -- The answer is that of document 01's rules, and it is yes exactly where the bytes are those of a cover by the crews, with its heaviest weight.
-pub record CheckPromise (kind : Kind) (k : ℕ) (b c : List ℕ) (r : Verdict) : Type 0 where
-  pub rule : says r ≡ askCheck b (crewsOf kind k) c
-  pub exactly : (h : ℕ) → (r ≡ Yes h) ↔ Filed b (crewsOf kind k) c h
+pub record CheckPromise (q : Question) (c : List ℕ) (r : Verdict) : Type 0 where
+  pub rule : says r ≡ askCheck q c
+  pub exactly : (h : ℕ) → (r ≡ Yes h) ↔ Filed q c h

@@ -1,7 +1,8 @@
 // The check of a filed cover: the graph's bytes (11 to 16), the crews (21), then the cover's bytes (31 to 35), in that order.
 use crate::trees::trees_right;
-use cover::crews::Kind;
-use cover::crews::crews_right;
+use admit::Admitted;
+use admit::crews::Kind;
+use admit::refusal::Refusal;
 use cover::heaviest::heaviest_tree;
 use cover::read::cover_length;
 use filed_entries::entries::entries_right;
@@ -9,33 +10,20 @@ use filed_entries::starts::starts_at_most;
 use filed_entries::starts::starts_at_roots;
 use filed_entries::starts::starts_below;
 use filed_entries::vertices::vertices_covered;
-use graph_check::Checked;
 ghost use mathlib.Core.Path.{_≡_};
 ghost use Rattle.graph.specs.Bytes.{graphOf};
 ghost use Rattle.graph.specs.Valid.{Valid};
 ghost use Rattle.rules.specs.CheckCover.{startsRight, coverFault};
 ghost use Rattle.cover.specs.Runs.{CoverGiven};
-ghost use Rattle.cover.specs.Crews.{crewsOf};
+ghost use Rattle.admit.specs.Crews.{asks, crewsOf};
 ghost use Rattle.filed.specs.Promise.{says, numberOr0, answer, treesFault, CheckPromise};
 
-// What the check answers, by cause.
+// What the check answers.
 pub enum Verdict {
     // The bytes are a cover's, whose heaviest tree weighs so much.
     Yes(u64),
-    // The graph's bytes have a fault.
-    Sheet(graph_check::Cause),
-    // There are no crews, too many, or more roots than vertices.
-    Crews,
-    // The length is not that of so many trees and entries.
-    Length,
-    // The number of trees or a start breaks the kind's rule, or a start is no vertex.
-    Starts,
-    // An entry names no tree or no edge, or stands out of order.
-    Entries,
-    // A tree has a loop, or an edge that is not joined to its start.
-    Trees,
-    // A vertex is not covered.
-    Vertices,
+    // They are not, or the question is refused.
+    Refused(Refusal),
 }
 
 // Document 01's number of a verdict; 0 for yes.
@@ -44,13 +32,7 @@ pub fn number_of(verdict: Verdict) -> u32
 {
     match verdict {
         Verdict::Yes(_) => 0,
-        Verdict::Sheet(f) => graph_check::number(f) as u32,
-        Verdict::Crews => 21,
-        Verdict::Length => 31,
-        Verdict::Starts => 32,
-        Verdict::Entries => 33,
-        Verdict::Trees => 34,
-        Verdict::Vertices => 35,
+        Verdict::Refused(f) => admit::refusal::number(f),
     }
 }
 
@@ -71,10 +53,10 @@ fn check_trees(b: &[u8], c: &[u8]) -> Verdict
 {
     let mut parents = [0u8; 256];
     if !trees_right(b, c, &mut parents) {
-        return Verdict::Trees;
+        return Verdict::Refused(Refusal::Trees);
     }
     if !vertices_covered(b, c) {
-        return Verdict::Vertices;
+        return Verdict::Refused(Refusal::Vertices);
     }
     Verdict::Yes(heaviest_tree(b, c))
 }
@@ -85,34 +67,29 @@ fn check_filed(kind: Kind, k: usize, b: &[u8], c: &[u8]) -> Verdict
     ensures { λ r. ⌜ says r ≡ answer (graphOf (now (b .entry))) (now (c .entry)) (coverFault (graphOf (now (b .entry))) (crewsOf kind k) (now (c .entry))) ⌝ }
 {
     if c.len() < 4 {
-        return Verdict::Length;
+        return Verdict::Refused(Refusal::Length);
     }
     if c.len() != cover_length(c) {
-        return Verdict::Length;
+        return Verdict::Refused(Refusal::Length);
     }
     if !starts_right(kind, k, c) {
-        return Verdict::Starts;
+        return Verdict::Refused(Refusal::Starts);
     }
     if !starts_below(c, graph::vertex_count(b)) {
-        return Verdict::Starts;
+        return Verdict::Refused(Refusal::Starts);
     }
     if !entries_right(c, graph::edge_count(b)) {
-        return Verdict::Entries;
+        return Verdict::Refused(Refusal::Entries);
     }
     check_trees(b, c)
 }
 
 // The check: whether c is the bytes of a cover of the graph by the crews, and how much its heaviest tree weighs.
 pub fn check_cover(kind: Kind, k: usize, b: &[u8], c: &[u8]) -> Verdict
-    ensures { λ r. ⌜ CheckPromise kind k (now (b .entry)) (now (c .entry)) r ⌝ }
+    ensures { λ r. ⌜ CheckPromise (asks kind k (now (b .entry))) (now (c .entry)) r ⌝ }
 {
-    match graph_check::check_graph(b) {
-        Checked::Refused(f) => Verdict::Sheet(f),
-        Checked::Counts(n, _) => {
-            if !crews_right(kind, k, n) {
-                return Verdict::Crews;
-            }
-            check_filed(kind, k, b, c)
-        }
+    match admit::admit(kind, k, b) {
+        Admitted::Refused(f) => Verdict::Refused(f),
+        Admitted::Fits => check_filed(kind, k, b, c),
     }
 }

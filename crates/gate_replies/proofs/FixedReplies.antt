@@ -10,41 +10,37 @@ use types.Run.{OneOf, miss}
 use Rattle.lists.specs.Put.{PutTo}
 use Rattle.lists.proofs.Put.{put-fits}
 use Rattle.graph.specs.Graph.{Graph}
-use Rattle.graph.specs.Bytes.{graphOf}
 use Rattle.rules.specs.CoverBytes.{coverLength}
-use Rattle.cover.specs.declared.crews.Kind.{Kind}
-use Rattle.pieces.proofs.reply.Reply as reply
-use Rattle.pieces.specs.declared.reply.Reply.{Reply}
-use Rattle.pieces.specs.declared.reply.Reply.the-variants.{Sheet, Crews, Limit, Room, Cover, Stop, Parts, Needs, NoCover}
+use Rattle.rules.specs.Questions.{Question, graphIn}
+use Rattle.replies.proofs.Reply as reply
+use Rattle.replies.specs.declared.Reply.{Reply}
+use Rattle.replies.specs.declared.Reply.the-variants.{Refused, Cover, Stop, Parts, Needs, NoCover}
 use Rattle.reply_text.specs.Lines.{line}
 use Rattle.reply_text.specs.Replies.{TextAsked, TextWritten}
 use Rattle.gate_replies.specs.Fixed.{confirmed, sureLine, FixedBy, FixedWritten}
 use Rattle.gate_replies.proofs.FullReplies.{others}
 
-module _ {kind : Kind} {k : ℕ} {b buf before after : List ℕ} {r : ℕ} where
+module _ {q : Question} {buf before after : List ℕ} {r : ℕ} where
   -- A cover: the buffer's own counts say where its bytes end.
   pub fixed-cover : {reply : Reply} {limit heaviest t end : ℕ} {sure : Bool} → reply ≡ Cover limit heaviest t → end ≡ coverLength buf
-      → sure ≡ confirmed kind k b (take end buf) heaviest → PutTo 0 (sureLine limit sure t) before after r → FixedWritten kind k b reply buf before after r
-  fixed-cover {limit = limit} {heaviest = heaviest} {t = t} q ends answer p =
+      → sure ≡ confirmed q (take end buf) heaviest → PutTo 0 (sureLine limit sure t) before after r → FixedWritten q reply buf before after r
+  fixed-cover {limit = limit} {heaviest = heaviest} {t = t} is ends answer p =
       record {
         fixed =
-            subst (FixedBy kind k b buf before after r) (sym q)
-            (subst (λ s. PutTo 0 (sureLine limit s t) before after r) (answer ∙ ap (λ n. confirmed kind k b (take n buf) heaviest) ends) p);
+            subst (FixedBy q buf before after r) (sym is)
+            (subst (λ s. PutTo 0 (sureLine limit s t) before after r) (answer ∙ ap (λ n. confirmed q (take n buf) heaviest) ends) p);
       }
 
   -- Parts.
-  pub fixed-parts : {reply : Reply} {T D : ℕ} → reply ≡ Parts T D → PutTo 0 (line "too low parts" []) before after r → FixedWritten kind k b reply buf before after r
-  fixed-parts q p = record { fixed = subst (FixedBy kind k b buf before after r) (sym q) p }
+  pub fixed-parts : {reply : Reply} {T D : ℕ} → reply ≡ Parts T D → PutTo 0 (line "too low parts" []) before after r → FixedWritten q reply buf before after r
+  fixed-parts is p = record { fixed = subst (FixedBy q buf before after r) (sym is) p }
 
   -- Any other.
-  pub fixed-other : (x : Reply) → OneOf others (tagOf reply.the-type x) → TextWritten (graphOf b) x buf before after r → FixedWritten kind k b x buf before after r
-  fixed-other (Sheet f) o p = record { fixed = p }
-  fixed-other Crews o p = record { fixed = p }
-  fixed-other Limit o p = record { fixed = p }
-  fixed-other Room o p = record { fixed = p }
-  fixed-other (Cover limit heaviest t) o p = absurd (miss others 4 tt o)
+  pub fixed-other : (x : Reply) → OneOf others (tagOf reply.the-type x) → TextWritten (graphIn q) x buf before after r → FixedWritten q x buf before after r
+  fixed-other (Refused f) o p = record { fixed = p }
+  fixed-other (Cover limit heaviest t) o p = absurd (miss others 1 tt o)
   fixed-other (Stop v) o p = record { fixed = p }
-  fixed-other (Parts T D) o p = absurd (miss others 6 tt o)
+  fixed-other (Parts T D) o p = absurd (miss others 3 tt o)
   fixed-other (Needs C) o p = record { fixed = p }
   fixed-other NoCover o p = record { fixed = p }
 
@@ -53,14 +49,11 @@ pub text-fits : {g : Graph} {buf before after : List ℕ} {reply : Reply} {room 
 text-fits a w = put-fits (w .text (a .ruled) (a .earlier) (a .replied) (a .printable))
 
 -- So does what the rules fix.
-pub fixed-fits : {kind : Kind} {k : ℕ} {b buf before after : List ℕ} (reply : Reply) {room r : ℕ} → TextAsked (graphOf b) reply buf room
-    → FixedWritten kind k b reply buf before after r → r ≤ length before
+pub fixed-fits : {q : Question} {buf before after : List ℕ} (reply : Reply) {room r : ℕ} → TextAsked (graphIn q) reply buf room
+    → FixedWritten q reply buf before after r → r ≤ length before
 fixed-fits (Cover limit heaviest t) a w = put-fits (w .fixed)
 fixed-fits (Parts T D) a w = put-fits (w .fixed)
-fixed-fits (Sheet f) a w = text-fits a (w .fixed)
-fixed-fits Crews a w = text-fits a (w .fixed)
-fixed-fits Limit a w = text-fits a (w .fixed)
-fixed-fits Room a w = text-fits a (w .fixed)
+fixed-fits (Refused f) a w = text-fits a (w .fixed)
 fixed-fits (Stop v) a w = text-fits a (w .fixed)
 fixed-fits (Needs C) a w = text-fits a (w .fixed)
 fixed-fits NoCover a w = text-fits a (w .fixed)

@@ -8,36 +8,30 @@ use lib.ListN.{length, length-append}
 use denote.Enum.Declared.{tagOf}
 use types.Run.{OneOf, miss}
 use Rattle.lists.specs.Put.{PutTo}
-use Rattle.pieces.proofs.reply.Reply as reply
-use Rattle.pieces.specs.declared.reply.Reply.{Reply}
-use Rattle.pieces.specs.declared.reply.Reply.the-variants.{Sheet, Crews, Limit, Room, Cover, Stop, Parts, Needs, NoCover}
-use Rattle.pieces.specs.Replies.{Said, says}
+use Rattle.replies.proofs.Reply as reply
+use Rattle.replies.specs.declared.Reply.{Reply}
+use Rattle.replies.specs.declared.Reply.the-variants.{Refused, Cover, Stop, Parts, Needs, NoCover}
+use Rattle.replies.specs.Replies.{Said, says}
 use Rattle.gate_replies.specs.Fields.{field, fields}
 use Rattle.gate_replies.specs.Full.{headOf, frontLength}
 use Rattle.gate_replies.proofs.FieldLaws.{field-length, fields-length}
 
 -- The replies that are neither a cover nor parts, by place in their type.
 abbrev pub others : List ℕ
-others = 0 ∷ 1 ∷ 2 ∷ 3 ∷ 5 ∷ 7 ∷ 8 ∷ []
+others = 0 ∷ 2 ∷ 4 ∷ 5 ∷ []
 
 -- None of them writes to the buffer.
 pub writes-nothing : (r : Reply) (buf : List ℕ) → OneOf others (tagOf reply.the-type r) → 0 ≡ frontLength r buf
-writes-nothing (Sheet f) buf k = refl
-writes-nothing Crews buf k = refl
-writes-nothing Limit buf k = refl
-writes-nothing Room buf k = refl
-writes-nothing (Cover limit heaviest t) buf k = absurd (miss others 4 tt k)
+writes-nothing (Refused f) buf k = refl
+writes-nothing (Cover limit heaviest t) buf k = absurd (miss others 1 tt k)
 writes-nothing (Stop v) buf k = refl
-writes-nothing (Parts T D) buf k = absurd (miss others 6 tt k)
+writes-nothing (Parts T D) buf k = absurd (miss others 3 tt k)
 writes-nothing (Needs C) buf k = refl
 writes-nothing NoCover buf k = refl
 
 -- A reply writes no more than there is room for.
 pub front-within : (r : Reply) (buf : List ℕ) → frontLength r buf ≤ length buf
-front-within (Sheet f) buf = omega arith
-front-within Crews buf = omega arith
-front-within Limit buf = omega arith
-front-within Room buf = omega arith
+front-within (Refused f) buf = omega arith
 front-within (Cover limit heaviest t) buf = omega arith
 front-within (Stop v) buf = omega arith
 front-within (Parts T D) buf = omega arith
@@ -58,10 +52,7 @@ head-length s =
     )
 
 pub head-few : (r : Reply) → length (headOf (says r)) ≤ 28
-head-few (Sheet f) = omega (arith, head-length (says (Sheet f)))
-head-few Crews = omega (arith, head-length (says Crews))
-head-few Limit = omega (arith, head-length (says Limit))
-head-few Room = omega (arith, head-length (says Room))
+head-few (Refused f) = omega (arith, head-length (says (Refused f)))
 head-few (Cover limit heaviest t) = omega (arith, head-length (says (Cover limit heaviest t)))
 head-few (Stop v) = omega (arith, head-length (says (Stop v)))
 head-few (Parts T D) = omega (arith, head-length (says (Parts T D)))

@@ -6,14 +6,11 @@ use mathlib.Core.List.{List, [], _∷_, _++_}
 use lib.ListN.{take}
 use lib.Dec.{eqb}
 use Rattle.lists.specs.Put.{PutTo}
-use Rattle.graph.specs.Bytes.{graphOf}
 use Rattle.rules.specs.Reply as rules
-use Rattle.rules.specs.Questions.{askCheck}
+use Rattle.rules.specs.Questions.{Question, graphIn, askCheck}
 use Rattle.rules.specs.CoverBytes.{coverLength}
-use Rattle.cover.specs.declared.crews.Kind.{Kind}
-use Rattle.cover.specs.Crews.{crewsOf}
-use Rattle.pieces.specs.declared.reply.Reply.{Reply}
-use Rattle.pieces.specs.declared.reply.Reply.the-variants.{Sheet, Crews, Limit, Room, Cover, Stop, Parts, Needs, NoCover}
+use Rattle.replies.specs.declared.Reply.{Reply}
+use Rattle.replies.specs.declared.Reply.the-variants.{Refused, Cover, Stop, Parts, Needs, NoCover}
 use Rattle.reply_text.specs.Lines.{bytesOf, spaced, ended, line}
 use Rattle.reply_text.specs.Replies.{TextWritten}
 
@@ -22,9 +19,9 @@ abbrev pub isYes : rules.Verdict → ℕ → Bool
 isYes (rules.yes weight) heaviest = eqb weight heaviest
 isYes (rules.number k) heaviest = false
 
--- Whether the check of document 01 says yes to the bytes of a cover by the crews, with this weight.
-unfoldable pub confirmed : Kind → ℕ → List ℕ → List ℕ → ℕ → Bool
-confirmed kind k b c heaviest = isYes (askCheck b (crewsOf kind k) c) heaviest
+-- Whether the check of document 01 says yes to the bytes of a cover, with this weight.
+unfoldable pub confirmed : Question → List ℕ → ℕ → Bool
+confirmed q c heaviest = isYes (askCheck q c) heaviest
 
 -- The word for it, behind a space.
 unfoldable pub yesWord : Bool → List ℕ
@@ -39,17 +36,14 @@ abbrev pub coverIn : List ℕ → List ℕ
 coverIn buf = take (coverLength buf) buf
 
 -- What is written of a reply where the rules leave a choice. A reply that is neither a cover nor parts has its whole text.
-abbrev pub FixedBy : Kind → ℕ → List ℕ → List ℕ → List ℕ → List ℕ → ℕ → Reply → Type 0
-FixedBy kind k b buf before after r (Cover limit heaviest t) =
-    PutTo 0 (sureLine limit (confirmed kind k b (coverIn buf) heaviest) t) before after r
-FixedBy kind k b buf before after r (Parts T D) = PutTo 0 (line "too low parts" []) before after r
-FixedBy kind k b buf before after r (Sheet f) = TextWritten (graphOf b) (Sheet f) buf before after r
-FixedBy kind k b buf before after r Crews = TextWritten (graphOf b) Crews buf before after r
-FixedBy kind k b buf before after r Limit = TextWritten (graphOf b) Limit buf before after r
-FixedBy kind k b buf before after r Room = TextWritten (graphOf b) Room buf before after r
-FixedBy kind k b buf before after r (Stop v) = TextWritten (graphOf b) (Stop v) buf before after r
-FixedBy kind k b buf before after r (Needs C) = TextWritten (graphOf b) (Needs C) buf before after r
-FixedBy kind k b buf before after r NoCover = TextWritten (graphOf b) NoCover buf before after r
+abbrev pub FixedBy : Question → List ℕ → List ℕ → List ℕ → ℕ → Reply → Type 0
+FixedBy q buf before after r (Cover limit heaviest t) =
+    PutTo 0 (sureLine limit (confirmed q (coverIn buf) heaviest) t) before after r
+FixedBy q buf before after r (Parts T D) = PutTo 0 (line "too low parts" []) before after r
+FixedBy q buf before after r (Refused f) = TextWritten (graphIn q) (Refused f) buf before after r
+FixedBy q buf before after r (Stop v) = TextWritten (graphIn q) (Stop v) buf before after r
+FixedBy q buf before after r (Needs C) = TextWritten (graphIn q) (Needs C) buf before after r
+FixedBy q buf before after r NoCover = TextWritten (graphIn q) NoCover buf before after r
 
-pub record FixedWritten (kind : Kind) (k : ℕ) (b : List ℕ) (reply : Reply) (buf before after : List ℕ) (r : ℕ) : Type 0 where
-  pub fixed : FixedBy kind k b buf before after r reply
+pub record FixedWritten (q : Question) (reply : Reply) (buf before after : List ℕ) (r : ℕ) : Type 0 where
+  pub fixed : FixedBy q buf before after r reply

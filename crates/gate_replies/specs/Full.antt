@@ -6,9 +6,9 @@ use mathlib.Core.List.{List, [], _∷_, _++_}
 use lib.ListN.{length, take, drop}
 use lib.Dec.{eqb}
 use Rattle.rules.specs.CoverBytes.{coverLength}
-use Rattle.pieces.specs.declared.reply.Reply.{Reply}
-use Rattle.pieces.specs.declared.reply.Reply.the-variants.{Sheet, Crews, Limit, Room, Cover, Stop, Parts, Needs, NoCover}
-use Rattle.pieces.specs.Replies.{Said, says}
+use Rattle.replies.specs.declared.Reply.{Reply}
+use Rattle.replies.specs.declared.Reply.the-variants.{Refused, Cover, Stop, Parts, Needs, NoCover}
+use Rattle.replies.specs.Replies.{Said, says}
 use Rattle.gate_replies.specs.Fields.{field, fields}
 
 -- What a reply says: the number of its case (2 bytes), how many values (2), and these (8 each).
@@ -21,10 +21,7 @@ announcedIn buf = min (coverLength buf) (length buf)
 
 -- How many bytes a reply wrote to the front of the buffer: a cover's or the parts' bytes say how many they are; the others write nothing.
 abbrev pub frontLength : Reply → List ℕ → ℕ
-frontLength (Sheet f) buf = 0
-frontLength Crews buf = 0
-frontLength Limit buf = 0
-frontLength Room buf = 0
+frontLength (Refused f) buf = 0
 frontLength (Cover limit heaviest t) buf = announcedIn buf
 frontLength (Stop v) buf = 0
 frontLength (Parts T D) buf = announcedIn buf

@@ -1,9 +1,9 @@
 // The text of replies in which the rules leave a choice: only what they fix, and whether the check of a filed cover says yes to what was written.
-use cover::crews::Kind;
+use admit::crews::Kind;
 use cover::read::cover_length;
 use filed::check::Verdict;
 use filed::check::check_cover;
-use pieces::reply::Reply;
+use replies::Reply;
 use reply_text::lines::put_last;
 use reply_text::lines::put_spaced;
 use reply_text::lines::put_word;
@@ -13,6 +13,7 @@ ghost use Prim.Native.Nat.{_+_, _≤_};
 ghost use lib.ListN.{length};
 ghost use Rattle.lists.specs.Put.{PutTo};
 ghost use Rattle.graph.specs.Bytes.{graphOf};
+ghost use Rattle.admit.specs.Crews.{asks};
 ghost use Rattle.filed.specs.Promise.{says};
 ghost use Rattle.reply_text.specs.Replies.{TextAsked};
 ghost use Rattle.gate_replies.specs.Fixed.{isYes, confirmed, yesWord, sureLine, FixedWritten};
@@ -23,13 +24,13 @@ fn is_yes(verdict: Verdict, heaviest: u64) -> bool
 {
     match verdict {
         Verdict::Yes(weight) => weight == heaviest,
-        _ => false,
+        Verdict::Refused(_) => false,
     }
 }
 
 // Whether the check says yes to the bytes of a cover, with this weight.
 fn confirms(kind: Kind, k: usize, b: &[u8], c: &[u8], heaviest: u64) -> bool
-    ensures { λ r. ⌜ r ≡ confirmed kind k (now (b .entry)) (now (c .entry)) heaviest ⌝ }
+    ensures { λ r. ⌜ r ≡ confirmed (asks kind k (now (b .entry))) (now (c .entry)) heaviest ⌝ }
 {
     is_yes(check_cover(kind, k, b, c), heaviest)
 }
@@ -66,7 +67,7 @@ pub fn write_fixed(
     out: &mut [u8],
 ) -> usize
     requires { ⌜ TextAsked (graphOf (now b)) reply (now buf) (length (now out)) ⌝ }
-    ensures { λ r. ⌜ FixedWritten kind k (now (b .entry)) reply (now (buf .entry)) (now (out .entry)) (now (out .exit)) r ⌝ }
+    ensures { λ r. ⌜ FixedWritten (asks kind k (now (b .entry))) reply (now (buf .entry)) (now (out .entry)) (now (out .exit)) r ⌝ }
 {
     match reply {
         Reply::Cover(limit, heaviest, t) => {

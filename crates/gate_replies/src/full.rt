@@ -2,13 +2,13 @@
 use crate::fields::put_field;
 use crate::fields::put_values;
 use cover::read::cover_length;
-use pieces::reply::Reply;
+use replies::Reply;
 use reply_text::lines::put_word;
 ghost use mathlib.Core.Path.{_≡_};
 ghost use Prim.Native.Nat.{_+_, _*_, _≤_};
 ghost use lib.ListN.{length, replicate};
 ghost use Rattle.lists.specs.Put.{PutTo};
-ghost use Rattle.pieces.specs.Replies.{said, says};
+ghost use Rattle.replies.specs.Replies.{said, says};
 ghost use Rattle.gate_replies.specs.Full.{headOf, announcedIn, frontLength, untouched, bit, fullOf, fullReply};
 
 // What every byte of a lent buffer is before a question.
@@ -44,17 +44,8 @@ fn put_said(reply: Reply, out: &mut [u8]) -> usize
     ensures { λ r. ⌜ PutTo 0 (headOf (says reply)) (now (out .entry)) (now (out .exit)) r ⌝ }
 {
     match reply {
-        Reply::Sheet(fault) => {
-            return put_head(graph_check::number(fault) as u64, &[], out);
-        }
-        Reply::Crews => {
-            return put_head(21, &[], out);
-        }
-        Reply::Limit => {
-            return put_head(22, &[], out);
-        }
-        Reply::Room => {
-            return put_head(23, &[], out);
+        Reply::Refused(f) => {
+            return put_head(admit::refusal::number(f) as u64, &[], out);
         }
         Reply::Cover(limit, heaviest, t) => {
             return put_head(0, &[limit, heaviest, t as u64], out);

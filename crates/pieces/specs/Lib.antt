@@ -7,5 +7,3 @@ pub mod Chosen
 pub mod Pieces
 -- the edges around each vertex of a forest
 pub mod Arcs
--- what a reply says, and what it leaves in the buffer
-pub mod Replies

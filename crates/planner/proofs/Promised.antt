@@ -1,137 +1,133 @@
--- The questions test by test, in the order of document 01: what each test that fails makes of the reply; and what the replies mean.
+-- The questions test by test, in the order of document 01: what each test makes of what is refused; and what the replies mean.
 -- Assumes nothing.
 use Prim.Native.Nat.{ℕ, _≤_, _<_}
 use mathlib.Core.Path.{_≡_, refl, sym, _∙_}
-use mathlib.Core.Bool.{Bool, true}
+use mathlib.Core.Bool.{true, true≢false}
 use mathlib.Core.List.{List, [], _∷_, List·Memᴰ·head, List·Memᴰ·tail}
 use mathlib.Core.Option.{some, none, Option·some-ne-none}
-use native.Mathlib.Omega.{arith}
 use lib.ListN.{length}
-use lib.Dec.{leb}
-use borrow.Author.Tests.{leb-true, leb-false, lt-ltb, le-ltb}
-use Rattle.graph.specs.Graph.{Graph}
-use Rattle.graph.specs.Bytes.{graphOf}
+use lib.Dec.{leb, ltb}
+use borrow.Author.Tests.{leb-true, leb-false, lt-ltb, le-ltb, ltb-false}
 use Rattle.graph.specs.Fault.{Fault, faultIf, firstFault, refusedOr}
-use Rattle.graph.specs.Valid.{Valid}
-use Rattle.graph.proofs.Faults.{quiet-each}
-use Rattle.graph_check.specs.Check as sheet
-use Rattle.rules.specs.Cover as cover
+use Rattle.graph.proofs.Faults.{quiet-if, quiet-each}
 use Rattle.rules.specs.Reply as rules
+use Rattle.rules.specs.RootedTrial.{noChoices}
 use Rattle.rules.specs.Search.{trial, best}
-use Rattle.rules.specs.Questions.{numberIn, sheetFault, crewFault, limitFault, roomFault, trialFault, askTrial, bestFault, askBest, written, bufferAfter}
-use Rattle.rules.specs.Fit.{CrewsFit}
-use Rattle.rules.proofs.SheetRight.{sheet-right}
-use Rattle.rules.proofs.CrewsRight.{rooted-fit, unrooted-fit}
+use Rattle.rules.specs.Questions.{mostLimit, leastRoom, Question, graphIn, crewsIn, limitFault, roomFault, questionFault, trialFault, askTrial, bestFault, askBest, written, bufferAfter}
+use Rattle.rules.proofs.Admitted.{Admitted, admitted}
 use Rattle.planner_laws.proofs.BothKinds.{trial-bounds}
 use Rattle.planner_laws.proofs.Replies.{trial-means, best-means}
-use Rattle.cover.specs.declared.crews.Kind.{Kind}
-use Rattle.cover.specs.declared.crews.Kind.the-variants.{Rooted, Unrooted}
-use Rattle.cover.specs.Crews.{crewsOf}
-use Rattle.pieces.specs.declared.reply.Reply.{Reply}
-use Rattle.pieces.specs.Replies.{said, says, Replied}
+use Rattle.admit.specs.declared.crews.Kind.{Kind}
+use Rattle.admit.specs.declared.refusal.Refusal.{Refusal}
+use Rattle.admit.specs.declared.refusal.Refusal.the-variants.{Room}
+use Rattle.admit.specs.Crews.{asks}
+use Rattle.admit.specs.Refusals.{numberOf}
+use Rattle.replies.specs.declared.Reply.{Reply}
+use Rattle.replies.specs.declared.Reply.the-variants.{Refused}
+use Rattle.replies.specs.Replies.{Replied}
 use Rattle.asking.specs.declared.ask.Asked.{Asked}
 use Rattle.asking.specs.declared.ask.Asked.the-variants.{At, Best}
-use Rattle.asking.specs.Asking.{Answered}
-use Rattle.planner.specs.Promise.{Refuses, TrialPromise, BestPromise, limitFaultOf, faultOf, LimitTested, RefusedAs, Passes, QuestionPromise}
+use Rattle.asking.specs.Asking.{LimitFits, Answered, CrewsAsked}
+use Rattle.planner.specs.Promise.{Refuses, TrialPromise, BestPromise, limitFaultOf, faultOf, LimitTested, QuestionPromise}
 
 -- THE TESTS
 
 -- The test of the limit, where one is given.
-pub limit-tested : (limit : ℕ) → LimitTested (At limit) (leb limit 2048000000)
+pub limit-tested : (limit : ℕ) → LimitTested (At limit) (leb limit mostLimit)
 unfolding limitFault faultIf
 limit-tested limit =
     record {
-      right = λ t. leb-true limit 2048000000 t;
-      quiet = λ t. rw (le-ltb 2048000000 limit (leb-true limit 2048000000 t)) refl;
-      wrong = λ t. rw (lt-ltb 2048000000 limit (omega (arith, leb-false limit 2048000000 t))) refl;
+      right = λ t. rw (le-ltb mostLimit limit (leb-true limit mostLimit t)) refl;
+      wrong = λ t. rw (lt-ltb mostLimit limit (leb-false limit mostLimit t)) refl;
     }
 
 pub limit-none : LimitTested Best true
-limit-none = record { right = λ t. tt; quiet = λ t. refl; wrong = λ t. absurd (mathlib.Core.Bool.true≢false t) }
+limit-none = record { right = λ t. refl; wrong = λ t. absurd (true≢false t) }
 
--- What is refused, in one order for both questions.
-inOrder : Asked → List ℕ → cover.Crews → ℕ → Fault
-inOrder asked b crews room = firstFault (sheetFault b ∷ crewFault crews (graphOf b .vertices) ∷ limitFaultOf asked ∷ roomFault room ∷ [])
+-- A limit that is not refused is within document 01's range.
+limit-fits : (asked : Asked) → limitFaultOf asked ≡ none → LimitFits asked
+unfolding limitFault
+limit-fits (At limit) e = ltb-false mostLimit limit (quiet-if (ltb mostLimit limit) _ e)
+limit-fits Best e = tt
 
-fault-order : (asked : Asked) (b : List ℕ) (crews : cover.Crews) (room : ℕ) → faultOf asked b crews room ≡ inOrder asked b crews room
-unfolding trialFault bestFault inOrder firstFault
-fault-order (At limit) b crews room = refl
-fault-order Best b crews room = go (sheetFault b) (crewFault crews (graphOf b .vertices)) (roomFault room)
+module _ (asked : Asked) (q : Question) (room : ℕ) where
+  -- What is refused, in one order for both questions.
+  faults : List Fault
+  faults = questionFault q ∷ limitFaultOf asked ∷ roomFault room ∷ []
+
+in-order : (asked : Asked) (q : Question) (room : ℕ) → firstFault (faults asked q room) ≡ faultOf asked q room
+unfolding faults trialFault bestFault firstFault
+in-order (At limit) q room = refl
+in-order Best q room = go (questionFault q) (roomFault room)
   where
-    go : (s c r : Fault) → firstFault (s ∷ c ∷ r ∷ []) ≡ firstFault (s ∷ c ∷ none ∷ r ∷ [])
-    go (some n) c r = refl
-    go none (some n) r = refl
-    go none none r = refl
+    go : (f r : Fault) → firstFault (f ∷ none ∷ r ∷ []) ≡ firstFault (f ∷ r ∷ [])
+    go (some n) r = refl
+    go none r = refl
 
-module _ (asked : Asked) (kind : Kind) (k : ℕ) (b : List ℕ) where
-  abbrev crews : cover.Crews
-  crews = crewsOf kind k
+module _ (asked : Asked) (q : Question) (room : ℕ) where
+  -- What every question brings, 11 to 21,
+  pub question-refused : {n : ℕ} → some n ≡ questionFault q → some n ≡ faultOf asked q room
+  unfolding faults firstFault
+  question-refused e = rw (sym e) at (in-order asked q room)
 
-  -- The graph's bytes, 11 to 16,
-  pub sheet-refused : (n room : ℕ) {r : Reply} → sheet.checkOf b ≡ sheet.number n → says r ≡ said n [] → RefusedAs asked kind k b room r
-  unfolding sheetFault numberIn inOrder firstFault
-  sheet-refused n room q s = record { number = n; is-refused = fault-order asked b crews room ∙ rw q refl; says-so = s }
+  module _ (e : none ≡ questionFault q) where
+    -- the limit, 22,
+    pub limit-refused : {n : ℕ} → limitFaultOf asked ≡ some n → some n ≡ faultOf asked q room
+    unfolding faults firstFault
+    limit-refused l = rw (sym e, l) at (in-order asked q room)
 
-  module _ {n m : ℕ} (q : sheet.checkOf b ≡ sheet.yes n m) where
-    -- the crews, 21,
-    pub crews-refused : (room : ℕ) {r : Reply} → crewFault crews (graphOf b .vertices) ≡ some 21 → says r ≡ said 21 [] → RefusedAs asked kind k b room r
-    unfolding sheetFault numberIn inOrder firstFault
-    crews-refused room c s = record { number = 21; is-refused = fault-order asked b crews room ∙ rw (q, c) refl; says-so = s }
+    module _ (l : limitFaultOf asked ≡ none) where
+      -- the buffer, 23;
+      pub room-refused : room < leastRoom → some (numberOf Room) ≡ faultOf asked q room
+      unfolding faults firstFault roomFault faultIf
+      room-refused h = rw (sym e, l, lt-ltb room leastRoom h) at (in-order asked q room)
 
-    module _ (c : crewFault crews (graphOf b .vertices) ≡ none) where
-      -- the limit, 22,
-      pub limit-refused : (room : ℕ) {r : Reply} → limitFaultOf asked ≡ some 22 → says r ≡ said 22 [] → RefusedAs asked kind k b room r
-      unfolding sheetFault numberIn inOrder firstFault
-      limit-refused room l s = record { number = 22; is-refused = fault-order asked b crews room ∙ rw (q, c, l) refl; says-so = s }
+      -- and otherwise nothing is.
+      pub nothing-refused : leastRoom ≤ room → none ≡ faultOf asked q room
+      unfolding faults firstFault roomFault faultIf
+      nothing-refused h = rw (sym e, l, le-ltb room leastRoom h) at (in-order asked q room)
 
-      module _ (l : limitFaultOf asked ≡ none) where
-        -- the buffer, 23;
-        pub room-refused : (room : ℕ) {r : Reply} → room < 32708 → says r ≡ said 23 [] → RefusedAs asked kind k b room r
-        unfolding sheetFault numberIn inOrder firstFault roomFault faultIf
-        room-refused room h s = record { number = 23; is-refused = fault-order asked b crews room ∙ rw (q, c, l, lt-ltb room 32708 h) refl; says-so = s }
+  -- Where nothing is refused, none of the tests refuses.
+  module _ (e : faultOf asked q room ≡ none) where
+    quiet : firstFault (faults asked q room) ≡ none
+    quiet = in-order asked q room ∙ e
 
-        -- and otherwise nothing is.
-        pub nothing-refused : (room : ℕ) → 32708 ≤ room → faultOf asked b crews room ≡ none
-        unfolding sheetFault numberIn inOrder firstFault roomFault faultIf
-        nothing-refused room h = fault-order asked b crews room ∙ rw (q, c, l, le-ltb room 32708 h) refl
+    question-quiet : Admitted q
+    unfolding faults
+    question-quiet = admitted q (quiet-each (faults asked q room) quiet (List·Memᴰ·head refl))
 
+    limit-quiet : LimitFits asked
+    unfolding faults
+    limit-quiet = limit-fits asked (quiet-each (faults asked q room) quiet (List·Memᴰ·tail (List·Memᴰ·head refl)))
+
+    room-quiet : leastRoom ≤ room
+    unfolding faults roomFault
+    room-quiet = ltb-false room leastRoom (quiet-if (ltb room leastRoom) _ (quiet-each (faults asked q room) quiet (List·Memᴰ·tail (List·Memᴰ·tail (List·Memᴰ·head refl)))))
+
+-- So the question can be asked.
+pub can-ask : (asked : Asked) (kind : Kind) (k : ℕ) (b : List ℕ) (room : ℕ) → none ≡ faultOf asked (asks kind k b) room → CrewsAsked kind k (graphIn (asks kind k b)) asked room
+can-ask asked kind k b room e =
+    let q = asks kind k b in
+    let a = question-quiet asked q room (sym e) in
+    record { valid = a .valid; crews-right = a .crews-right; limit-fits = limit-quiet asked q room (sym e); room-most = room-quiet asked q room (sym e) }
+
+module _ (asked : Asked) (q : Question) where
   -- A question that is refused: the reply says its number, and the buffer is as it came.
-  pub refusal-given : {before : List ℕ} {r : Reply} → RefusedAs asked kind k b (length before) r → QuestionPromise asked kind k b before before r
+  pub refusal-given : (f : Refusal) {before : List ℕ} → some (numberOf f) ≡ faultOf asked q (length before) → QuestionPromise asked q before before (Refused f)
   unfolding refusedOr bufferAfter written
-  refusal-given f =
-      let is = f .is-refused in
+  refusal-given f e =
       record {
-        choices = record { assignment = []; paths = []; marks = [] };
-        rule = rw is (record { same = f .says-so; buffer = refl });
-        good = λ e. absurd (Option·some-ne-none (f .number) (sym is ∙ e));
+        choices = noChoices;
+        rule = rw (sym e) (record { same = refl; buffer = refl });
+        good = λ quiet. absurd (Option·some-ne-none (numberOf f) (e ∙ quiet));
       }
 
   -- A question that is not: it is answered.
-  pub answer-given : {before after : List ℕ} {r : Reply} → Passes asked kind k b (length before) → Answered asked (graphOf b) crews before after r → QuestionPromise asked kind k b before after r
+  pub answer-given : {before after : List ℕ} {r : Reply} → none ≡ faultOf asked q (length before) → Answered asked (graphIn q) (crewsIn q) before after r → QuestionPromise asked q before after r
   unfolding refusedOr
-  answer-given p a =
-      let quiet = p .quiet in
-      record { choices = a .choices; rule = rw quiet (a .replied); good = λ e. a .good }
+  answer-given e a = record { choices = a .choices; rule = rw (sym e) (a .replied); good = λ quiet. a .good }
 
 -- WHAT THE REPLIES MEAN
-
--- Crews that are not refused fit the graph.
-crews-fit : (kind : Kind) (k : ℕ) (g : Graph) → crewFault (crewsOf kind k) (g .vertices) ≡ none → CrewsFit g (crewsOf kind k)
-crews-fit Rooted k g e = rooted-fit g k e
-crews-fit Unrooted k g e = unrooted-fit g k e
-
--- A question that is not refused is about a valid graph and fitting crews.
-record Fits (kind : Kind) (k : ℕ) (b : List ℕ) : Type 0 where
-  valid : Valid (graphOf b)
-  fit : CrewsFit (graphOf b) (crewsOf kind k)
-
-fits : (kind : Kind) (k : ℕ) (b : List ℕ) (rest : List Fault) → firstFault (sheetFault b ∷ crewFault (crewsOf kind k) (graphOf b .vertices) ∷ rest) ≡ none → Fits kind k b
-fits kind k b rest e =
-    let all : List Fault = sheetFault b ∷ crewFault (crewsOf kind k) (graphOf b .vertices) ∷ rest in
-    record {
-      valid = sheet-right b .0 (quiet-each all e (List·Memᴰ·head refl)) .valid;
-      fit = crews-fit kind k (graphOf b) (quiet-each all e (List·Memᴰ·tail (List·Memᴰ·head refl)));
-    }
 
 -- A refused question's reply.
 refused-so : {fault : Fault} (answer : rules.Reply) {before after : List ℕ} {r : Reply} → Replied (refusedOr rules.refused fault answer) before after r → Refuses fault before after r
@@ -139,24 +135,24 @@ unfolding refusedOr bufferAfter written
 refused-so {fault} answer {before} {after} {r} p =
     record { number = λ n q. let is : fault ≡ some n = q in (rw is at p) .same; untouched = λ n q. let is : fault ≡ some n = q in (rw is at p) .buffer }
 
-pub trial-promised : {kind : Kind} {k limit : ℕ} {b before after : List ℕ} {r : Reply} → QuestionPromise (At limit) kind k b before after r → TrialPromise kind k limit b before after r
-unfolding askTrial trialFault
-trial-promised {kind} {k} {limit} {b} {before} p =
+pub trial-promised : {q : Question} {limit : ℕ} {before after : List ℕ} {r : Reply} → QuestionPromise (At limit) q before after r → TrialPromise q limit before after r
+unfolding askTrial
+trial-promised {q} {limit} {before} p =
     record {
-      refuses = refused-so (trial (graphOf b) (crewsOf kind k) limit (p .choices)) (p .rule);
+      refuses = refused-so (trial (graphIn q) (crewsIn q) limit (p .choices)) (p .rule);
       choices = p .choices;
       rule = p .rule;
       good = p .good;
-      means = λ e. let f = fits kind k b (limitFault limit ∷ roomFault (length before) ∷ []) e in trial-means (crewsOf kind k) (trial-bounds (f .valid) (crewsOf kind k) (f .fit)) limit (p .choices) (p .good e);
+      means = λ e. let a = question-quiet (At limit) q (length before) e in trial-means (crewsIn q) (trial-bounds (a .valid) (crewsIn q) (a .fit)) limit (p .choices) (p .good e);
     }
 
-pub best-promised : {kind : Kind} {k : ℕ} {b before after : List ℕ} {r : Reply} → QuestionPromise Best kind k b before after r → BestPromise kind k b before after r
-unfolding askBest bestFault
-best-promised {kind} {k} {b} {before} p =
+pub best-promised : {q : Question} {before after : List ℕ} {r : Reply} → QuestionPromise Best q before after r → BestPromise q before after r
+unfolding askBest
+best-promised {q} {before} p =
     record {
-      refuses = refused-so (best (graphOf b) (crewsOf kind k) (p .choices)) (p .rule);
+      refuses = refused-so (best (graphIn q) (crewsIn q) (p .choices)) (p .rule);
       choices = p .choices;
       rule = p .rule;
       good = p .good;
-      means = λ e. let f = fits kind k b (roomFault (length before) ∷ []) e in best-means (f .valid) (crewsOf kind k) (f .fit) (trial-bounds (f .valid) (crewsOf kind k) (f .fit)) (p .choices) (p .good e);
+      means = λ e. let a = question-quiet Best q (length before) e in best-means (a .valid) (crewsIn q) (a .fit) (trial-bounds (a .valid) (crewsIn q) (a .fit)) (p .choices) (p .good e);
     }

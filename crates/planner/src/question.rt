@@ -1,68 +1,62 @@
 // The questions that a user asks, on any input: refused in document 01's order ("Who causes which number"), and otherwise answered.
+use admit::Admitted;
+use admit::crews::Kind;
+use admit::refusal::LEAST_ROOM;
+use admit::refusal::MOST_LIMIT;
+use admit::refusal::Refusal;
 use asking::ask::Asked;
 use asking::ask::ask_crews;
-use cover::crews::Kind;
-use cover::crews::crews_right;
-use graph_check::Checked;
-use pieces::reply::Reply;
-ghost use Rattle.planner.specs.Promise.{LimitTested, TestsTo, TrialPromise, BestPromise};
+use replies::Reply;
+ghost use mathlib.Core.Path.{_≡_};
+ghost use Rattle.admit.specs.Crews.{asks};
+ghost use Rattle.admit.specs.Refusals.{faultIn};
+ghost use Rattle.planner.specs.Promise.{LimitTested, faultOf, TrialPromise, BestPromise};
 
-// Whether the limit, where one is given, is at most 2,048,000,000.
+// Whether the limit, where one is given, is not too large.
 fn limit_right(asked: Asked) -> bool
     ensures { λ r. ⌜ LimitTested asked r ⌝ }
 {
     match asked {
-        Asked::At(limit) => limit <= 2048000000,
+        Asked::At(limit) => limit <= MOST_LIMIT,
         Asked::Best => true,
     }
 }
 
-// What the tests of a question come to.
-enum Tested {
-    // It is refused, with this reply.
-    Refused(Reply),
-    // It can be asked.
-    Passed,
-}
-
-// Tests the question, with so much room for what is written. The asking stands apart, called by both questions: so the arrays of an answer are in none
-// of these frames, and a refusal takes next to no stack.
-fn test(kind: Kind, k: usize, asked: Asked, b: &[u8], room: usize) -> Tested
-    ensures { λ r. ⌜ TestsTo asked kind k (now (b .entry)) room r ⌝ }
+// Tests the question, with so much room for what is written. The asking stands apart, called by both questions: so the arrays of an answer
+// are in none of these frames, and a refusal takes next to no stack.
+fn test(kind: Kind, k: usize, asked: Asked, b: &[u8], room: usize) -> Admitted
+    ensures { λ r. ⌜ faultIn r ≡ faultOf asked (asks kind k (now (b .entry))) room ⌝ }
 {
-    match graph_check::check_graph(b) {
-        Checked::Refused(f) => Tested::Refused(Reply::Sheet(f)),
-        Checked::Counts(n, _) => {
-            if !crews_right(kind, k, n) {
-                return Tested::Refused(Reply::Crews);
-            }
+    match admit::admit(kind, k, b) {
+        Admitted::Refused(f) => Admitted::Refused(f),
+        Admitted::Fits => {
             if !limit_right(asked) {
-                return Tested::Refused(Reply::Limit);
+                return Admitted::Refused(Refusal::Limit);
             }
-            if room < 32708 {
-                return Tested::Refused(Reply::Room);
+            if room < LEAST_ROOM {
+                return Admitted::Refused(Refusal::Room);
             }
-            Tested::Passed
+            Admitted::Fits
         }
     }
 }
 
 // "A trial at limit B": a cover within four times the limit, or why every cover is above it.
 pub fn trial(kind: Kind, k: usize, limit: u64, b: &[u8], buf: &mut [u8]) -> Reply
-    ensures { λ r. ⌜ TrialPromise kind k limit (now (b .entry)) (now (buf .entry)) (now (buf .exit)) r ⌝ }
+    ensures { λ r. ⌜ TrialPromise (asks kind k (now (b .entry))) limit (now (buf .entry)) (now (buf .exit)) r ⌝ }
 {
     match test(kind, k, Asked::At(limit), b, buf.len()) {
-        Tested::Refused(reply) => reply,
-        Tested::Passed => ask_crews(kind, k, b, Asked::At(limit), buf),
+        Admitted::Refused(f) => Reply::Refused(f),
+        Admitted::Fits => ask_crews(kind, k, b, Asked::At(limit), buf),
     }
 }
 
 // "The best limit": a cover whose heaviest tree weighs at most four times that of any cover's, or that there is none.
 pub fn best(kind: Kind, k: usize, b: &[u8], buf: &mut [u8]) -> Reply
-    ensures { λ r. ⌜ BestPromise kind k (now (b .entry)) (now (buf .entry)) (now (buf .exit)) r ⌝ }
+    ensures { λ r. ⌜ BestPromise (asks kind k (now (b .entry))) (now (buf .entry)) (now (buf .exit)) r ⌝ }
 {
     match test(kind, k, Asked::Best, b, buf.len()) {
-        Tested::Refused(reply) => reply,
-        Tested::Passed => ask_crews(kind, k, b, Asked::Best, buf),
+        Admitted::Refused(f) => Reply::Refused(f),
+        Admitted::Fits => ask_crews(kind, k, b, Asked::Best, buf),
     }
 }

@@ -9,16 +9,13 @@ use lib.ListN.{length, set}
 use types.Run.{OneOf, miss}
 use denote.Enum.Declared.{tagOf}
 use Rattle.rules.specs.Reply as rules
-use Rattle.filed.proofs.check.Verdict as verdict
-use Rattle.cover.specs.declared.crews.Kind.the-variants.{Unrooted}
-use Rattle.filed.specs.declared.check.Verdict.{Verdict}
+use Rattle.admit.specs.declared.crews.Kind.the-variants.{Unrooted}
 use Rattle.filed.specs.Promise.{numberOr0}
-use Rattle.filed.proofs.VerdictNumbers.{refusals, refused-number}
-use Rattle.pieces.proofs.reply.Reply as reply
-use Rattle.pieces.specs.declared.reply.Reply.{Reply}
-use Rattle.pieces.specs.declared.reply.Reply.the-variants as replies
-use Rattle.pieces.specs.Replies.{said, says}
-use Rattle.planner_c.specs.Numbers.{kindOf, saidOf, sayingOf, Puts}
+use Rattle.replies.proofs.Reply as reply
+use Rattle.replies.specs.declared.Reply.{Reply}
+use Rattle.replies.specs.declared.Reply.the-variants as replies
+use Rattle.replies.specs.Replies.{said, says}
+use Rattle.planner_c.specs.Numbers.{kindOf, saidOf, Puts}
 
 -- A number that is not 0 names the unrooted kind.
 pub unrooted : (kind : ℕ) → (kind ≡ 0 → ⊥) → Unrooted ≡ kindOf kind
@@ -47,21 +44,14 @@ puts-three (a ∷ []) long = absurd (omega (arith, long))
 puts-three (a ∷ b ∷ []) long = absurd (omega (arith, long))
 puts-three (a ∷ b ∷ c ∷ rest) long = record { values = refl }
 
--- A reply of a case without values: none of those with some (4 to 7).
+-- A reply of a case without values: none of those with some (1 to 4).
 abbrev withoutValues : List ℕ
-withoutValues = 0 ∷ 1 ∷ 2 ∷ 3 ∷ 8 ∷ []
+withoutValues = 0 ∷ 5 ∷ []
 
 pub puts-no-value : (r : Reply) (before : List ℕ) → OneOf withoutValues (tagOf reply.the-type r) → Puts (says r) before before
-puts-no-value (replies.Sheet f) before case = record { values = refl }
-puts-no-value replies.Crews before case = record { values = refl }
-puts-no-value replies.Limit before case = record { values = refl }
-puts-no-value replies.Room before case = record { values = refl }
-puts-no-value (replies.Cover limit heaviest t) before case = absurd (miss withoutValues 4 tt case)
-puts-no-value (replies.Stop v) before case = absurd (miss withoutValues 5 tt case)
-puts-no-value (replies.Parts T D) before case = absurd (miss withoutValues 6 tt case)
-puts-no-value (replies.Needs C) before case = absurd (miss withoutValues 7 tt case)
+puts-no-value (replies.Refused f) before case = record { values = refl }
+puts-no-value (replies.Cover limit heaviest t) before case = absurd (miss withoutValues 1 tt case)
+puts-no-value (replies.Stop v) before case = absurd (miss withoutValues 2 tt case)
+puts-no-value (replies.Parts T D) before case = absurd (miss withoutValues 3 tt case)
+puts-no-value (replies.Needs C) before case = absurd (miss withoutValues 4 tt case)
 puts-no-value replies.NoCover before case = record { values = refl }
-
--- A verdict that is not yes has none.
-pub puts-no-heaviest : (v : Verdict) (before : List ℕ) → OneOf refusals (tagOf verdict.the-type v) → Puts (sayingOf v) before before
-puts-no-heaviest v before case = rw (refused-number v case) (record { values = refl })

@@ -1,15 +1,15 @@
--- What crosses to C as numbers: the kind of a question, and the number and values that a verdict says. (What a reply says: `says` of the crate `pieces`.)
+-- What crosses to C as numbers: the kind of a question, and the number and values that a verdict says. (What a reply says: `says` of the crate `replies`.)
 -- Assumes nothing.
 use Prim.Native.Nat.{ℕ, zero, suc}
 use mathlib.Core.Path.{_≡_}
 use mathlib.Core.List.{List, [], _∷_, _++_}
 use lib.ListN.{length, drop}
 use Rattle.rules.specs.Reply as rules
-use Rattle.cover.specs.declared.crews.Kind.{Kind}
-use Rattle.cover.specs.declared.crews.Kind.the-variants.{Rooted, Unrooted}
+use Rattle.admit.specs.declared.crews.Kind.{Kind}
+use Rattle.admit.specs.declared.crews.Kind.the-variants.{Rooted, Unrooted}
 use Rattle.filed.specs.declared.check.Verdict.{Verdict}
 use Rattle.filed.specs.Promise as check
-use Rattle.pieces.specs.Replies.{Said, said}
+use Rattle.replies.specs.Replies.{Said, said}
 
 -- 0 is rooted ("yard"), every other number unrooted ("roving").
 abbrev pub kindOf : ℕ → Kind

@@ -4,30 +4,31 @@
 use Prim.Native.Nat.{ℕ}
 use mathlib.Core.Path.{_≡_}
 use mathlib.Core.List.{List}
+use Rattle.rules.specs.Questions.{Question}
 use Rattle.filed.specs.declared.check.Verdict.{Verdict}
 use Rattle.filed.specs.Promise.{CheckPromise}
-use Rattle.pieces.specs.declared.reply.Reply.{Reply}
-use Rattle.pieces.specs.Replies.{says}
+use Rattle.replies.specs.declared.Reply.{Reply}
+use Rattle.replies.specs.Replies.{says}
 use Rattle.planner.specs.Promise.{TrialPromise, BestPromise}
-use Rattle.planner_c.specs.Numbers.{kindOf, sayingOf, Puts}
+use Rattle.planner_c.specs.Numbers.{sayingOf, Puts}
 
 -- A trial at a limit.
-pub record TrialExported (kind k limit : ℕ) (b values valuesAfter before after : List ℕ) (r : ℕ) : Type 0 where
+pub record TrialExported (q : Question) (limit : ℕ) (values valuesAfter before after : List ℕ) (r : ℕ) : Type 0 where
   pub reply : Reply
-  pub promise : TrialPromise (kindOf kind) k limit b before after reply
+  pub promise : TrialPromise q limit before after reply
   pub number : r ≡ says reply .number
   pub puts : Puts (says reply) values valuesAfter
 
 -- The best limit.
-pub record BestExported (kind k : ℕ) (b values valuesAfter before after : List ℕ) (r : ℕ) : Type 0 where
+pub record BestExported (q : Question) (values valuesAfter before after : List ℕ) (r : ℕ) : Type 0 where
   pub reply : Reply
-  pub promise : BestPromise (kindOf kind) k b before after reply
+  pub promise : BestPromise q before after reply
   pub number : r ≡ says reply .number
   pub puts : Puts (says reply) values valuesAfter
 
 -- The check of a filed cover.
-pub record CheckExported (kind k : ℕ) (b c values valuesAfter : List ℕ) (r : ℕ) : Type 0 where
+pub record CheckExported (q : Question) (c values valuesAfter : List ℕ) (r : ℕ) : Type 0 where
   pub verdict : Verdict
-  pub promise : CheckPromise (kindOf kind) k b c verdict
+  pub promise : CheckPromise q c verdict
   pub number : r ≡ sayingOf verdict .number
   pub puts : Puts (sayingOf verdict) values valuesAfter

@@ -4,7 +4,9 @@ pub mod said;
 use crate::said::kind_of;
 use crate::said::put_heaviest;
 use crate::said::put_values;
-use pieces::reply::number_of;
+use replies::number_of;
+ghost use Rattle.admit.specs.Crews.{asks};
+ghost use Rattle.planner_c.specs.Numbers.{kindOf};
 ghost use Rattle.planner_c.specs.Promise.{TrialExported, BestExported, CheckExported};
 
 // A trial at a limit, with its reply as a number and values.
@@ -17,7 +19,7 @@ pub extern "C" fn planner_trial(
     values: &mut [u64; 3],
     buffer: &mut [u8],
 ) -> u32
-    ensures { λ r. ⌜ TrialExported kind k limit (now (graph .entry)) (now (values .entry)) (now (values .exit)) (now (buffer .entry)) (now (buffer .exit)) r ⌝ }
+    ensures { λ r. ⌜ TrialExported (asks (kindOf kind) k (now (graph .entry))) limit (now (values .entry)) (now (values .exit)) (now (buffer .entry)) (now (buffer .exit)) r ⌝ }
 {
     let reply = planner::question::trial(kind_of(kind), k, limit, graph, buffer);
     put_values(reply, values);
@@ -33,7 +35,7 @@ pub extern "C" fn planner_best(
     values: &mut [u64; 3],
     buffer: &mut [u8],
 ) -> u32
-    ensures { λ r. ⌜ BestExported kind k (now (graph .entry)) (now (values .entry)) (now (values .exit)) (now (buffer .entry)) (now (buffer .exit)) r ⌝ }
+    ensures { λ r. ⌜ BestExported (asks (kindOf kind) k (now (graph .entry))) (now (values .entry)) (now (values .exit)) (now (buffer .entry)) (now (buffer .exit)) r ⌝ }
 {
     let reply = planner::question::best(kind_of(kind), k, graph, buffer);
     put_values(reply, values);
@@ -49,7 +51,7 @@ pub extern "C" fn planner_check(
     cover: &[u8],
     values: &mut [u64; 3],
 ) -> u32
-    ensures { λ r. ⌜ CheckExported kind k (now (graph .entry)) (now (cover .entry)) (now (values .entry)) (now (values .exit)) r ⌝ }
+    ensures { λ r. ⌜ CheckExported (asks (kindOf kind) k (now (graph .entry))) (now (cover .entry)) (now (values .entry)) (now (values .exit)) r ⌝ }
 {
     let verdict = filed::check::check_cover(kind_of(kind), k, graph, cover);
     put_heaviest(verdict, values);

@@ -1,10 +1,10 @@
 // What crosses to C as numbers: the kind of a question, and what a reply and a verdict say.
-use cover::crews::Kind;
+use admit::crews::Kind;
 use filed::check::Verdict;
-use pieces::reply::Reply;
+use replies::Reply;
 ghost use mathlib.Core.Path.{_≡_};
 ghost use lib.ListN.{length};
-ghost use Rattle.pieces.specs.Replies.{says};
+ghost use Rattle.replies.specs.Replies.{says};
 ghost use Rattle.planner_c.specs.Numbers.{kindOf, sayingOf, Puts};
 
 // The kind that a number names: 0 rooted, every other unrooted.
@@ -51,6 +51,6 @@ pub(crate) fn put_heaviest(verdict: Verdict, values: &mut [u64])
         Verdict::Yes(heaviest) => {
             values[0] = heaviest;
         }
-        _ => {}
+        Verdict::Refused(_) => {}
     }
 }

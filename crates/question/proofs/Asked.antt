@@ -13,10 +13,10 @@ use Rattle.lists.proofs.Every.{first-false}
 use Rattle.graph.specs.Bytes.{graphOf}
 use Rattle.rules.specs.RootedTrial.{Choices}
 use Rattle.rules.specs.Reply as rules
-use Rattle.rules.specs.Questions.{askedIn, crewCountIn, limitIn, sheetIn, unknown, askSheet, askRounds}
-use Rattle.pieces.specs.declared.reply.Reply.{Reply}
+use Rattle.rules.specs.Questions.{leastRoom, question, askedIn, crewCountIn, limitIn, sheetIn, unknown, kindIn, isTrial, questionIn, askKnown, askRounds}
+use Rattle.replies.specs.declared.Reply.{Reply}
 use Rattle.reply_text.specs.Replies.{TextWritten, RefusalWritten}
-use Rattle.question.specs.Question.{SheetAnswered, TextAnswered}
+use Rattle.question.specs.Question.{KnownAnswered, TextAnswered}
 
 module _ (input : List ℕ) where
   pub too-short : length input < 8 → true ≡ unknown input
@@ -52,7 +52,7 @@ module _ (input : List ℕ) (c : Choices) where
   unfolding askRounds
   unknown-reply q = rw (sym q)
 
-  known-reply : unknown input ≡ false → askRounds input c ≡ askSheet (askedIn input) (crewCountIn input) (limitIn input) (sheetIn input) 32708 c
+  known-reply : unknown input ≡ false → askRounds input c ≡ askKnown (isTrial (askedIn input)) (questionIn input) (limitIn input) leastRoom c
   unfolding askRounds
   known-reply q = rw q
 
@@ -71,11 +71,12 @@ pub sheet-is : (input : List ℕ) → take (length input - 8) (drop 8 input) ≡
 sheet-is input = take-all (length input - 8) (drop 8 input) (omega (arith, length-drop 8 input))
 
 -- The text of a known question's reply, by the values that were read.
-pub known-answered : {input b buf after-buf before after : List ℕ} {asked k limit r : ℕ} {reply : Reply} → unknown input ≡ false → length buf ≡ 32708
+pub known-answered : {input b buf after-buf before after : List ℕ} {asked k limit r : ℕ} {reply : Reply} → unknown input ≡ false → length buf ≡ leastRoom
     → asked ≡ askedIn input → k ≡ crewCountIn input → limit ≡ limitIn input → b ≡ sheetIn input
-    → SheetAnswered asked k limit b buf after-buf reply → TextWritten (graphOf b) reply after-buf before after r → TextAnswered input before after r
+    → KnownAnswered (isTrial asked) (question (kindIn asked) k b) limit buf after-buf reply → TextWritten (graphOf b) reply after-buf before after r
+    → TextAnswered input before after r
 known-answered {input} {b} {buf} {asked = asked} {k = k} {limit = limit} q full a c l is s w =
-    let same : askRounds input (s .choices) ≡ askSheet asked k limit b (length buf) (s .choices)
+    let same : askRounds input (s .choices) ≡ askKnown (isTrial asked) (question (kindIn asked) k b) limit (length buf) (s .choices)
     = known-reply input (s .choices) q ∙ sym (rw (a, c, l, is, full)) in
     record {
       choices = s .choices;

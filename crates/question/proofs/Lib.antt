@@ -1,5 +1,5 @@
 -- Laws of the program's question.
 -- the planner's answers are the rules', and can be printed
-pub mod SheetAnswers
+pub mod KnownAnswers
 -- known and unknown questions
 pub mod Asked

@@ -1,14 +1,15 @@
 // The question's fields, the reply to it, and the reply's text.
-use cover::crews::Kind;
-use pieces::reply::Reply;
+use admit::crews::Kind;
+use admit::refusal::LEAST_ROOM;
 use planner::question::best;
 use planner::question::trial;
+use replies::Reply;
 use reply_text::reply::write_refused;
 use reply_text::reply::write_reply;
 ghost use mathlib.Core.Path.{_≡_};
 ghost use lib.ListN.{length};
-ghost use Rattle.rules.specs.Questions.{unknown as unknownIn};
-ghost use Rattle.question.specs.Question.{SheetAnswered, TextAnswered, TextRoom, AnswerPromise};
+ghost use Rattle.rules.specs.Questions.{question, unknown as unknownIn, kindIn, isTrial};
+ghost use Rattle.question.specs.Question.{KnownAnswered, TextAnswered, TextRoom, AnswerPromise};
 
 // Whether the input is too short or too long, or the question unknown (41).
 fn unknown(input: &[u8]) -> bool
@@ -32,7 +33,7 @@ fn unknown(input: &[u8]) -> bool
 
 // The reply to a known question on a graph's bytes: 1 rooted trial, 2 unrooted trial, 3 rooted best, 4 unrooted best.
 fn reply_to(asked: usize, k: usize, limit: u64, b: &[u8], buf: &mut [u8]) -> Reply
-    ensures { λ r. ⌜ SheetAnswered asked k limit (now (b .entry)) (now (buf .entry)) (now (buf .exit)) r ⌝ }
+    ensures { λ r. ⌜ KnownAnswered (isTrial asked) (question (kindIn asked) k (now (b .entry))) limit (now (buf .entry)) (now (buf .exit)) r ⌝ }
 {
     if asked == 1 {
         return trial(Kind::Rooted, k, limit, b, buf);
@@ -70,6 +71,6 @@ pub fn answer(input: &[u8], out: &mut [u8]) -> usize
     if out.len() < 65536 {
         return 0;
     }
-    let mut buf = [0u8; 32708];
+    let mut buf = [0u8; LEAST_ROOM];
     answer_in(input, &mut buf, out)
 }

@@ -10,9 +10,9 @@ use Rattle.graph.specs.Graph.{Graph}
 use Rattle.rules.specs.CoverBytes.{coverLength, encode, decode}
 use Rattle.rules.specs.Questions.{written, bufferAfter}
 use Rattle.rules.specs.Reply as rules
-use Rattle.pieces.specs.declared.reply.Reply.{Reply}
-use Rattle.pieces.specs.declared.reply.Reply.the-variants.{Cover}
-use Rattle.pieces.specs.Replies.{Said, said, saidOf, says, Replied}
+use Rattle.replies.specs.declared.Reply.{Reply}
+use Rattle.replies.specs.declared.Reply.the-variants.{Cover}
+use Rattle.replies.specs.Replies.{Said, said, saidOf, says, Replied}
 use Rattle.reply_text.specs.Lines.{line}
 use Rattle.reply_text.specs.Text.{treeLines, textOf}
 use Rattle.reply_text.specs.Trees.{TreesAsked}

@@ -9,13 +9,13 @@ use lib.ListN.{drop, getD}
 use borrow.Author.Tests.{le-leb}
 use Rattle.lists.specs.Put.{PutTo}
 use Rattle.graph.specs.Graph.{Graph}
-use Rattle.graph_check.specs.Check.{numberOf}
-use Rattle.graph_check.specs.declared.Cause.{Cause}
-use Rattle.graph_check.specs.declared.Cause.the-variants as cause
 use Rattle.rules.specs.Cover.{Tree}
 use Rattle.rules.specs.Reply as rules
-use Rattle.pieces.specs.declared.reply.Reply.{Reply}
-use Rattle.pieces.specs.Replies.{Said, said, saidOf, says, Replied}
+use Rattle.admit.specs.declared.refusal.Refusal.{Refusal}
+use Rattle.admit.specs.Refusals.{numberOf}
+use Rattle.admit.proofs.RefusalNumbers.{numbers-begin}
+use Rattle.replies.specs.declared.Reply.{Reply}
+use Rattle.replies.specs.Replies.{Said, said, saidOf, says, Replied}
 use Rattle.reply_text.specs.Lines.{bytesOf, spaced, line}
 use Rattle.reply_text.specs.Text.{treeLines, textOf}
 use Rattle.reply_text.specs.Replies.{Printable, TextWritten}
@@ -59,12 +59,7 @@ pub reply-written : (g : Graph) {buf before after xs : List ℕ} {reply x : Repl
 reply-written g q text p =
     record { text = λ ruled earlier e h. rw (said-text g e h ∙ ap (λ y. textSaid g (treesOf ruled) (says y)) q ∙ text (treesOf ruled)) p }
 
--- The number of a fault in the graph's bytes is a refusal's.
-pub fault-refused : (g : Graph) (trees : List Tree) (f : Cause) → textSaid g trees (said (numberOf f) []) ≡ textOf g (rules.refused (numberOf f))
+-- The number of a cause is a refusal's.
+pub cause-refused : (g : Graph) (trees : List Tree) (f : Refusal) → textSaid g trees (said (numberOf f) []) ≡ textOf g (rules.refused (numberOf f))
 unfolding textOf textSaid
-fault-refused g trees cause.Length = refl
-fault-refused g trees cause.Vertices = refl
-fault-refused g trees cause.Edges = refl
-fault-refused g trees cause.End = refl
-fault-refused g trees cause.Loop = refl
-fault-refused g trees cause.Weight = refl
+cause-refused g trees f = rw (le-leb 11 (numberOf f) (numbers-begin f))

@@ -11,8 +11,8 @@ use Rattle.rules.specs.Cover.{Tree, Crews, IsCover}
 use Rattle.rules.specs.CoverBytes.{decode}
 use Rattle.rules.specs.Questions.{crewFault}
 use Rattle.rules.specs.Reply as rules
-use Rattle.pieces.specs.declared.reply.Reply.{Reply}
-use Rattle.pieces.specs.Replies.{Replied}
+use Rattle.replies.specs.declared.Reply.{Reply}
+use Rattle.replies.specs.Replies.{Replied}
 use Rattle.reply_text.specs.Lines.{line}
 use Rattle.reply_text.specs.Text.{treeLines, textOf}
 

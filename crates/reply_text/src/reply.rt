@@ -5,7 +5,7 @@ use crate::lines::put_spaced;
 use crate::lines::put_word;
 use crate::trees::put_trees;
 use cover::read::cover_length;
-use pieces::reply::Reply;
+use replies::Reply;
 ghost use Prim.Native.Nat.{_+_, _≤_};
 ghost use mathlib.Core.List.{[], _∷_, _++_};
 ghost use lib.ListN.{length};
@@ -59,17 +59,8 @@ pub fn write_reply(b: &[u8], reply: Reply, buf: &[u8], out: &mut [u8]) -> usize
     ensures { λ r. ⌜ TextWritten (graphOf (now (b .entry))) reply (now (buf .entry)) (now (out .entry)) (now (out .exit)) r ⌝ }
 {
     match reply {
-        Reply::Sheet(fault) => {
-            return write_refused(graph_check::number(fault) as u64, out);
-        }
-        Reply::Crews => {
-            return write_refused(21, out);
-        }
-        Reply::Limit => {
-            return write_refused(22, out);
-        }
-        Reply::Room => {
-            return write_refused(23, out);
+        Reply::Refused(f) => {
+            return write_refused(admit::refusal::number(f) as u64, out);
         }
         Reply::Cover(limit, heaviest, t) => {
             let end = cover_length(buf);

@@ -13,9 +13,9 @@ use Rattle.matching.specs.Assignment.{IsDeficient}
 use Rattle.rules.specs.Cover.{rooted}
 use Rattle.rules.specs.RootedTrial.{unjoinedAt, rootedParts, mayGo, isAssignable}
 use Rattle.planner_laws.proofs.RootedSize.{rooted-parts-few}
-use Rattle.pieces.specs.Replies.{Answers}
-use Rattle.pieces.specs.declared.reply.Reply.{Reply}
-use Rattle.pieces.specs.declared.reply.Reply.the-variants.{Cover}
+use Rattle.replies.specs.Replies.{Answers}
+use Rattle.replies.specs.declared.Reply.{Reply}
+use Rattle.replies.specs.declared.Reply.the-variants.{Cover}
 use Rattle.rooted_answer.specs.Answer.{RootedAnswerAsked, JoinedAsked, JoinedLent, PlacedGiven}
 use Rattle.rooted_cover.specs.CoverTrees.{CoverAsked, CoverAtLimits}
 use Rattle.rooted_state.specs.Prepared.{PartsReady}

@@ -20,8 +20,8 @@ use Rattle.rules.specs.Reply.{covered, too-low-stop, too-low-parts}
 use Rattle.rules.specs.RootedTrial.{Choices, GoodChoices, unjoinedAt, rootedParts, mayGo, isAssignable, rootedCover, chosenParts, stopOr, rootedTrial}
 use Rattle.rules.specs.Search.{trial}
 use Rattle.planner_laws.proofs.SomeChoices.{some-choices}
-use Rattle.pieces.specs.Replies.{Answers}
-use Rattle.pieces.specs.declared.reply.Reply.the-variants.{Cover, Stop, Parts}
+use Rattle.replies.specs.Replies.{Answers}
+use Rattle.replies.specs.declared.Reply.the-variants.{Cover, Stop, Parts}
 use Rattle.deficient.specs.declared.Deficient.{Deficient}
 use Rattle.deficient.specs.TooLowParts.{DeficientWritten}
 

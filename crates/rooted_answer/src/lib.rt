@@ -3,16 +3,16 @@
 // The words of the contracts stand in specs/ and in the definitions of the crate `rules`.
 use deficient::reply_deficient;
 use forest::lowest::Found;
-use pieces::reply::Reply;
 use pieces::whole::light_forest;
 use pieces::whole::stop_at;
+use replies::Reply;
 use rooted_cover::cover_trees::write_rooted;
 use rooted_parts::parts::Placed;
 use rooted_parts::parts::place_parts;
 ghost use lib.ListN.{length};
 ghost use Rattle.graph.specs.Bytes.{graphOf};
 ghost use Rattle.rules.specs.Cover.{rooted};
-ghost use Rattle.pieces.specs.Replies.{Answers};
+ghost use Rattle.replies.specs.Replies.{Answers};
 ghost use Rattle.rooted_answer.specs.Answer.{RootedAnswerAsked, JoinedAsked, JoinedLent, JoinedSmall, PlacedGiven};
 ghost use Rattle.rooted_state.specs.Placed.{trialArrays};
 

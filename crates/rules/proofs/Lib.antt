@@ -17,5 +17,9 @@ pub mod Fields
 pub mod SheetRight
 -- crews that are not refused are 1 to 32, and fit the graph
 pub mod CrewsRight
+-- a question that is not refused is about a valid graph and fitting crews
+pub mod Admitted
+-- document 01's numbers begin at 11
+pub mod FaultNumbers
 -- the choices of the starred rows are allowed ones
 pub mod DistrictChoices

@@ -3,10 +3,10 @@
 use Prim.Native.Nat.{ℕ}
 use mathlib.Core.Path.{_≡_, refl}
 use mathlib.Core.List.{List, [], _∷_, map, headD}
-use Rattle.rules.specs.Cover.{Tree, Crews, rooted, unrooted}
+use Rattle.rules.specs.Cover.{Tree}
 use Rattle.rules.specs.RootedTrial.{Choices}
 use Rattle.rules.specs.Reply.{Reply, covered, too-low-stop, too-low-parts, too-low-needs, no-cover, Verdict, yes, number}
-use Rattle.rules.specs.Questions.{askTrial, askBest, askCheck}
+use Rattle.rules.specs.Questions.{Question, question, yards, roving, leastRoom, askTrial, askBest, askCheck}
 use Rattle.lists.specs.Count as Count
 use Rattle.lists.specs.Lists as Lists
 use Rattle.lists.specs.Sort as Sort
@@ -37,10 +37,6 @@ N = 4 ∷ 0 ∷ 3 ∷ 0 ∷ 0 ∷ 0 ∷ 2 ∷ 0 ∷ 2 ∷ 0 ∷ 3 ∷ 0 ∷ 1 �
 unfoldable pub bare : ℕ → List ℕ
 bare n = n ∷ 0 ∷ 0 ∷ 0 ∷ []
 
--- The crews of a question: k roots, the vertices below k; or k without roots.
-unfoldable pub roots : ℕ → Crews
-roots k = rooted (Count.below k)
-
 -- A tree by its start and its edges.
 unfoldable pub tree : ℕ → List ℕ → Tree
 tree v es = record { start = v; edges = es }
@@ -55,18 +51,18 @@ assigned rs = record { assignment = rs; paths = []; marks = [] }
 unfoldable pub set : List ℕ → Choices
 set ms = record { assignment = []; paths = []; marks = ms }
 
--- A question with the free choices made, and an answer.
-pub data Question : Type 0 where
-  trial : (sheet : List ℕ) (crews : Crews) (limit : ℕ) → Choices → Question
-  best : (sheet : List ℕ) (crews : Crews) → Choices → Question
-  check : (sheet : List ℕ) (crews : Crews) (cover : List ℕ) → Question
+-- What is asked, with the free choices made, and an answer.
+pub data Asked : Type 0 where
+  trial : Question → (limit : ℕ) → Choices → Asked
+  best : Question → Choices → Asked
+  check : Question → (cover : List ℕ) → Asked
 
 pub data Answer : Type 0 where
   reply : Reply → Answer
   verdict : Verdict → Answer
 
 -- What the definitions answer, with a buffer that is just long enough. To unfold it is to unfold them all.
-unfoldable pub answer : Question → Answer
+unfoldable pub answer : Asked → Answer
 unfolding headD
     Count.count Count.anyBelow Count.from Count.below
     Lists.filter Lists.any Lists.all Lists.firstThat Lists.flat Lists.sumOf Lists.largest Lists.member Lists.without
@@ -92,44 +88,45 @@ unfolding headD
     CheckCover.startsRight CheckCover.startsBelow CheckCover.entryRises CheckCover.entryRight CheckCover.entriesRight CheckCover.loopFree
     CheckCover.allJoined CheckCover.treesRight CheckCover.verticesCovered CheckCover.coverFault
     Questions.numberIn Questions.sheetFault Questions.crewCount Questions.tooManyRoots Questions.crewFault Questions.limitFault
-    Questions.roomFault Questions.trialFault Questions.askTrial Questions.bestFault Questions.askBest Questions.askCheck
-answer (trial sheet crews limit c) = reply (askTrial sheet crews limit 32708 c)
-answer (best sheet crews c) = reply (askBest sheet crews 32708 c)
-answer (check sheet crews cover) = verdict (askCheck sheet crews cover)
+    Questions.roomFault Questions.questionFault Questions.trialFault Questions.askTrial Questions.bestFault Questions.askBest
+    Questions.checkFault Questions.askCheck
+answer (trial q limit c) = reply (askTrial q limit leastRoom c)
+answer (best q c) = reply (askBest q leastRoom c)
+answer (check q cover) = verdict (askCheck q cover)
 
 -- A row: what is asked, and the answer that document 01 gives.
 pub record Row : Type 0 where
-  pub asked : Question
+  pub asked : Asked
   pub expected : Answer
 
-unfoldable pub row : Question → Answer → Row
+unfoldable pub row : Asked → Answer → Row
 row q a = record { asked = q; expected = a }
 
 -- The rows, in document 01's order.
 unfoldable pub rows : List Row
 rows =
-    row (trial N (roots 2) 0 nothing) (reply (too-low-stop 2))
-    ∷ row (trial N (roots 2) 2 nothing) (reply (too-low-stop 2))
-    ∷ row (trial N (roots 2) 3 (set (1 ∷ 1 ∷ []))) (reply (too-low-parts 2 1 (tree 0 (0 ∷ []) ∷ tree 2 (1 ∷ []) ∷ [])))
-    ∷ row (trial N (roots 2) 4 (assigned (0 ∷ []))) (reply (covered 4 6 (tree 0 (0 ∷ 1 ∷ []) ∷ tree 1 [] ∷ [])))
-    ∷ row (trial N (roots 2) 7 nothing) (reply (covered 7 6 (tree 0 (0 ∷ 1 ∷ []) ∷ tree 1 [] ∷ [])))
-    ∷ row (best N (roots 2) (assigned (0 ∷ []))) (reply (covered 4 6 (tree 0 (0 ∷ 1 ∷ []) ∷ tree 1 [] ∷ [])))
-    ∷ row (trial N (unrooted 2) 3 nothing) (reply (too-low-needs 3))
-    ∷ row (trial N (unrooted 3) 3 nothing) (reply (covered 3 6 (tree 0 (0 ∷ 1 ∷ []) ∷ tree 1 [] ∷ [])))
-    ∷ row (trial N (unrooted 1) 5 nothing) (reply (too-low-needs 2))
-    ∷ row (best N (unrooted 1) nothing) (reply (covered 6 11 (tree 0 (0 ∷ 1 ∷ 2 ∷ []) ∷ [])))
-    ∷ row (trial N (unrooted 3) 0 nothing) (reply (too-low-needs 4))
-    ∷ row (trial N (unrooted 4) 0 nothing) (reply (covered 0 0 (tree 0 [] ∷ tree 1 [] ∷ tree 2 [] ∷ tree 3 [] ∷ [])))
-    ∷ row (trial (bare 1) (roots 1) 0 nothing) (reply (covered 0 0 (tree 0 [] ∷ [])))
-    ∷ row (trial (bare 1) (unrooted 1) 0 nothing) (reply (covered 0 0 (tree 0 [] ∷ [])))
-    ∷ row (best (bare 2) (roots 1) nothing) (reply no-cover)
-    ∷ row (best (bare 2) (unrooted 1) nothing) (reply no-cover)
+    row (trial (question yards 2 N) 0 nothing) (reply (too-low-stop 2))
+    ∷ row (trial (question yards 2 N) 2 nothing) (reply (too-low-stop 2))
+    ∷ row (trial (question yards 2 N) 3 (set (1 ∷ 1 ∷ []))) (reply (too-low-parts 2 1 (tree 0 (0 ∷ []) ∷ tree 2 (1 ∷ []) ∷ [])))
+    ∷ row (trial (question yards 2 N) 4 (assigned (0 ∷ []))) (reply (covered 4 6 (tree 0 (0 ∷ 1 ∷ []) ∷ tree 1 [] ∷ [])))
+    ∷ row (trial (question yards 2 N) 7 nothing) (reply (covered 7 6 (tree 0 (0 ∷ 1 ∷ []) ∷ tree 1 [] ∷ [])))
+    ∷ row (best (question yards 2 N) (assigned (0 ∷ []))) (reply (covered 4 6 (tree 0 (0 ∷ 1 ∷ []) ∷ tree 1 [] ∷ [])))
+    ∷ row (trial (question roving 2 N) 3 nothing) (reply (too-low-needs 3))
+    ∷ row (trial (question roving 3 N) 3 nothing) (reply (covered 3 6 (tree 0 (0 ∷ 1 ∷ []) ∷ tree 1 [] ∷ [])))
+    ∷ row (trial (question roving 1 N) 5 nothing) (reply (too-low-needs 2))
+    ∷ row (best (question roving 1 N) nothing) (reply (covered 6 11 (tree 0 (0 ∷ 1 ∷ 2 ∷ []) ∷ [])))
+    ∷ row (trial (question roving 3 N) 0 nothing) (reply (too-low-needs 4))
+    ∷ row (trial (question roving 4 N) 0 nothing) (reply (covered 0 0 (tree 0 [] ∷ tree 1 [] ∷ tree 2 [] ∷ tree 3 [] ∷ [])))
+    ∷ row (trial (question yards 1 (bare 1)) 0 nothing) (reply (covered 0 0 (tree 0 [] ∷ [])))
+    ∷ row (trial (question roving 1 (bare 1)) 0 nothing) (reply (covered 0 0 (tree 0 [] ∷ [])))
+    ∷ row (best (question yards 1 (bare 2)) nothing) (reply no-cover)
+    ∷ row (best (question roving 1 (bare 2)) nothing) (reply no-cover)
     -- entries (tree, edge): (0,0)(0,1), then (0,0)(1,1)
-    ∷ row (check N (roots 2) (2 ∷ 0 ∷ 2 ∷ 0 ∷ 0 ∷ 0 ∷ 1 ∷ 0 ∷ 0 ∷ 0 ∷ 0 ∷ 0 ∷ 0 ∷ 0 ∷ 1 ∷ 0 ∷ [])) (verdict (yes 6))
-    ∷ row (check N (roots 2) (2 ∷ 0 ∷ 2 ∷ 0 ∷ 0 ∷ 0 ∷ 1 ∷ 0 ∷ 0 ∷ 0 ∷ 1 ∷ 0 ∷ 0 ∷ 0 ∷ 1 ∷ 0 ∷ [])) (verdict (number 34))
+    ∷ row (check (question yards 2 N) (2 ∷ 0 ∷ 2 ∷ 0 ∷ 0 ∷ 0 ∷ 1 ∷ 0 ∷ 0 ∷ 0 ∷ 0 ∷ 0 ∷ 0 ∷ 0 ∷ 1 ∷ 0 ∷ [])) (verdict (yes 6))
+    ∷ row (check (question yards 2 N) (2 ∷ 0 ∷ 2 ∷ 0 ∷ 0 ∷ 0 ∷ 1 ∷ 0 ∷ 0 ∷ 0 ∷ 1 ∷ 0 ∷ 0 ∷ 0 ∷ 1 ∷ 0 ∷ [])) (verdict (number 34))
     ∷ []
 
 -- Every row's question has the answer that document 01 gives.
 pub starred-rows : map (λ (r : Row). answer (r .asked)) rows ≡ map (λ (r : Row). r .expected) rows
-unfolding N bare roots tree nothing assigned set answer row rows
+unfolding N bare tree nothing assigned set answer row rows
 starred-rows = refl

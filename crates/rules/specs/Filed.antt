@@ -4,17 +4,14 @@ use Prim.Native.Nat.{ℕ}
 use mathlib.Core.Path.{_≡_}
 use mathlib.Core.List.{List}
 use mathlib.Core.Option.{none}
-use Rattle.graph.specs.Bytes.{graphOf}
-use Rattle.graph.specs.Valid.{IsGraph}
-use Rattle.rules.specs.Cover.{Tree, Crews, IsCover, heaviest}
+use Rattle.rules.specs.Cover.{Tree, IsCover, heaviest}
 use Rattle.rules.specs.CoverBytes.{encode}
-use Rattle.rules.specs.Questions.{crewFault}
+use Rattle.rules.specs.Questions.{Question, graphIn, crewsIn, questionFault}
 
--- The sheet is a graph's, the crews are in order, and the bytes are those of a cover by the crews whose heaviest tree weighs h.
-pub record Filed (sheet : List ℕ) (crews : Crews) (b : List ℕ) (h : ℕ) : Type 0 where
-  pub is-graph : IsGraph sheet
-  pub crews-right : crewFault crews (graphOf sheet .vertices) ≡ none
+-- Nothing is refused of the question, and the bytes are those of a cover by its crews whose heaviest tree weighs h.
+pub record Filed (q : Question) (b : List ℕ) (h : ℕ) : Type 0 where
+  pub admitted : questionFault q ≡ none
   pub trees : List Tree
-  pub cover : IsCover (graphOf sheet) crews trees
+  pub cover : IsCover (graphIn q) (crewsIn q) trees
   pub bytes : b ≡ encode trees
-  pub weighs : h ≡ heaviest (graphOf sheet) trees
+  pub weighs : h ≡ heaviest (graphIn q) trees

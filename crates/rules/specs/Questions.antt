@@ -7,6 +7,7 @@ use mathlib.Core.Option.{some, none}
 use lib.ListN.{length, drop}
 use lib.Dec.{leb, ltb, eqb}
 use Rattle.lists.specs.Count.{below}
+use Rattle.graph.specs.Graph.{Graph}
 use Rattle.graph.specs.Bytes.{u16At, u32At, graphOf}
 use Rattle.graph.specs.Fault.{Fault, faultIf, firstFault, refusedOr}
 use Rattle.graph_check.specs.Check as sheet
@@ -41,38 +42,73 @@ unfoldable pub crewFault : Crews → ℕ → Fault
 crewFault crews n = faultIf (ltb (crewCount crews) 1 || (ltb 32 (crewCount crews) || tooManyRoots crews n)) 21
 
 -- 22: "B above 2,048,000,000 (trial)".
+abbrev pub mostLimit : ℕ
+mostLimit = 2048000000
+
 unfoldable pub limitFault : ℕ → Fault
-limitFault limit = faultIf (ltb 2048000000 limit) 22
+limitFault limit = faultIf (ltb mostLimit limit) 22
 
 -- 23: "buffer below 32,708 bytes (trial, best)".
+abbrev pub leastRoom : ℕ
+leastRoom = 32708
+
 unfoldable pub roomFault : ℕ → Fault
-roomFault room = faultIf (ltb room 32708) 23
+roomFault room = faultIf (ltb room leastRoom) 23
 
--- What is refused of a trial question, in document 01's order.
-unfoldable pub trialFault : List ℕ → Crews → ℕ → ℕ → Fault
-trialFault b crews limit room = firstFault (sheetFault b ∷ crewFault crews (graphOf b .vertices) ∷ limitFault limit ∷ roomFault room ∷ [])
+-- A "yard" question, whose crews have a root each, or a "roving" one.
+pub data Kind : Type 0 where
+  yards : Kind
+  roving : Kind
 
--- The trial question: a graph's bytes, crews, a limit and the length of the buffer.
-unfoldable pub askTrial : List ℕ → Crews → ℕ → ℕ → Choices → Reply
-askTrial b crews limit room c =
-    let answer = trial (graphOf b) crews limit c in
-    refusedOr refused (trialFault b crews limit room) answer
+-- What every question about a graph brings.
+pub record Question : Type 0 where
+  pub kind : Kind
+  pub k : ℕ
+  pub sheet : List ℕ
 
--- What is refused of a best-limit question.
-unfoldable pub bestFault : List ℕ → Crews → ℕ → Fault
-bestFault b crews room = firstFault (sheetFault b ∷ crewFault crews (graphOf b .vertices) ∷ roomFault room ∷ [])
+abbrev pub question : Kind → ℕ → List ℕ → Question
+question kind k sheet = record { kind = kind; k = k; sheet = sheet }
+
+-- The graph that it is about.
+abbrev pub graphIn : Question → Graph
+graphIn q = graphOf (q .sheet)
+
+-- Whom a cover is for: "the yards are stops 0 to k - 1", or "there are none".
+abbrev pub crewsBy : Kind → ℕ → Crews
+crewsBy yards k = rooted (below k)
+crewsBy roving k = unrooted k
+
+abbrev pub crewsIn : Question → Crews
+crewsIn q = crewsBy (q .kind) (q .k)
+
+-- What is refused of every question, in document 01's order.
+unfoldable pub questionFault : Question → Fault
+questionFault q = firstFault (sheetFault (q .sheet) ∷ crewFault (crewsIn q) (graphIn q .vertices) ∷ [])
+
+-- The trial question, at a limit and with a buffer of so many bytes: what is refused of it, and the reply.
+unfoldable pub trialFault : Question → ℕ → ℕ → Fault
+trialFault q limit room = firstFault (questionFault q ∷ limitFault limit ∷ roomFault room ∷ [])
+
+unfoldable pub askTrial : Question → ℕ → ℕ → Choices → Reply
+askTrial q limit room c =
+    let answer = trial (graphIn q) (crewsIn q) limit c in
+    refusedOr refused (trialFault q limit room) answer
 
 -- The best-limit question.
-unfoldable pub askBest : List ℕ → Crews → ℕ → Choices → Reply
-askBest b crews room c =
-    let answer = best (graphOf b) crews c in
-    refusedOr refused (bestFault b crews room) answer
+unfoldable pub bestFault : Question → ℕ → Fault
+bestFault q room = firstFault (questionFault q ∷ roomFault room ∷ [])
+
+unfoldable pub askBest : Question → ℕ → Choices → Reply
+askBest q room c =
+    let answer = best (graphIn q) (crewsIn q) c in
+    refusedOr refused (bestFault q room) answer
 
 -- The check of a filed cover's bytes.
-unfoldable pub askCheck : List ℕ → Crews → List ℕ → Verdict
-askCheck b crews cover =
-    refusedOr number (firstFault (sheetFault b ∷ crewFault crews (graphOf b .vertices) ∷ coverFault (graphOf b) crews cover ∷ []))
-    (yes (heaviest (graphOf b) (decode cover)))
+unfoldable pub checkFault : Question → List ℕ → Fault
+checkFault q cover = firstFault (questionFault q ∷ coverFault (graphIn q) (crewsIn q) cover ∷ [])
+
+unfoldable pub askCheck : Question → List ℕ → Verdict
+askCheck q cover = refusedOr number (checkFault q cover) (yes (heaviest (graphIn q) (decode cover)))
 
 -- What a reply writes: "the cover, or the T parts, fill the buffer's first bytes"; the others write nothing.
 unfoldable pub written : Reply → List ℕ
@@ -104,15 +140,20 @@ sheetIn input = drop 8 input
 unfoldable pub unknown : List ℕ → Bool
 unknown input = ltb (length input) 8 || (ltb 16396 (length input) || not (leb 1 (askedIn input) && leb (askedIn input) 4))
 
--- The reply to a known question: "1 yard trial, 2 roving trial, 3 yard best, 4 roving best".
-unfoldable pub askSheet : ℕ → ℕ → ℕ → List ℕ → ℕ → Choices → Reply
-askSheet asked k limit b room c =
-    cond (eqb asked 1) (askTrial b (rooted (below k)) limit room c)
-    (cond (eqb asked 2) (askTrial b (unrooted k) limit room c)
-    (cond (eqb asked 3) (askBest b (rooted (below k)) room c)
-    (askBest b (unrooted k) room c)))
+-- The program's question: "1 yard trial, 2 roving trial, 3 yard best, 4 roving best".
+unfoldable pub kindIn : ℕ → Kind
+kindIn asked = cond (eqb asked 1 || eqb asked 3) yards roving
+
+unfoldable pub isTrial : ℕ → Bool
+isTrial asked = eqb asked 1 || eqb asked 2
+
+abbrev pub questionIn : List ℕ → Question
+questionIn input = question (kindIn (askedIn input)) (crewCountIn input) (sheetIn input)
+
+-- The reply to a known question.
+unfoldable pub askKnown : Bool → Question → ℕ → ℕ → Choices → Reply
+askKnown trial q limit room c = cond trial (askTrial q limit room c) (askBest q room c)
 
 -- The reply to the program's question. 41 is "tried first".
 unfoldable pub askRounds : List ℕ → Choices → Reply
-askRounds input c =
-    cond (unknown input) (refused 41) (askSheet (askedIn input) (crewCountIn input) (limitIn input) (sheetIn input) 32708 c)
+askRounds input c = cond (unknown input) (refused 41) (askKnown (isTrial (askedIn input)) (questionIn input) (limitIn input) leastRoom c)

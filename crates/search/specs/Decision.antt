@@ -6,8 +6,8 @@ use mathlib.Core.Bool.{false}
 use mathlib.Core.List.{List}
 use Rattle.graph.specs.Graph.{Graph}
 use Rattle.rules.specs.Search.{noCover}
-use Rattle.cover.specs.declared.crews.Kind.{Kind}
-use Rattle.cover.specs.declared.crews.Kind.the-variants.{Rooted}
+use Rattle.admit.specs.declared.crews.Kind.{Kind}
+use Rattle.admit.specs.declared.crews.Kind.the-variants.{Rooted}
 use Rattle.rooted_state.specs.Prepared.{WholeWalked}
 use Rattle.prepare.specs.Crews.{crewsWith, CrewsReady}
 

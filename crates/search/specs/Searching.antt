@@ -8,8 +8,8 @@ use Rattle.graph.specs.Graph.{Graph}
 use Rattle.rules.specs.Cover as cover
 use Rattle.rules.specs.Order.{ordered}
 use Rattle.rules.specs.Search.{accepts, Bounds, searched}
-use Rattle.cover.specs.declared.crews.Kind.{Kind}
-use Rattle.cover.specs.declared.crews.Kind.the-variants.{Rooted}
+use Rattle.admit.specs.declared.crews.Kind.{Kind}
+use Rattle.admit.specs.declared.crews.Kind.the-variants.{Rooted}
 use Rattle.rooted_state.specs.Prepared.{RootsGiven, WholeAround, WholeWalked}
 use Rattle.search.specs.Decision.{CrewsPrepared}
 

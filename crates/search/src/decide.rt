@@ -1,5 +1,5 @@
 // Whether a limit is accepted, by crews of either kind: all that a trial inside the search does.
-use cover::crews::Kind;
+use admit::crews::Kind;
 use rooted_decide::accepts_rooted;
 use unrooted::answer::accepts_unrooted;
 ghost use mathlib.Core.Path.{_≡_};

@@ -1,6 +1,6 @@
 // The search for the best limit (document 01, "The best limit"): each trial in it only decides.
 use crate::decide::accepts_at;
-use cover::crews::Kind;
+use admit::crews::Kind;
 use cover::heaviest::edges_weight;
 use steps::put_walk;
 ghost use mathlib.Core.Path.{_≡_};

@@ -19,8 +19,8 @@ use Rattle.rules.specs.UnrootedTrial.{needed, unrootedTrees, unrootedTrial}
 use Rattle.rules.specs.Search.{accepts, trial, noCover}
 use Rattle.rules.specs.Questions.{written, bufferAfter}
 use Rattle.forest_laws.proofs.Keeping.{kept-merges}
-use Rattle.pieces.specs.Replies.{said, Answers}
-use Rattle.pieces.specs.declared.reply.Reply.the-variants.{Cover, Needs}
+use Rattle.replies.specs.Replies.{said, Answers}
+use Rattle.replies.specs.declared.Reply.the-variants.{Cover, Needs}
 use Rattle.needs.specs.Given.{ForestKept}
 use Rattle.unrooted.specs.Unrooted.{TreesWritten}
 use Rattle.unrooted.specs.declared.unrooted.Written.{Written}

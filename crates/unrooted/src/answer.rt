@@ -2,14 +2,14 @@
 // whole forest and the history of its merges, which are prepared once a question.
 use crate::unrooted::unrooted_trees;
 use needs::history::needed_by_history;
-use pieces::reply::Reply;
 use pieces::whole::light_forest;
+use replies::Reply;
 ghost use mathlib.Core.Path.{_≡_};
 ghost use lib.ListN.{length};
 ghost use Rattle.graph.specs.Bytes.{graphOf};
 ghost use Rattle.rules.specs.Cover.{unrooted};
 ghost use Rattle.rules.specs.Search.{accepts, noCover};
-ghost use Rattle.pieces.specs.Replies.{Answers};
+ghost use Rattle.replies.specs.Replies.{Answers};
 ghost use Rattle.needs.specs.Given.{ForestKept};
 ghost use Rattle.unrooted.specs.Answer.{HistoryReady, LimitKnown, UnrootedAnswerAsked};
 

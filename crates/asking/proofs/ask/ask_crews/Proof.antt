@@ -5,7 +5,7 @@ use lib.ListN.{length, take}
 use Rattle.lists.specs.Count.{below}
 use Rattle.lists.proofs.Put.{put-count, put-taken}
 use Rattle.graph.specs.Bytes.{graphOf}
-use Rattle.cover.specs.declared.crews.Kind.the-variants.{Rooted}
+use Rattle.admit.specs.declared.crews.Kind.the-variants.{Rooted}
 use Rattle.asking.proofs.Answering.{crews-few, rooted-asked, unrooted-asked, rooted-answered, unrooted-answered}
 use borrow.Author.Needs.{needs}
 use Rattle.asking.proofs.ask.ask_crews.Statement.{statement}

@@ -1,9 +1,6 @@
 -- `districts::text::write_verdict` meets its contract, answer by answer.
 -- Assumes nothing.
-use mathlib.Core.Path.{sym, ap, _∙_}
 use native.Mathlib.Omega.{arith}
-use Rattle.rules.specs.Reply as rules
-use Rattle.filed.proofs.VerdictNumbers.{refused-number}
 use Rattle.reply_text.specs.Lines.{line}
 use Rattle.reply_text.proofs.TextLengths.{last-few}
 use Rattle.districts.proofs.DistrictReplies.{yes-put, number-put}
@@ -34,8 +31,11 @@ returns c =
     let k = w .before .before .before .before in
     yes-put (k .before .before .before .args .verdict) (k .verdict .given .1) (w .put-line .ensures)
 
-number-of-requires : tie.Need-number-of-requires
-number-of-requires c κs = search needs
+enum-known-verdict-2 : tie.Need-enum-known-verdict-2
+enum-known-verdict-2 c = search needs
+
+number-requires : tie.Need-number-requires
+number-requires c κs = search needs
 
 cast-write-refused : tie.Need-cast-write-refused
 cast-write-refused c = search needs
@@ -50,9 +50,8 @@ returns-2 : tie.Need-returns-2
 returns-2 c =
     let w = c .before .before in
     let n = w .before .before in
-    let k = n .before in
-    let s = k .before .before in
-    number-put (s .args .verdict) (refused-number (s .args .verdict) (k .match .keys2) ∙ ap rules.number (sym (n .number-of .ensures))) (w .write-refused .ensures)
+    let k = n .before .before in
+    number-put (k .before .before .before .args .verdict) (k .verdict2 .given .1) (rw (n .number .ensures) at (w .write-refused .ensures))
 
 pub write-verdict-spec : {M : Type 1} → statement M
 write-verdict-spec =
@@ -63,7 +62,8 @@ write-verdict-spec =
     put-line-requires
     same-length
     returns
-    number-of-requires
+    enum-known-verdict-2
+    number-requires
     cast-write-refused
     write-refused-requires
     same-length-2

@@ -1,14 +1,14 @@
--- `filed::check::check_cover` meets its contract: the graph's bytes, the crews, then the cover's bytes decide. Assumes nothing.
+-- `filed::check::check_cover` meets its contract: what every question brings decides, then the cover's bytes. Assumes nothing.
 use mathlib.Core.Path.{_≡_, sym, ap, _∙_}
+use mathlib.Core.Option.{none}
 use native.Mathlib.Omega.{arith}
-use borrow.Author.Tests.{not-true, not-false}
-use Rattle.graph_check.specs.Check as sheet
-use Rattle.graph_check.proofs.Exactly.{yes-graph}
+use Rattle.rules.specs.Questions.{Question, questionFault}
 use Rattle.rules.proofs.Fields.{Bytes}
-use Rattle.rules.specs.Questions.{crewFault}
+use Rattle.rules.proofs.Admitted.{admitted}
+use Rattle.admit.specs.Crews.{asks}
+use Rattle.admit.specs.Refusals.{faultIn}
 use Rattle.filed.specs.declared.check.Verdict.the-variants as verdict
-use Rattle.cover.specs.Crews.{crewsOf}
-use Rattle.filed.proofs.CheckSteps.{sheet-refused, crews-refused, cover-decides, promised}
+use Rattle.filed.proofs.CheckSteps.{question-refused, cover-decides, promised}
 use borrow.Author.Needs.{needs}
 use Rattle.filed.proofs.check.check_cover.Statement.{statement}
 use Rattle.filed.proofs.check.check_cover.Tie as tie
@@ -18,76 +18,41 @@ module _ (t : tie.After-shared-slice-known2) where
   cover-bytes : Bytes (t .before .before .args .c .now)
   cover-bytes i h = omega (arith, t .shared-slice-known2 .given i)
 
--- The graph's bytes were checked.
-abbrev start : tie.After-check-graph → tie.Start
+-- The question was tested.
+abbrev start : tie.After-admit → tie.Start
 start t = t .before .before .before
 
--- They passed, with these counts.
-module _ (t : tie.After-n) where
-  abbrev checked : tie.After-check-graph
-  checked = t .before .before
+abbrev asked : tie.After-admit → Question
+asked t = let a = start t .args in asks (a .kind) (a .k) (a .b .now)
 
-  abbrev s : tie.Start
-  s = start checked
+-- Nothing of it is refused.
+quiet : (e : tie.After-enum-told) → none ≡ questionFault (asked (e .before .before))
+quiet e = sym (ap faultIn (e .enum-told .given .1)) ∙ e .before .before .admit .ensures
 
-  sheet-passed : sheet.checkOf (s .args .b .now) ≡ sheet.says (checked .check-graph .result)
-  sheet-passed = sym (checked .check-graph .ensures)
-
-check-graph-requires : tie.Need-check-graph-requires
-check-graph-requires c κs = search needs
+admit-requires : tie.Need-admit-requires
+admit-requires c κs = search needs
 
 enum-known-f : tie.Need-enum-known-f
 enum-known-f c = search needs
 
-enum-known-n : tie.Need-enum-known-n
-enum-known-n c = search needs
+enum-told : tie.Need-enum-told
+enum-told c = search needs
 
-crews-right-requires : tie.Need-crews-right-requires
-crews-right-requires c κs = search needs
+check-filed-requires : tie.Need-check-filed-requires
+check-filed-requires c κs = let t = c .before .before in admitted (asked t) (sym (quiet c)) .valid
 
 returns : tie.Need-returns
 returns c =
-    let r = c .before .crews-right in
     let t = c .before .before .before in
-    let q = sheet-passed t ∙ ap sheet.says (t .n .given .1) in
-    let g = s t .args in
-    promised (g .kind) (g .k) (g .b .now) (g .c .now) verdict.Crews (cover-bytes (checked t .before))
-    (crews-refused (g .b .now) (crewsOf (g .kind) (g .k)) (g .c .now) q
-    (ap (crewFault (crewsOf (g .kind) (g .k))) (sym (yes-graph (g .b .now) q .vertices-are)) ∙ r .ensures .wrong (not-true (r .result) (c .if1 .taken))))
-
-check-filed-requires : tie.Need-check-filed-requires
-check-filed-requires c κs =
-    let t = c .before .before .before in
-    yes-graph (s t .args .b .now) (sheet-passed t ∙ ap sheet.says (t .n .given .1)) .graph .valid
+    let f = c .before .f .given in
+    promised (asked t) (start t .args .c .now) (verdict.Refused (f .0 .0)) (cover-bytes (t .before))
+    (question-refused (asked t) (start t .args .c .now) (sym (ap faultIn (f .1)) ∙ t .admit .ensures))
 
 returns-2 : tie.Need-returns-2
 returns-2 c =
-    let f = c .before .f .given in
-    let r = c .before .before .before in
-    let g = start r .args in
-    promised (g .kind) (g .k) (g .b .now) (g .c .now) (verdict.Sheet (f .0 .0)) (cover-bytes (r .before))
-    (sheet-refused (g .b .now) (crewsOf (g .kind) (g .k)) (g .c .now) (sym (r .check-graph .ensures) ∙ ap sheet.says (f .1)))
-
-returns-3 : tie.Need-returns-3
-returns-3 c =
-    let r = c .before .before .crews-right in
-    let t = c .before .before .before .before in
-    let q = sheet-passed t ∙ ap sheet.says (t .n .given .1) in
-    let g = s t .args in
-    promised (g .kind) (g .k) (g .b .now) (g .c .now) (c .check-filed .result) (cover-bytes (checked t .before))
-    (cover-decides (g .b .now) (crewsOf (g .kind) (g .k)) (g .c .now) q
-    (ap (crewFault (crewsOf (g .kind) (g .k))) (sym (yes-graph (g .b .now) q .vertices-are)) ∙ r .ensures .right (not-false (r .result) (c .before .if1 .left)))
-    (c .check-filed .ensures))
+    let t = c .before .before .before in
+    promised (asked t) (start t .args .c .now) (c .check-filed .result) (cover-bytes (t .before))
+    (cover-decides (asked t) (start t .args .c .now) (quiet (c .before)) (c .check-filed .ensures))
 
 pub check-cover-spec : {M : Type 1} → statement M
-check-cover-spec =
-    tie.close
-    (tie.spec
-    check-graph-requires
-    enum-known-f
-    enum-known-n
-    crews-right-requires
-    returns
-    check-filed-requires
-    returns-2
-    returns-3)
+check-cover-spec = tie.close (tie.spec admit-requires enum-known-f enum-told check-filed-requires returns returns-2)

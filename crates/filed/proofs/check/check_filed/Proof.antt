@@ -7,7 +7,7 @@ use Rattle.graph.specs.Graph.{Graph, edgeCount}
 use Rattle.graph.specs.Bytes.{graphOf}
 use Rattle.rules.specs.Cover.{Crews}
 use Rattle.rules.specs.CheckCover.{startsRight, startsBelow, entriesRight}
-use Rattle.cover.specs.Crews.{crewsOf}
+use Rattle.admit.specs.Crews.{crewsOf}
 use Rattle.filed.proofs.CheckSteps.{short-cover, other-length, other-starts, starts-above, entries-wrong, entries-pass}
 use borrow.Author.Needs.{needs}
 use Rattle.filed.proofs.check.check_filed.Statement.{statement}

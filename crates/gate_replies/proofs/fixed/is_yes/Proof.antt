@@ -2,7 +2,6 @@
 -- Assumes nothing.
 use mathlib.Core.Path.{sym, ap}
 use Rattle.filed.specs.Promise.{says}
-use Rattle.filed.proofs.VerdictNumbers.{refused-number}
 use Rattle.gate_replies.specs.Fixed.{isYes}
 use borrow.Author.Needs.{needs}
 use Rattle.gate_replies.proofs.fixed.is_yes.Statement.{statement}
@@ -14,8 +13,11 @@ enum-known-verdict c = search needs
 returns : tie.Need-returns
 returns c = let v = c .before in let s = v .before .before in sym (ap (λ x. isYes (says x) (s .args .heaviest)) (v .verdict .given .1))
 
+enum-told : tie.Need-enum-told
+enum-told c = search needs
+
 returns-2 : tie.Need-returns-2
-returns-2 c = let s = c .before in sym (ap (λ v. isYes v (s .args .heaviest)) (refused-number (s .args .verdict) (c .match .keys2)))
+returns-2 c = let s = c .before .before in sym (ap (λ x. isYes (says x) (s .args .heaviest)) (c .enum-told .given .1))
 
 pub is-yes-spec : {M : Type 1} → statement M
-is-yes-spec = tie.close (tie.spec enum-known-verdict returns returns-2)
+is-yes-spec = tie.close (tie.spec enum-known-verdict enum-told returns returns-2)

@@ -30,8 +30,8 @@ returns c =
     let k = n .before .before in
     said-put (k .reply .given .1) (rw (n .number .ensures) at (w .put-head .ensures))
 
-enum-told : tie.Need-enum-told
-enum-told c = search needs
+enum-known-reply-2 : tie.Need-enum-known-reply-2
+enum-known-reply-2 c = search needs
 
 slice-aggregate-put-head-2 : tie.Need-slice-aggregate-put-head-2
 slice-aggregate-put-head-2 c = search needs
@@ -43,10 +43,13 @@ same-length-2 : tie.Need-same-length-2
 same-length-2 c = search needs
 
 returns-2 : tie.Need-returns-2
-returns-2 c = let w = c .before .before in let k = w .before .before .before in said-put (k .enum-told .given .1) (w .put-head2 .ensures)
+returns-2 c =
+    let w = c .before .before in
+    let k = w .before .before .before .before in
+    said-put (k .reply2 .given .1) (w .put-head2 .ensures)
 
-enum-told-2 : tie.Need-enum-told-2
-enum-told-2 c = search needs
+enum-known-reply-3 : tie.Need-enum-known-reply-3
+enum-known-reply-3 c = search needs
 
 slice-aggregate-put-head-3 : tie.Need-slice-aggregate-put-head-3
 slice-aggregate-put-head-3 c = search needs
@@ -58,10 +61,13 @@ same-length-3 : tie.Need-same-length-3
 same-length-3 c = search needs
 
 returns-3 : tie.Need-returns-3
-returns-3 c = let w = c .before .before in let k = w .before .before .before in said-put (k .enum-told2 .given .1) (w .put-head3 .ensures)
+returns-3 c =
+    let w = c .before .before in
+    let k = w .before .before .before .before in
+    said-put (k .reply3 .given .1) (w .put-head3 .ensures)
 
-enum-told-3 : tie.Need-enum-told-3
-enum-told-3 c = search needs
+enum-known-reply-4 : tie.Need-enum-known-reply-4
+enum-known-reply-4 c = search needs
 
 slice-aggregate-put-head-4 : tie.Need-slice-aggregate-put-head-4
 slice-aggregate-put-head-4 c = search needs
@@ -73,10 +79,13 @@ same-length-4 : tie.Need-same-length-4
 same-length-4 c = search needs
 
 returns-4 : tie.Need-returns-4
-returns-4 c = let w = c .before .before in let k = w .before .before .before in said-put (k .enum-told3 .given .1) (w .put-head4 .ensures)
+returns-4 c =
+    let w = c .before .before in
+    let k = w .before .before .before .before in
+    said-put (k .reply4 .given .1) (w .put-head4 .ensures)
 
-enum-known-reply-2 : tie.Need-enum-known-reply-2
-enum-known-reply-2 c = search needs
+enum-known-reply-5 : tie.Need-enum-known-reply-5
+enum-known-reply-5 c = search needs
 
 slice-aggregate-put-head-5 : tie.Need-slice-aggregate-put-head-5
 slice-aggregate-put-head-5 c = search needs
@@ -91,10 +100,10 @@ returns-5 : tie.Need-returns-5
 returns-5 c =
     let w = c .before .before in
     let k = w .before .before .before .before in
-    said-put (k .reply2 .given .1) (w .put-head5 .ensures)
+    said-put (k .reply5 .given .1) (w .put-head5 .ensures)
 
-enum-known-reply-3 : tie.Need-enum-known-reply-3
-enum-known-reply-3 c = search needs
+enum-told : tie.Need-enum-told
+enum-told c = search needs
 
 slice-aggregate-put-head-6 : tie.Need-slice-aggregate-put-head-6
 slice-aggregate-put-head-6 c = search needs
@@ -106,61 +115,7 @@ same-length-6 : tie.Need-same-length-6
 same-length-6 c = search needs
 
 returns-6 : tie.Need-returns-6
-returns-6 c =
-    let w = c .before .before in
-    let k = w .before .before .before .before in
-    said-put (k .reply3 .given .1) (w .put-head6 .ensures)
-
-enum-known-reply-4 : tie.Need-enum-known-reply-4
-enum-known-reply-4 c = search needs
-
-slice-aggregate-put-head-7 : tie.Need-slice-aggregate-put-head-7
-slice-aggregate-put-head-7 c = search needs
-
-put-head-requires-7 : tie.Need-put-head-requires-7
-put-head-requires-7 c κs = search needs
-
-same-length-7 : tie.Need-same-length-7
-same-length-7 c = search needs
-
-returns-7 : tie.Need-returns-7
-returns-7 c =
-    let w = c .before .before in
-    let k = w .before .before .before .before in
-    said-put (k .reply4 .given .1) (w .put-head7 .ensures)
-
-enum-known-reply-5 : tie.Need-enum-known-reply-5
-enum-known-reply-5 c = search needs
-
-slice-aggregate-put-head-8 : tie.Need-slice-aggregate-put-head-8
-slice-aggregate-put-head-8 c = search needs
-
-put-head-requires-8 : tie.Need-put-head-requires-8
-put-head-requires-8 c κs = search needs
-
-same-length-8 : tie.Need-same-length-8
-same-length-8 c = search needs
-
-returns-8 : tie.Need-returns-8
-returns-8 c =
-    let w = c .before .before in
-    let k = w .before .before .before .before in
-    said-put (k .reply5 .given .1) (w .put-head8 .ensures)
-
-enum-told-4 : tie.Need-enum-told-4
-enum-told-4 c = search needs
-
-slice-aggregate-put-head-9 : tie.Need-slice-aggregate-put-head-9
-slice-aggregate-put-head-9 c = search needs
-
-put-head-requires-9 : tie.Need-put-head-requires-9
-put-head-requires-9 c κs = search needs
-
-same-length-9 : tie.Need-same-length-9
-same-length-9 c = search needs
-
-returns-9 : tie.Need-returns-9
-returns-9 c = let w = c .before .before in let k = w .before .before .before in said-put (k .enum-told4 .given .1) (w .put-head9 .ensures)
+returns-6 c = let w = c .before .before in let k = w .before .before .before in said-put (k .enum-told .given .1) (w .put-head6 .ensures)
 
 pub put-said-spec : {M : Type 1} → statement M
 put-said-spec =
@@ -173,43 +128,28 @@ put-said-spec =
     put-head-requires
     same-length
     returns
-    enum-told
+    enum-known-reply-2
     slice-aggregate-put-head-2
     put-head-requires-2
     same-length-2
     returns-2
-    enum-told-2
+    enum-known-reply-3
     slice-aggregate-put-head-3
     put-head-requires-3
     same-length-3
     returns-3
-    enum-told-3
+    enum-known-reply-4
     slice-aggregate-put-head-4
     put-head-requires-4
     same-length-4
     returns-4
-    enum-known-reply-2
+    enum-known-reply-5
     slice-aggregate-put-head-5
     put-head-requires-5
     same-length-5
     returns-5
-    enum-known-reply-3
+    enum-told
     slice-aggregate-put-head-6
     put-head-requires-6
     same-length-6
-    returns-6
-    enum-known-reply-4
-    slice-aggregate-put-head-7
-    put-head-requires-7
-    same-length-7
-    returns-7
-    enum-known-reply-5
-    slice-aggregate-put-head-8
-    put-head-requires-8
-    same-length-8
-    returns-8
-    enum-told-4
-    slice-aggregate-put-head-9
-    put-head-requires-9
-    same-length-9
-    returns-9)
+    returns-6)

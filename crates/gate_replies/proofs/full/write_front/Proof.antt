@@ -6,7 +6,7 @@ use native.Mathlib.Omega.{arith}
 use lib.ListN.{length, length-append}
 use Rattle.lists.specs.Put.{PutTo}
 use Rattle.lists.proofs.Put.{put-behind}
-use Rattle.pieces.specs.Replies.{says}
+use Rattle.replies.specs.Replies.{says}
 use Rattle.gate_replies.specs.Fields.{field}
 use Rattle.gate_replies.specs.Full.{headOf, bit, fullOf}
 use Rattle.gate_replies.proofs.FieldLaws.{field-length}

@@ -7,8 +7,8 @@ use native.Mathlib.Omega.{arith}
 use lib.ListN.{length, take, drop, length-take, length-drop}
 use lib.Seq.{length-take-le, take-all}
 use Rattle.lists.specs.Put.{PutTo}
-use Rattle.pieces.specs.declared.reply.Reply.{Reply}
-use Rattle.pieces.specs.Replies.{says}
+use Rattle.replies.specs.declared.Reply.{Reply}
+use Rattle.replies.specs.Replies.{says}
 use Rattle.gate_replies.specs.Full.{frontLength, fullOf, fullReply}
 use Rattle.gate_replies.proofs.FullReplies.{front-within}
 use borrow.Author.Needs.{needs}

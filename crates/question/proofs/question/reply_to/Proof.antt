@@ -1,6 +1,7 @@
 -- `question::question::reply_to` meets its contract: each question is the planner's.
 -- Assumes nothing.
-use Rattle.question.proofs.SheetAnswers.{first-answered, second-answered, third-answered, last-answered}
+use Rattle.rules.specs.Questions.{kindIn, isTrial}
+use Rattle.question.proofs.KnownAnswers.{trial-answered, best-answered, last-kind, last-best}
 use borrow.Author.Needs.{needs}
 use Rattle.question.proofs.question.reply_to.Statement.{statement}
 use Rattle.question.proofs.question.reply_to.Tie as tie
@@ -12,9 +13,10 @@ same-length : tie.Need-same-length
 same-length c = search needs
 
 returns : tie.Need-returns
+unfolding kindIn isTrial
 returns c =
     let t = c .before .before in
-    rw (t .before .before .if1 .taken) (first-answered (t .trial .ensures))
+    rw (t .before .before .if1 .taken) (trial-answered (t .trial .ensures))
 
 trial-requires-2 : tie.Need-trial-requires-2
 trial-requires-2 c κs = search needs
@@ -23,9 +25,10 @@ same-length-2 : tie.Need-same-length-2
 same-length-2 c = search needs
 
 returns-2 : tie.Need-returns-2
+unfolding kindIn isTrial
 returns-2 c =
     let t = c .before .before in
-    rw (t .before .before .if2 .taken) (second-answered (t .trial2 .ensures))
+    rw (t .before .before .if2 .taken) (trial-answered (t .trial2 .ensures))
 
 best-requires : tie.Need-best-requires
 best-requires c κs = search needs
@@ -34,9 +37,10 @@ same-length-3 : tie.Need-same-length-3
 same-length-3 c = search needs
 
 returns-3 : tie.Need-returns-3
+unfolding kindIn isTrial
 returns-3 c =
     let t = c .before .before in
-    rw (t .before .before .if3 .taken) (third-answered (t .best .ensures))
+    rw (t .before .before .if3 .taken) (best-answered (t .best .ensures))
 
 best-requires-2 : tie.Need-best-requires-2
 best-requires-2 c κs = search needs
@@ -49,7 +53,10 @@ returns-4 c =
     let t = c .before .before in
     let n = t .before .before in
     let asked = (n .before .before .before .before .before) .args .asked in
-    last-answered asked (n .before .before .if1 .left) (n .before .if2 .left) (n .if3 .left) (t .best2 .ensures)
+    let x = n .before .before .if1 .left in
+    let y = n .before .if2 .left in
+    let z = n .if3 .left in
+    rw (last-kind asked x y z, last-best asked x y z) (best-answered (t .best2 .ensures))
 
 pub reply-to-spec : {M : Type 1} → statement M
 reply-to-spec =

@@ -4,8 +4,7 @@ use mathlib.Core.Path.{refl}
 use Rattle.lists.specs.Lists.{flat}
 use Rattle.graph.specs.Bytes.{graphOf}
 use Rattle.reply_text.specs.Lines.{allSpaced, ended, line}
-use Rattle.reply_text.specs.Text.{textOf}
-use Rattle.reply_text.proofs.SaidText.{textSaid, reply-written, fault-refused}
+use Rattle.reply_text.proofs.SaidText.{textSaid, reply-written, cause-refused}
 use Rattle.reply_text.proofs.CoverSaid.{cover-inside, cover-asked, cover-written}
 use borrow.Author.Needs.{needs}
 use Rattle.reply_text.proofs.reply.write_reply.Statement.{statement}
@@ -36,59 +35,8 @@ returns c =
     let n = w .before .before in
     let k = n .before .before in
     let g = graphOf (start (k .before .before) .args .b .now) in
-    reply-written g (k .reply .given .1) (λ trees. fault-refused g trees (k .reply .given .0 .0))
+    reply-written g (k .reply .given .1) (λ trees. cause-refused g trees (k .reply .given .0 .0))
     (rw (n .number .ensures) at (w .write-refused .ensures .text g))
-
-enum-told : tie.Need-enum-told
-enum-told c = search needs
-
-write-refused-requires-2 : tie.Need-write-refused-requires-2
-write-refused-requires-2 c κs = search needs
-
-same-length-2 : tie.Need-same-length-2
-same-length-2 c = search needs
-
-returns-2 : tie.Need-returns-2
-unfolding textSaid textOf
-returns-2 c =
-    let w = c .before .before in
-    let k = w .before .before in
-    let g = graphOf (start (k .before .before) .args .b .now) in
-    reply-written g (k .enum-told .given .1) (λ trees. refl) (w .write-refused2 .ensures .text g)
-
-enum-told-2 : tie.Need-enum-told-2
-enum-told-2 c = search needs
-
-write-refused-requires-3 : tie.Need-write-refused-requires-3
-write-refused-requires-3 c κs = search needs
-
-same-length-3 : tie.Need-same-length-3
-same-length-3 c = search needs
-
-returns-3 : tie.Need-returns-3
-unfolding textSaid textOf
-returns-3 c =
-    let w = c .before .before in
-    let k = w .before .before in
-    let g = graphOf (start (k .before .before) .args .b .now) in
-    reply-written g (k .enum-told2 .given .1) (λ trees. refl) (w .write-refused3 .ensures .text g)
-
-enum-told-3 : tie.Need-enum-told-3
-enum-told-3 c = search needs
-
-write-refused-requires-4 : tie.Need-write-refused-requires-4
-write-refused-requires-4 c κs = search needs
-
-same-length-4 : tie.Need-same-length-4
-same-length-4 c = search needs
-
-returns-4 : tie.Need-returns-4
-unfolding textSaid textOf
-returns-4 c =
-    let w = c .before .before in
-    let k = w .before .before in
-    let g = graphOf (start (k .before .before) .args .b .now) in
-    reply-written g (k .enum-told3 .given .1) (λ trees. refl) (w .write-refused4 .ensures .text g)
 
 enum-known-reply-2 : tie.Need-enum-known-reply-2
 enum-known-reply-2 c = search needs
@@ -108,11 +56,11 @@ write-cover-requires c κs =
     let k = e .before .before in
     cover-asked (k .reply2 .given .1) (e .cover-length .ensures .is) (start (k .before .before) .pre)
 
-same-length-5 : tie.Need-same-length-5
-same-length-5 c = search needs
+same-length-2 : tie.Need-same-length-2
+same-length-2 c = search needs
 
-returns-5 : tie.Need-returns-5
-returns-5 c =
+returns-2 : tie.Need-returns-2
+returns-2 c =
     let w = c .before .before in
     let e = w .before .before .before in
     let k = e .before .before in
@@ -127,12 +75,12 @@ slice-aggregate-write-line c = search needs
 write-line-requires : tie.Need-write-line-requires
 write-line-requires c κs = search needs
 
-same-length-6 : tie.Need-same-length-6
-same-length-6 c = search needs
+same-length-3 : tie.Need-same-length-3
+same-length-3 c = search needs
 
-returns-6 : tie.Need-returns-6
+returns-3 : tie.Need-returns-3
 unfolding textSaid line
-returns-6 c =
+returns-3 c =
     let w = c .before .before in
     let k = w .before .before .before .before in
     reply-written (graphOf (start (k .before .before) .args .b .now)) (k .reply3 .given .1) (λ trees. refl) (w .write-line .ensures)
@@ -143,12 +91,12 @@ enum-known-reply-4 c = search needs
 write-parts-requires : tie.Need-write-parts-requires
 write-parts-requires c κs = search needs
 
-same-length-7 : tie.Need-same-length-7
-same-length-7 c = search needs
+same-length-4 : tie.Need-same-length-4
+same-length-4 c = search needs
 
-returns-7 : tie.Need-returns-7
+returns-4 : tie.Need-returns-4
 unfolding textSaid
-returns-7 c =
+returns-4 c =
     let w = c .before .before in
     let k = w .before .before .before in
     reply-written (graphOf (start (k .before .before) .args .b .now)) (k .reply4 .given .1) (λ trees. refl) (w .write-parts .ensures)
@@ -162,18 +110,18 @@ slice-aggregate-write-line-2 c = search needs
 write-line-requires-2 : tie.Need-write-line-requires-2
 write-line-requires-2 c κs = search needs
 
-same-length-8 : tie.Need-same-length-8
-same-length-8 c = search needs
+same-length-5 : tie.Need-same-length-5
+same-length-5 c = search needs
 
-returns-8 : tie.Need-returns-8
+returns-5 : tie.Need-returns-5
 unfolding textSaid line
-returns-8 c =
+returns-5 c =
     let w = c .before .before in
     let k = w .before .before .before .before in
     reply-written (graphOf (start (k .before .before) .args .b .now)) (k .reply5 .given .1) (λ trees. refl) (w .write-line2 .ensures)
 
-enum-told-4 : tie.Need-enum-told-4
-enum-told-4 c = search needs
+enum-told : tie.Need-enum-told
+enum-told c = search needs
 
 slice-aggregate-put-word : tie.Need-slice-aggregate-put-word
 slice-aggregate-put-word c = search needs
@@ -181,15 +129,15 @@ slice-aggregate-put-word c = search needs
 put-word-requires : tie.Need-put-word-requires
 put-word-requires c κs = search needs
 
-same-length-9 : tie.Need-same-length-9
-same-length-9 c = search needs
+same-length-6 : tie.Need-same-length-6
+same-length-6 c = search needs
 
-returns-9 : tie.Need-returns-9
+returns-6 : tie.Need-returns-6
 unfolding textSaid line ended allSpaced flat
-returns-9 c =
+returns-6 c =
     let w = c .before .before in
     let k = w .before .before .before in
-    reply-written (graphOf (start (k .before .before) .args .b .now)) (k .enum-told4 .given .1) (λ trees. refl) (w .put-word .ensures)
+    reply-written (graphOf (start (k .before .before) .args .b .now)) (k .enum-told .given .1) (λ trees. refl) (w .put-word .ensures)
 
 pub write-reply-spec : {M : Type 1} → statement M
 write-reply-spec =
@@ -201,40 +149,28 @@ write-reply-spec =
     write-refused-requires
     same-length
     returns
-    enum-told
-    write-refused-requires-2
-    same-length-2
-    returns-2
-    enum-told-2
-    write-refused-requires-3
-    same-length-3
-    returns-3
-    enum-told-3
-    write-refused-requires-4
-    same-length-4
-    returns-4
     enum-known-reply-2
     cover-length-requires
     slice-aggregate-write-cover
     write-cover-requires
-    same-length-5
-    returns-5
+    same-length-2
+    returns-2
     enum-known-reply-3
     slice-aggregate-write-line
     write-line-requires
-    same-length-6
-    returns-6
+    same-length-3
+    returns-3
     enum-known-reply-4
     write-parts-requires
-    same-length-7
-    returns-7
+    same-length-4
+    returns-4
     enum-known-reply-5
     slice-aggregate-write-line-2
     write-line-requires-2
-    same-length-8
-    returns-8
-    enum-told-4
+    same-length-5
+    returns-5
+    enum-told
     slice-aggregate-put-word
     put-word-requires
-    same-length-9
-    returns-9)
+    same-length-6
+    returns-6)

@@ -1,9 +1,9 @@
--- `cover::crews::crews_right` meets its contract. Assumes nothing.
+-- `admit::crews::crews_right` meets its contract. Assumes nothing.
 use native.Mathlib.Omega.{arith}
-use Rattle.cover.proofs.CrewTests.{no-crews, many-crews, rooted-crews, unrooted-crews}
+use Rattle.admit.proofs.CrewTests.{no-crews, many-crews, rooted-crews, unrooted-crews}
 use borrow.Author.Needs.{needs}
-use Rattle.cover.proofs.crews.crews_right.Statement.{statement}
-use Rattle.cover.proofs.crews.crews_right.Tie as tie
+use Rattle.admit.proofs.crews.crews_right.Statement.{statement}
+use Rattle.admit.proofs.crews.crews_right.Tie as tie
 
 returns : tie.Need-returns
 returns c = let s = c .before .args in no-crews (s .kind) (s .k) (s .n) (omega arith)

@@ -10,9 +10,9 @@ use borrow.Author.Tests.{lt-ltb, le-ltb, leb-true, leb-false}
 use Rattle.lists.proofs.Runs.{length-below}
 use Rattle.graph.specs.Fault.{faultIf}
 use Rattle.rules.specs.Questions.{crewCount, tooManyRoots, crewFault}
-use Rattle.cover.specs.declared.crews.Kind.{Kind}
-use Rattle.cover.specs.declared.crews.Kind.the-variants.{Rooted, Unrooted}
-use Rattle.cover.specs.Crews.{crewsOf, CrewsTested}
+use Rattle.admit.specs.declared.crews.Kind.{Kind}
+use Rattle.admit.specs.declared.crews.Kind.the-variants.{Rooted, Unrooted}
+use Rattle.admit.specs.Crews.{crewsOf, CrewsTested}
 
 -- There are as many crews as k says.
 crew-count : (kind : Kind) (k : ℕ) → crewCount (crewsOf kind k) ≡ k

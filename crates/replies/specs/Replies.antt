@@ -5,17 +5,17 @@ use mathlib.Core.Path.{_≡_}
 use mathlib.Core.List.{List, [], _∷_}
 use lib.ListN.{length}
 use Rattle.graph.specs.Graph.{Graph}
-use Rattle.graph_check.specs.Check.{numberOf}
 use Rattle.rules.specs.Cover as cover
 use Rattle.rules.specs.Reply as rules
 use Rattle.rules.specs.RootedTrial.{Choices}
 use Rattle.rules.specs.Search.{trial}
 use Rattle.rules.specs.Questions.{bufferAfter}
 use Rattle.rules.specs.Fit.{GoodFor}
-use Rattle.pieces.specs.declared.reply.Reply.{Reply}
-use Rattle.pieces.specs.declared.reply.Reply.the-variants.{Sheet, Crews, Limit, Room, Cover, Stop, Parts, Needs, NoCover}
+use Rattle.admit.specs.Refusals.{numberOf}
+use Rattle.replies.specs.declared.Reply.{Reply}
+use Rattle.replies.specs.declared.Reply.the-variants.{Refused, Cover, Stop, Parts, Needs, NoCover}
 
--- The number of a case and its values. A refusal says its own number (11 to 23) and no value; the other cases are numbered from 0:
+-- The number of a case and its values. A refusal says its own number, from 11 on, and no value; the other cases are numbered from 0:
 -- cover limit heaviest t; too low stop v; too low parts T yards D; too low needs C; no cover.
 pub record Said : Type 0 where
   pub number : ℕ
@@ -35,10 +35,7 @@ saidOf rules.no-cover = said 4 []
 
 -- What the program's reply says.
 abbrev pub says : Reply → Said
-says (Sheet f) = said (numberOf f) []
-says Crews = said 21 []
-says Limit = said 22 []
-says Room = said 23 []
+says (Refused f) = said (numberOf f) []
 says (Cover limit heaviest t) = said 0 (limit ∷ heaviest ∷ t ∷ [])
 says (Stop v) = said 1 (v ∷ [])
 says (Parts T D) = said 2 (T ∷ D ∷ [])

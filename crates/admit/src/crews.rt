@@ -1,5 +1,5 @@
-// The crews that a cover is for: with a root each, or without.
-ghost use Rattle.cover.specs.Crews.{crewsOf, CrewsTested};
+// The crews that a question is for: with a root each, or without.
+ghost use Rattle.admit.specs.Crews.{crewsOf, CrewsTested};
 
 // Whether the crews have a root each ("yard"), or none ("roving").
 pub enum Kind {
@@ -8,7 +8,7 @@ pub enum Kind {
 }
 
 // Says whether there are 1 to 32 crews, and no more roots than the n vertices.
-pub fn crews_right(kind: Kind, k: usize, n: usize) -> bool
+pub(crate) fn crews_right(kind: Kind, k: usize, n: usize) -> bool
     ensures { λ r. ⌜ CrewsTested (crewsOf kind k) n r ⌝ }
 {
     if k < 1 {

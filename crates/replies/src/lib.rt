@@ -1,17 +1,12 @@
-// What a trial or a best-limit question is answered, by cause.
+// What a trial or a best-limit question is answered, by cause, with document 01's number and values of each answer.
+use admit::refusal::Refusal;
 ghost use mathlib.Core.Path.{_≡_};
-ghost use Rattle.pieces.specs.Replies.{says};
+ghost use Rattle.replies.specs.Replies.{says};
 
 // The reply. What is written besides, the cover or the parts, stands in the buffer.
 pub enum Reply {
-    // The graph's bytes have a fault.
-    Sheet(graph_check::Cause),
-    // There are no crews, too many, or more roots than vertices.
-    Crews,
-    // The limit is too large.
-    Limit,
-    // The buffer is too small.
-    Room,
+    // The question is refused.
+    Refused(Refusal),
     // Accepted: the limit, the weight of the heaviest tree, and how many trees.
     Cover(u64, u64, usize),
     // Too low: a vertex ("stop") that is joined to no root, the lowest.
@@ -29,10 +24,7 @@ pub fn number_of(reply: Reply) -> u32
     ensures { λ r. ⌜ r ≡ says reply .number ⌝ }
 {
     match reply {
-        Reply::Sheet(f) => graph_check::number(f) as u32,
-        Reply::Crews => 21,
-        Reply::Limit => 22,
-        Reply::Room => 23,
+        Reply::Refused(f) => admit::refusal::number(f),
         Reply::Cover(_, _, _) => 0,
         Reply::Stop(_) => 1,
         Reply::Parts(_, _) => 2,

@@ -1,0 +1,7 @@
+-- Laws that belong to no one function, in reading order.
+-- the test of the crews' number
+pub mod CrewTests
+-- what each test of a question makes of what is refused
+pub mod Tested
+-- the number of every cause is at least 11
+pub mod RefusalNumbers

@@ -1,0 +1,5 @@
+-- What the contracts of `admit` say, in reading order.
+-- the number of each cause
+pub mod Refusals
+-- the question that the code's values ask, and its crews
+pub mod Crews

@@ -1,0 +1,48 @@
+// Every cause of a refusal (document 01, "Who causes which number"), and its number, here alone.
+ghost use mathlib.Core.Path.{_≡_};
+ghost use Rattle.admit.specs.Refusals.{numberOf};
+
+// "B is 0 to 2,048,000,000".
+pub const MOST_LIMIT: u64 = 2048000000;
+
+// The least length of a buffer, in bytes: room for any cover.
+pub const LEAST_ROOM: usize = 32708;
+
+// What can be refused.
+pub enum Refusal {
+    // The graph's bytes have a fault.
+    Sheet(graph_check::Cause),
+    // There are no crews, too many, or more roots than vertices.
+    Crews,
+    // The limit is too large.
+    Limit,
+    // The buffer is too small.
+    Room,
+    // A filed cover: its length is not that of so many trees and entries.
+    Length,
+    // Its number of trees or a start breaks the kind's rule, or a start is no vertex.
+    Starts,
+    // An entry names no tree or no edge, or stands out of order.
+    Entries,
+    // A tree has a loop, or an edge that is not joined to its start.
+    Trees,
+    // A vertex is not covered.
+    Vertices,
+}
+
+// Document 01's number of a cause.
+pub fn number(refusal: Refusal) -> u32
+    ensures { λ r. ⌜ r ≡ numberOf refusal ⌝ }
+{
+    match refusal {
+        Refusal::Sheet(f) => graph_check::number(f) as u32,
+        Refusal::Crews => 21,
+        Refusal::Limit => 22,
+        Refusal::Room => 23,
+        Refusal::Length => 31,
+        Refusal::Starts => 32,
+        Refusal::Entries => 33,
+        Refusal::Trees => 34,
+        Refusal::Vertices => 35,
+    }
+}
