@@ -15,7 +15,7 @@ use Rattle.lists.proofs.OnlyFirst.{only-first-none, only-first-store, only-firs
 use Rattle.lists.proofs.Put.{only-first-length}
 use Rattle.lists.proofs.TakeDrop.{take-stored, drop-more}
 use Rattle.lists.proofs.Zeros.{zeros-at}
-use Rattle.edges.specs.Around.{arcEdge, arcHead, arcWeight}
+use Rattle.steps.specs.Steps.{stepChild, stepAbove, stepWeight}
 use Rattle.steps.specs.Touched.{Sweep, touchesPiece, sweepStep, sweep, partsTouched}
 use Rattle.near.specs.Bits.{bitAt}
 use Rattle.near.specs.Parts.{NearPartsAsked, NearParts}
@@ -42,9 +42,9 @@ pub record Marking (H : ℕ) (steps near before parts left beside : List ℕ) (r
 
 -- A step looked at: its two vertices, the weight of the child's piece, and the roots near that.
 pub record AtStep (near left beside : List ℕ) (step child above piece own : ℕ) : Type 0 where
-  pub child-is : child ≡ arcEdge step
-  pub above-is : above ≡ arcHead step
-  pub piece-is : piece ≡ arcWeight step + getD left child 0
+  pub child-is : child ≡ stepChild step
+  pub above-is : above ≡ stepAbove step
+  pub piece-is : piece ≡ stepWeight step + getD left child 0
   pub own-is : own ≡ bitOr (getD beside child 0) (bitOr (getD near child 0) (getD near above 0))
 
 pub marking-first : {H : ℕ} (steps near before : List ℕ) → 0 < H → Marking H steps near before before (replicate 256 0) (replicate 256 0) 0 0
@@ -85,7 +85,7 @@ module _ {H : ℕ} {steps near before parts left beside : List ℕ} {r i : ℕ}
     abbrev next : ℕ → Sweep
     next j = sweepStep H (nearTo j near) step (state j)
 
-    piece-bits : piece ≡ arcWeight step + getD left (arcEdge step) 0
+    piece-bits : piece ≡ stepWeight step + getD left (stepChild step) 0
     piece-bits = cc (a .piece-is, a .child-is)
 
     own-bits : (j : ℕ) → bitAt j own ≡ touchesPiece (nearTo j near) step (state j)

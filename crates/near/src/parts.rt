@@ -1,7 +1,7 @@
 // The roots near each part, in one pass over the steps of the trees.
-use edges::arc::arc_edge;
-use edges::arc::arc_head;
-use edges::arc::arc_weight;
+use steps::step::step_above;
+use steps::step::step_child;
+use steps::step::step_weight;
 ghost use Rattle.near.specs.Parts.{NearPartsAsked, NearParts};
 
 // Splits the trees with threshold h, above 0, and writes for each part the roots that are near one of its vertices, by those near each vertex. Says how
@@ -16,9 +16,9 @@ pub fn near_parts(walk: &[u64], h: u64, near: &[u32], parts: &mut [u32]) -> usiz
     let mut i = 0;
     while i < walk.len() {
         let step = walk[i];
-        let child = arc_edge(step) as usize;
-        let above = arc_head(step);
-        let piece = arc_weight(step) + left[child];
+        let child = step_child(step);
+        let above = step_above(step);
+        let piece = step_weight(step) + left[child];
         let own = beside[child] | (near[child] | near[above]);
         i += 1;
         if h <= piece {

@@ -12,8 +12,7 @@ use lib.Seq.{drop-cons, drop-length}
 use Rattle.lists.proofs.AfterStore.{after-store}
 use Rattle.lists.proofs.Zeros.{zeros-at}
 use Rattle.rules.specs.Split.{reachesWeight}
-use Rattle.edges.specs.Around.{arcEdge, arcHead, arcWeight}
-use Rattle.steps.specs.Steps.{Tally, tallyStep, tally, partsCounted}
+use Rattle.steps.specs.Steps.{stepChild, stepAbove, stepWeight, Tally, tallyStep, tally, partsCounted}
 
 -- With threshold 0 nothing is split.
 pub none-split : (steps : List ℕ) (t : Tally) → tally 0 steps t .parts ≡ t .parts
@@ -53,7 +52,7 @@ module _ {steps : List ℕ} {H : ℕ} {left : List ℕ} {parts i : ℕ} (c : Cou
       let nothing : drop i steps ≡ [] = ap (λ k. drop k steps) q ∙ drop-length steps in
       rw nothing at (c .rest)
 
-  module _ (more : i < length steps) (H-some : 0 < H) {piece : ℕ} (piece-is : piece ≡ arcWeight (getD steps i 0) + getD left (arcEdge (getD steps i 0)) 0) where
+  module _ (more : i < length steps) (H-some : 0 < H) {piece : ℕ} (piece-is : piece ≡ stepWeight (getD steps i 0) + getD left (stepChild (getD steps i 0)) 0) where
     abbrev step : ℕ
     step = getD steps i 0
 
@@ -85,7 +84,7 @@ module _ {steps : List ℕ} {H : ℕ} {left : List ℕ} {parts i : ℕ} (c : Cou
           rest = onward (record { left = left; parts = parts + 1 }) (rw (sym piece-is, reached piece h));
         }
 
-    module _ {above bunch : ℕ} (above-is : above ≡ arcHead step) (inside : above < 256) (bunch-is : bunch ≡ getD left above 0 + piece) (light : piece < H) where
+    module _ {above bunch : ℕ} (above-is : above ≡ stepAbove step) (inside : above < 256) (bunch-is : bunch ≡ getD left above 0 + piece) (light : piece < H) where
       kept-light : {w : ℕ} → w < H → (u : ℕ) → getD (set left above w) u 0 < H
       kept-light {w} h u = after-store (λ _ x. x < H) left above w u (omega (arith, c .size)) h (λ _. c .light u)
 

@@ -16,21 +16,21 @@ use Rattle.rules.specs.Split.{reachesWeight, partAt}
 use Rattle.edges.specs.Around.{arcEdge, arcHead, arcWeight}
 use Rattle.bunches.specs.Settles.{Load, load, Settles, alone, full, joins}
 use Rattle.split.specs.SplitBelow.{pieceOf}
-use Rattle.steps.specs.Steps.{stepOf}
+use Rattle.steps.specs.Steps.{stepOf, stepChild, stepAbove, stepWeight}
 use Rattle.steps.specs.Touched.{Sweep, touchesPiece, sweepStep}
 use Rattle.steps.proofs.PartTouched.{or-swap, edgeTouched, partTouched, part-by-edges}
 
 -- A step holds its child, the vertex above and the weight.
 module _ (c a w : ℕ) (child-fits : c < 65536) (above-fits : a < 65536) where
-  pub step-child : arcEdge (stepOf c a w) ≡ c
+  pub step-child : stepChild (stepOf c a w) ≡ c
   unfolding arcEdge stepOf
   step-child = omega arith
 
-  pub step-above : arcHead (stepOf c a w) ≡ a
+  pub step-above : stepAbove (stepOf c a w) ≡ a
   unfolding arcHead stepOf
   step-above = omega arith
 
-  step-weight : arcWeight (stepOf c a w) ≡ w
+  step-weight : stepWeight (stepOf c a w) ≡ w
   unfolding arcWeight stepOf
   step-weight = omega arith
 
@@ -149,13 +149,13 @@ module _ (g : Graph) (test : ℕ → Bool) (H v : ℕ) (bunch : Load) (arc : ℕ
       abbrev step : ℕ
       step = stepOf (arcHead arc) v (arcWeight arc)
 
-      child-is : arcEdge step ≡ arcHead arc
+      child-is : stepChild step ≡ arcHead arc
       child-is = step-child (arcHead arc) v (arcWeight arc) (omega arith) (omega arith)
 
-      above-is : arcHead step ≡ v
+      above-is : stepAbove step ≡ v
       above-is = step-above (arcHead arc) v (arcWeight arc) (omega arith) (omega arith)
 
-      weight-is : arcWeight step ≡ arcWeight arc
+      weight-is : stepWeight step ≡ arcWeight arc
       weight-is = step-weight (arcHead arc) v (arcWeight arc) (omega arith) (omega arith)
 
       -- the test at the piece, by what is kept at the child

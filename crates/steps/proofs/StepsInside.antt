@@ -8,9 +8,9 @@ use native.Mathlib.Omega.{arith}
 use lib.ListN.{length, getD, length-set}
 use Rattle.lists.specs.Member.{_∈_}
 use Rattle.lists.proofs.Places.{at-place}
-use Rattle.edges.specs.Around.{arcEdge, arcHead, arcWeight}
+use Rattle.edges.specs.Around.{arcHead, arcWeight}
 use Rattle.split.specs.SplitBelow.{passing}
-use Rattle.steps.specs.Steps.{stepOf}
+use Rattle.steps.specs.Steps.{stepOf, stepChild, stepAbove}
 use Rattle.steps.specs.StepsBelow.{StepsBelow, steps-done, steps-past, steps-child, StepsFrom, no-roots, steps-root}
 use Rattle.steps.specs.WalkPut.{StepsInside}
 use Rattle.steps.proofs.StepsMark.{steps-close}
@@ -18,7 +18,7 @@ use Rattle.steps.proofs.StepSwept.{step-child, step-above}
 
 -- Both vertices of a step are below 256, of all of these steps.
 abbrev Small : ℕ → Type 0
-Small step = (arcEdge step < 256) × (arcHead step < 256)
+Small step = (stepChild step < 256) × (stepAbove step < 256)
 
 abbrev AllSmall : List ℕ → Type 0
 AllSmall steps = (step : ℕ) → step ∈ steps → Small step
@@ -28,7 +28,7 @@ small-on {xs} a b step m = ⊎-elim (a step) (b step) (List·Memᴰ·append-case
 
 small-one : (c a w : ℕ) → c < 256 → a < 256 → {ys : List ℕ} → AllSmall ys → AllSmall (stepOf c a w ∷ ys)
 small-one c a w child-small above-small all step (List·Memᴰ·head q) =
-    (omega (arith, ap arcEdge q, step-child c a w (omega arith) (omega arith)), omega (arith, ap arcHead q, step-above c a w (omega arith) (omega arith)))
+    (omega (arith, ap stepChild q, step-child c a w (omega arith) (omega arith)), omega (arith, ap stepAbove q, step-above c a w (omega arith) (omega arith)))
 small-one c a w child-small above-small all step (List·Memᴰ·tail m) = all step m
 
 module _ {bounds arcs : List ℕ} where

@@ -7,8 +7,7 @@ use mathlib.Core.List.{List, [], _∷_, _++_, map}
 use lib.ListN.{length, getD, set, replicate, length-append, length-map}
 use Rattle.rules.specs.Cover.{Tree}
 use Rattle.rules.specs.Split.{reachesWeight}
-use Rattle.edges.specs.Around.{arcEdge, arcHead, arcWeight}
-use Rattle.steps.specs.Steps.{Tally, tallyStep, tally, partsCounted}
+use Rattle.steps.specs.Steps.{stepChild, stepAbove, stepWeight, Tally, tallyStep, tally, partsCounted}
 use Rattle.steps.specs.Touched.{Sweep, touchesPiece, sweepStep, sweep, partsTouched}
 
 -- Of what the pass has, counting keeps the weights of what is left and the number of parts.
@@ -19,8 +18,8 @@ module _ (H : ℕ) (test : ℕ → Bool) where
   step-counted : (step : ℕ) (s : Sweep) → counted (sweepStep H test step s) ≡ tallyStep H step (counted s)
   unfolding sweepStep tallyStep
   step-counted step s =
-      let above : ℕ = arcHead step in
-      let piece : ℕ = arcWeight step + getD (s .left) (arcEdge step) 0 in
+      let above : ℕ = stepAbove step in
+      let piece : ℕ = stepWeight step + getD (s .left) (stepChild step) 0 in
       let bunch : ℕ = getD (s .left) above 0 + piece in
       let own : Bool = touchesPiece test step s in
       by-weights above bunch (reachesWeight H piece) (reachesWeight H bunch) own (getD (s .touched) above false || own)

@@ -9,17 +9,17 @@ use native.Mathlib.Decide.{decLe}
 use native.Mathlib.Omega.{arith}
 use borrow.Author.Tests.{lt-ltb, le-leb, lt-leb}
 use lib.ListN.{length, getD, set, length-append}
-use Rattle.edges.specs.Around.{arcEdge, arcHead, arcWeight}
+use Rattle.steps.specs.Steps.{stepChild, stepAbove, stepWeight}
 use Rattle.steps.specs.Touched.{Sweep, touchesPiece, sweepStep, sweep}
 
 module _ {H : ℕ} (H-some : 0 < H) (test : ℕ → Bool) (step : ℕ) (s : Sweep) {piece : ℕ} {own : Bool}
-    (piece-is : piece ≡ arcWeight step + getD (s .left) (arcEdge step) 0) (own-is : own ≡ touchesPiece test step s) where
+    (piece-is : piece ≡ stepWeight step + getD (s .left) (stepChild step) 0) (own-is : own ≡ touchesPiece test step s) where
   -- The child's piece is a part alone.
   pub sweep-alone : H ≤ piece → sweepStep H test step s ≡ record { left = s .left; touched = s .touched; parts = s .parts ++ (own ∷ []) }
   unfolding sweepStep
   sweep-alone h = rw (sym piece-is, sym own-is, lt-ltb 0 H H-some, le-leb H piece h)
 
-  module _ {above bunch : ℕ} {both : Bool} (above-is : above ≡ arcHead step)
+  module _ {above bunch : ℕ} {both : Bool} (above-is : above ≡ stepAbove step)
       (bunch-is : bunch ≡ getD (s .left) above 0 + piece) (both-is : both ≡ getD (s .touched) above false || own) (light : piece < H) where
     -- The bunch with it is one,
     pub sweep-full : H ≤ bunch
@@ -39,8 +39,8 @@ module _ {H : ℕ} (H-some : 0 < H) (test : ℕ → Bool) (step : ℕ) (s : Swee
 module _ {H : ℕ} (H-some : 0 < H) (test : ℕ → Bool) where
   step-grows : (step : ℕ) (s : Sweep) → length (s .parts) ≤ length (sweepStep H test step s .parts)
   step-grows step s =
-      let piece : ℕ = arcWeight step + getD (s .left) (arcEdge step) 0 in
-      let bunch : ℕ = getD (s .left) (arcHead step) 0 + piece in
+      let piece : ℕ = stepWeight step + getD (s .left) (stepChild step) 0 in
+      let bunch : ℕ = getD (s .left) (stepAbove step) 0 + piece in
       dite (decLe H piece) (λ h. rw (sweep-alone H-some test step s refl refl h, length-append) (omega arith))
       (λ h. dite (decLe H bunch)
       (λ k. rw (sweep-full H-some test step s refl refl refl refl refl (omega arith) k, length-append) (omega arith))

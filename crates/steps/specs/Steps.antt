@@ -8,9 +8,22 @@ use lib.ListN.{getD, set, replicate}
 use Rattle.rules.specs.Split.{reachesWeight}
 use Rattle.edges.specs.Around.{arcEdge, arcHead, arcWeight}
 
--- A step: a child, the vertex above it, and the weight of the edge between them. It is packed as an arc is, with the child in the edge's place.
+-- A step: a child, the vertex above it, and the weight of the edge between them. It is packed as an arc is, with the child in the edge's place and
+-- the vertex above in the head's.
 unfoldable pub stepOf : ℕ → ℕ → ℕ → ℕ
 stepOf child above weight = child + 65536 * (above + 65536 * weight)
+
+-- Its child,
+abbrev pub stepChild : ℕ → ℕ
+stepChild step = arcEdge step
+
+-- the vertex above it,
+abbrev pub stepAbove : ℕ → ℕ
+stepAbove step = arcHead step
+
+-- and the weight between them.
+abbrev pub stepWeight : ℕ → ℕ
+stepWeight step = arcWeight step
 
 -- The weight of what is left at each vertex, and the number of parts split off.
 pub record Tally : Type 0 where
@@ -21,11 +34,11 @@ pub record Tally : Type 0 where
 -- "and a bunch reaching H becomes a part".
 unfoldable pub tallyStep : ℕ → ℕ → Tally → Tally
 tallyStep H step t =
-    let piece = arcWeight step + getD (t .left) (arcEdge step) 0 in
-    let bunch = getD (t .left) (arcHead step) 0 + piece in
+    let piece = stepWeight step + getD (t .left) (stepChild step) 0 in
+    let bunch = getD (t .left) (stepAbove step) 0 + piece in
     cond (reachesWeight H piece) (record { left = t .left; parts = t .parts + 1 })
-    (cond (reachesWeight H bunch) (record { left = set (t .left) (arcHead step) 0; parts = t .parts + 1 })
-    (record { left = set (t .left) (arcHead step) bunch; parts = t .parts }))
+    (cond (reachesWeight H bunch) (record { left = set (t .left) (stepAbove step) 0; parts = t .parts + 1 })
+    (record { left = set (t .left) (stepAbove step) bunch; parts = t .parts }))
 
 -- All steps, one after the other.
 unfoldable pub tally : ℕ → List ℕ → Tally → Tally

@@ -6,7 +6,7 @@ use mathlib.Core.Bool.{Bool, false, cond, _||_}
 use mathlib.Core.List.{List, [], _∷_, _++_}
 use lib.ListN.{getD, set, replicate}
 use Rattle.rules.specs.Split.{reachesWeight}
-use Rattle.edges.specs.Around.{arcEdge, arcHead, arcWeight}
+use Rattle.steps.specs.Steps.{stepChild, stepAbove, stepWeight}
 
 -- The weight of what is left at each vertex, whether the test holds at a vertex of that, and of each part split off, whether it holds at one of its.
 pub record Sweep : Type 0 where
@@ -16,13 +16,13 @@ pub record Sweep : Type 0 where
 
 -- A child's piece: its edge, with both ends, and what is left at the child.
 unfoldable pub touchesPiece : (ℕ → Bool) → ℕ → Sweep → Bool
-touchesPiece test step s = getD (s .touched) (arcEdge step) false || (test (arcEdge step) || test (arcHead step))
+touchesPiece test step s = getD (s .touched) (stepChild step) false || (test (stepChild step) || test (stepAbove step))
 
 -- It becomes a part alone, or the bunch of the vertex above with it becomes one, or it joins the bunch, as for `tallyStep`.
 unfoldable pub sweepStep : ℕ → (ℕ → Bool) → ℕ → Sweep → Sweep
 sweepStep H test step s =
-    let above = arcHead step in
-    let piece = arcWeight step + getD (s .left) (arcEdge step) 0 in
+    let above = stepAbove step in
+    let piece = stepWeight step + getD (s .left) (stepChild step) 0 in
     let bunch = getD (s .left) above 0 + piece in
     let own = touchesPiece test step s in
     let both = getD (s .touched) above false || own in

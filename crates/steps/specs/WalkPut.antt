@@ -12,9 +12,9 @@ use Rattle.graph.specs.Graph.{Graph}
 use Rattle.rules.specs.Grow.{grow}
 use Rattle.rules.specs.Split.{split, allParts}
 use Rattle.rules.specs.Distance.{treeVertices}
-use Rattle.edges.specs.Around.{arcEdge, arcHead, Arcs, Around}
+use Rattle.edges.specs.Around.{Arcs, Around}
 use Rattle.split.specs.SplitBelow.{unvisited}
-use Rattle.steps.specs.Steps.{partsCounted}
+use Rattle.steps.specs.Steps.{stepChild, stepAbove, partsCounted}
 use Rattle.steps.specs.Touched.{partsTouched}
 use Rattle.steps.specs.StepsBelow.{StepsBelow}
 
@@ -46,8 +46,8 @@ pub record WalkReady (bounds arcs roots marks walk : List ℕ) : Type 0 where
 
 -- The vertices of the steps are below 256.
 pub record StepsInside (steps : List ℕ) : Type 0 where
-  pub children : (i : ℕ) → i < length steps → arcEdge (getD steps i 0) < 256
-  pub above : (i : ℕ) → i < length steps → arcHead (getD steps i 0) < 256
+  pub children : (i : ℕ) → i < length steps → stepChild (getD steps i 0) < 256
+  pub above : (i : ℕ) → i < length steps → stepAbove (getD steps i 0) < 256
 
 -- The steps of the trees that are grown along the edges from the roots: one pass counts the parts at every threshold, and one tells at which of
 -- them a test holds.

@@ -1,7 +1,7 @@
 // The number of parts at a threshold, in one pass over the steps of the trees.
-use edges::arc::arc_edge;
-use edges::arc::arc_head;
-use edges::arc::arc_weight;
+use crate::step::step_above;
+use crate::step::step_child;
+use crate::step::step_weight;
 ghost use mathlib.Core.Path.{_≡_};
 ghost use Rattle.steps.specs.Steps.{partsCounted};
 ghost use Rattle.steps.specs.WalkPut.{Countable};
@@ -19,13 +19,13 @@ pub fn count_parts(walk: &[u64], h: u64) -> usize
     let mut i = 0;
     while i < walk.len() {
         let step = walk[i];
-        let piece = arc_weight(step) + left[arc_edge(step) as usize];
+        let piece = step_weight(step) + left[step_child(step)];
         i += 1;
         if h <= piece {
             parts += 1;
             continue;
         }
-        let above = arc_head(step);
+        let above = step_above(step);
         let bunch = left[above] + piece;
         if h <= bunch {
             parts += 1;

@@ -5,6 +5,7 @@ ghost use lib.ListN.{length};
 ghost use Rattle.steps.specs.WalkPut.{WalkReady, WalkAsked, WalkPut};
 
 pub mod count;
+pub mod step;
 mod walk;
 
 use walk::put_node;

@@ -1,7 +1,7 @@
 // The node walk and the child-list walk that write a tree's steps, which call each other: "at each child its own node comes first".
 // Each call of the node walk passes a vertex that no call below it passes again, so that the walks nest at most as deep
 // as the tree, two frames a level: the arcs of a vertex are gone through in a loop.
-use edges::arc::arc;
+use crate::step::step_of;
 use edges::arc::arc_head;
 use edges::arc::arc_weight;
 ghost use Rattle.split.specs.SplitBelow.{passing};
@@ -48,7 +48,7 @@ fn put_children(
             continue;
         }
         let end = put_node(bounds, arcs, head, next, passed, walk);
-        walk[end] = arc(head, v, arc_weight(a));
+        walk[end] = step_of(head, v, arc_weight(a));
         next = end + 1;
     }
     next

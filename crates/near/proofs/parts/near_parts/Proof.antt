@@ -8,6 +8,7 @@ use lib.Bits.{bitOr}
 use lib.ListN.{length, getD}
 use Rattle.lists.proofs.Put.{only-first-length}
 use Rattle.edges.specs.Around.{arcWeight}
+use Rattle.steps.specs.Steps.{stepWeight}
 use Rattle.near.proofs.PartsMarking.{Marking, AtStep, marking-first, marking-done, room-alone, marking-alone, room-full, marking-full, marking-joins}
 use Rattle.near.proofs.parts.near_parts.Statement.{statement}
 use Rattle.near.proofs.parts.near_parts.Tie as tie
@@ -19,7 +20,7 @@ abbrev μ-loop : tie.MeasureT-loop
 μ-loop walk h near parts₀ left₀ beside₀ r₀ i₀ parts left beside r i = length walk - i
 
 -- At a step whose child, vertex above and weight are read: what was asked, that there is a step more, and that its two vertices are below 256.
-module _ (c : tie.After-arc-weight Inv-loop μ-loop) where
+module _ (c : tie.After-step-weight Inv-loop μ-loop) where
   abbrev loop : tie.At-loop Inv-loop μ-loop
   loop = c .before .before .before .before .before
 
@@ -32,14 +33,14 @@ module _ (c : tie.After-arc-weight Inv-loop μ-loop) where
   more : loop .loop .i < length (start .args .walk .now)
   more = c .before .before .before .before .loop-test .taken
 
-  child-inside : c .before .before .arc-edge .result < 256
-  child-inside = omega (arith, c .before .before .arc-edge .ensures, start .pre .countable .inside .children (loop .loop .i) more)
+  child-inside : c .before .before .step-child .result < 256
+  child-inside = omega (arith, c .before .before .step-child .ensures, start .pre .countable .inside .children (loop .loop .i) more)
 
-  above-inside : c .before .arc-head .result < 256
-  above-inside = omega (arith, c .before .arc-head .ensures, start .pre .countable .inside .above (loop .loop .i) more)
+  above-inside : c .before .step-above .result < 256
+  above-inside = omega (arith, c .before .step-above .ensures, start .pre .countable .inside .above (loop .loop .i) more)
 
   -- a weight is below 2 to the 32nd, and so is what is left at a vertex
-  weight-small : arcWeight step < 4294967296
+  weight-small : stepWeight step < 4294967296
   unfolding arcWeight
   weight-small = omega (arith, c .before .before .before .shared-slice-known3 .given (loop .loop .i))
 
@@ -48,17 +49,17 @@ module _ (c : tie.After-arc-weight Inv-loop μ-loop) where
 
 -- At the roots near the child's piece: what the laws on a step ask.
 module _ (c : tie.After-shared-slice-known5 Inv-loop μ-loop) where
-  abbrev read : tie.After-arc-weight Inv-loop μ-loop
+  abbrev read : tie.After-step-weight Inv-loop μ-loop
   read = c .before .before
 
   abbrev child : ℕ
-  child = read .before .before .arc-edge .result
+  child = read .before .before .step-child .result
 
   abbrev above : ℕ
-  above = read .before .arc-head .result
+  above = read .before .step-above .result
 
   abbrev piece : ℕ
-  piece = read .arc-weight .result + getD (loop read .loop .left) child 0
+  piece = read .step-weight .result + getD (loop read .loop .left) child 0
 
   abbrev own : ℕ
   own =
@@ -67,9 +68,9 @@ module _ (c : tie.After-shared-slice-known5 Inv-loop μ-loop) where
   looked : AtStep (start read .args .near .now) (loop read .loop .left) (loop read .loop .beside) (step read) child above piece own
   looked =
       record {
-        child-is = read .before .before .arc-edge .ensures;
-        above-is = read .before .arc-head .ensures;
-        piece-is = cc (read .arc-weight .ensures);
+        child-is = read .before .before .step-child .ensures;
+        above-is = read .before .step-above .ensures;
+        piece-is = cc (read .step-weight .ensures);
         own-is = refl;
       }
 
@@ -92,17 +93,14 @@ mul-step c = search needs
 shared-slice-read-step : tie.Need-shared-slice-read-step Inv-loop μ-loop
 shared-slice-read-step c = search needs
 
-arc-edge-requires : tie.Need-arc-edge-requires Inv-loop μ-loop
-arc-edge-requires c κs = search needs
+step-child-requires : tie.Need-step-child-requires Inv-loop μ-loop
+step-child-requires c κs = search needs
 
-cast-child : tie.Need-cast-child Inv-loop μ-loop
-cast-child c = search needs
+step-above-requires : tie.Need-step-above-requires Inv-loop μ-loop
+step-above-requires c κs = search needs
 
-arc-head-requires : tie.Need-arc-head-requires Inv-loop μ-loop
-arc-head-requires c κs = search needs
-
-arc-weight-requires : tie.Need-arc-weight-requires Inv-loop μ-loop
-arc-weight-requires c κs = search needs
+step-weight-requires : tie.Need-step-weight-requires Inv-loop μ-loop
+step-weight-requires c κs = search needs
 
 mul-piece : tie.Need-mul-piece Inv-loop μ-loop
 mul-piece c = omega (arith, child-inside c)
@@ -111,7 +109,7 @@ array-read-piece : tie.Need-array-read-piece Inv-loop μ-loop
 array-read-piece c = child-inside c
 
 add-piece : tie.Need-add-piece Inv-loop μ-loop
-add-piece c = omega (arith, c .arc-weight .ensures, weight-small c, left-small c (c .before .before .arc-edge .result))
+add-piece c = omega (arith, c .step-weight .ensures, weight-small c, left-small c (c .before .before .step-child .result))
 
 mul-own : tie.Need-mul-own Inv-loop μ-loop
 mul-own c = omega (arith, child-inside c)
@@ -230,10 +228,9 @@ near-parts-spec =
     loop-holds
     mul-step
     shared-slice-read-step
-    arc-edge-requires
-    cast-child
-    arc-head-requires
-    arc-weight-requires
+    step-child-requires
+    step-above-requires
+    step-weight-requires
     mul-piece
     array-read-piece
     add-piece

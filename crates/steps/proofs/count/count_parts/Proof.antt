@@ -5,7 +5,8 @@ use mathlib.Core.Path.{_≡_, refl}
 use native.Mathlib.Omega.{arith}
 use borrow.Author.Needs.{needs}
 use lib.ListN.{length, getD}
-use Rattle.edges.specs.Around.{arcEdge, arcHead, arcWeight}
+use Rattle.edges.specs.Around.{arcWeight}
+use Rattle.steps.specs.Steps.{stepChild, stepAbove, stepWeight}
 use Rattle.steps.proofs.PartsCounting.{Counting, none-counted, counting-first, counting-done, counting-alone, counting-full, counting-joins}
 use Rattle.steps.proofs.count.count_parts.Statement.{statement}
 use Rattle.steps.proofs.count.count_parts.Tie as tie
@@ -17,7 +18,7 @@ abbrev μ-loop : tie.MeasureT-loop
 μ-loop walk h left₀ parts₀ i₀ left parts i = length walk - i
 
 -- At a step whose child is read: what was asked, that there is a step more, its piece, and that its two vertices are below 256.
-module _ (c : tie.After-arc-edge Inv-loop μ-loop) where
+module _ (c : tie.After-step-child Inv-loop μ-loop) where
   abbrev loop : tie.At-loop Inv-loop μ-loop
   loop = c .before .before .before .before
 
@@ -33,20 +34,20 @@ module _ (c : tie.After-arc-edge Inv-loop μ-loop) where
   threshold : 0 < start .args .h
   threshold = omega (arith, loop .before .if1 .left)
 
-  child-inside : arcEdge step < 256
+  child-inside : stepChild step < 256
   child-inside = start .pre .inside .children (loop .loop .i) more
 
-  above-inside : arcHead step < 256
+  above-inside : stepAbove step < 256
   above-inside = start .pre .inside .above (loop .loop .i) more
 
   abbrev child-left : ℕ
-  child-left = getD (loop .loop .left) (c .arc-edge .result) 0
+  child-left = getD (loop .loop .left) (c .step-child .result) 0
 
-  piece-is : c .before .arc-weight .result + child-left ≡ arcWeight step + getD (loop .loop .left) (arcEdge step) 0
-  piece-is = cc (c .before .arc-weight .ensures, c .arc-edge .ensures)
+  piece-is : c .before .step-weight .result + child-left ≡ stepWeight step + getD (loop .loop .left) (stepChild step) 0
+  piece-is = cc (c .before .step-weight .ensures, c .step-child .ensures)
 
   -- a weight is below 2 to the 32nd, and so is what is left at a vertex
-  weight-small : arcWeight step < 4294967296
+  weight-small : stepWeight step < 4294967296
   unfolding arcWeight
   weight-small = omega (arith, c .before .before .shared-slice-known2 .given (loop .loop .i))
 
@@ -54,12 +55,12 @@ module _ (c : tie.After-arc-edge Inv-loop μ-loop) where
   left-small u = omega (arith, loop .loop .inv .light u, start .pre .threshold-most)
 
 -- At the bunch of the vertex above.
-module _ (c : tie.After-arc-head Inv-loop μ-loop) where
-  abbrev child : tie.After-arc-edge Inv-loop μ-loop
+module _ (c : tie.After-step-above Inv-loop μ-loop) where
+  abbrev child : tie.After-step-child Inv-loop μ-loop
   child = c .before .before
 
-  inside : c .arc-head .result < 256
-  inside = omega (arith, c .arc-head .ensures, above-inside child)
+  inside : c .step-above .result < 256
+  inside = omega (arith, c .step-above .ensures, above-inside child)
 
 returns : tie.Need-returns Inv-loop μ-loop
 returns c = none-counted (c .before .before .args .walk .now) (c .if1 .taken)
@@ -73,23 +74,20 @@ mul-step c = search needs
 shared-slice-read-step : tie.Need-shared-slice-read-step Inv-loop μ-loop
 shared-slice-read-step c = search needs
 
-arc-weight-requires : tie.Need-arc-weight-requires Inv-loop μ-loop
-arc-weight-requires c κs = search needs
+step-weight-requires : tie.Need-step-weight-requires Inv-loop μ-loop
+step-weight-requires c κs = search needs
 
-arc-edge-requires : tie.Need-arc-edge-requires Inv-loop μ-loop
-arc-edge-requires c κs = search needs
-
-cast-piece : tie.Need-cast-piece Inv-loop μ-loop
-cast-piece c = search needs
+step-child-requires : tie.Need-step-child-requires Inv-loop μ-loop
+step-child-requires c κs = search needs
 
 mul-piece : tie.Need-mul-piece Inv-loop μ-loop
-mul-piece c = search needs
+mul-piece c = omega (arith, c .step-child .ensures, child-inside c)
 
 array-read-piece : tie.Need-array-read-piece Inv-loop μ-loop
-array-read-piece c = omega (arith, c .arc-edge .ensures, child-inside c)
+array-read-piece c = omega (arith, c .step-child .ensures, child-inside c)
 
 add-piece : tie.Need-add-piece Inv-loop μ-loop
-add-piece c = omega (arith, c .before .arc-weight .ensures, weight-small c, left-small c (c .arc-edge .result))
+add-piece c = omega (arith, c .before .step-weight .ensures, weight-small c, left-small c (c .step-child .result))
 
 add-i : tie.Need-add-i Inv-loop μ-loop
 add-i c = search needs
@@ -103,8 +101,8 @@ loop-less c = search needs
 loop-again : tie.Need-loop-again Inv-loop μ-loop
 loop-again c = counting-alone (loop (c .before) .loop .inv) (more (c .before)) (threshold (c .before)) (piece-is (c .before)) (c .if2 .taken)
 
-arc-head-requires : tie.Need-arc-head-requires Inv-loop μ-loop
-arc-head-requires c κs = search needs
+step-above-requires : tie.Need-step-above-requires Inv-loop μ-loop
+step-above-requires c κs = search needs
 
 mul-bunch : tie.Need-mul-bunch Inv-loop μ-loop
 mul-bunch c = omega (arith, inside c)
@@ -113,7 +111,7 @@ array-read-bunch : tie.Need-array-read-bunch Inv-loop μ-loop
 array-read-bunch c = inside c
 
 add-bunch : tie.Need-add-bunch Inv-loop μ-loop
-add-bunch c = let d = child c in omega (arith, left-small d (c .arc-head .result), c .before .if2 .left, start d .pre .threshold-most)
+add-bunch c = let d = child c in omega (arith, left-small d (c .step-above .result), c .before .if2 .left, start d .pre .threshold-most)
 
 add-parts-2 : tie.Need-add-parts-2 Inv-loop μ-loop
 add-parts-2 c = search needs
@@ -131,7 +129,7 @@ loop-again-2 : tie.Need-loop-again-2 Inv-loop μ-loop
 loop-again-2 c =
     let h = c .before in
     let d = child h in
-    counting-full (loop d .loop .inv) (more d) (threshold d) (piece-is d) (h .arc-head .ensures) (inside h) refl (h .before .if2 .left) (c .if3 .taken)
+    counting-full (loop d .loop .inv) (more d) (threshold d) (piece-is d) (h .step-above .ensures) (inside h) refl (h .before .if2 .left) (c .if3 .taken)
 
 mul-left-2 : tie.Need-mul-left-2 Inv-loop μ-loop
 mul-left-2 c = omega (arith, inside (c .before))
@@ -146,7 +144,7 @@ loop-again-3 : tie.Need-loop-again-3 Inv-loop μ-loop
 loop-again-3 c =
     let h = c .before in
     let d = child h in
-    counting-joins (loop d .loop .inv) (more d) (threshold d) (piece-is d) (h .arc-head .ensures) (inside h) refl (h .before .if2 .left) (c .if3 .left)
+    counting-joins (loop d .loop .inv) (more d) (threshold d) (piece-is d) (h .step-above .ensures) (inside h) refl (h .before .if2 .left) (c .if3 .left)
 
 returns-2 : tie.Need-returns-2 Inv-loop μ-loop
 returns-2 c = counting-done (c .before .loop .inv) (omega (arith, c .loop-test .left))
@@ -161,9 +159,8 @@ count-parts-spec =
     loop-holds
     mul-step
     shared-slice-read-step
-    arc-weight-requires
-    arc-edge-requires
-    cast-piece
+    step-weight-requires
+    step-child-requires
     mul-piece
     array-read-piece
     add-piece
@@ -171,7 +168,7 @@ count-parts-spec =
     add-parts
     loop-less
     loop-again
-    arc-head-requires
+    step-above-requires
     mul-bunch
     array-read-bunch
     add-bunch

@@ -22,9 +22,9 @@ use Rattle.steps.proofs.walk.+put_children+put_node.Lts-put_children as
 use Rattle.steps.proofs.walk.put_node.Reads as put-node
 use Rattle.steps.proofs.walk.put_node.Kinds as put-node-kinds
 use Rattle.steps.proofs.walk.+put_children+put_node.Lts-put_node as node
-use Rattle.edges.proofs.arc.arc.Reads as arc-reads
 use Rattle.edges.proofs.arc.arc_head.Reads as arc-head-reads
 use Rattle.edges.proofs.arc.arc_weight.Reads as arc-weight-reads
+use Rattle.steps.proofs.step.step_of.Reads as step-of-reads
 use Rattle.steps.proofs.walk.+put_children+put_node.{statement}
 use Rattle.steps.proofs.walk.+put_children+put_node.Tie.{close}
 
@@ -66,8 +66,8 @@ calls t = (
   put-node.Post,
   arc-weight-reads.Asked,
   arc-weight-reads.Learnt,
-  arc-reads.Asked,
-  arc-reads.Learnt,
+  step-of-reads.Asked,
+  step-of-reads.Learnt,
 )
 
 module _ (t : ℕ) where
@@ -196,8 +196,8 @@ module _ (t : ℕ) where
   arc-weight-requires : list.Need-arc-weight-requires (calls t) (list-at t) put-children.Post Inv μ-loop
   arc-weight-requires c κs = search needs
 
-  arc-requires : list.Need-arc-requires (calls t) (list-at t) put-children.Post Inv μ-loop
-  arc-requires c κs =
+  step-of-requires : list.Need-step-of-requires (calls t) (list-at t) put-children.Post Inv μ-loop
+  step-of-requires c κs =
       let h = head (called (below c .before)) in
       let a = args h .pre .1 in (
         omega (arith, head-inside h, a .inside, a .around .few),
@@ -228,7 +228,7 @@ module _ (t : ℕ) where
       let e = called (b .before) in
       let h = head e in
       steps-child-by (loop h .loop .inv) (more h) (all h) (is-child e) (args h .pre .1 .room) (b .put-node .ensures)
-      (unfold stepOf in c .arc .ensures ∙ ap (stepOf (h .arc-head .result) (args h .args .v)) (w .arc-weight .ensures))
+      (c .step-of .ensures ∙ ap (stepOf (h .arc-head .result) (args h .args .v)) (w .arc-weight .ensures))
 
   same-length : list.Need-same-length (calls t) (list-at t) put-children.Post Inv μ-loop
   same-length c = c .before .loop .inv .size
@@ -276,7 +276,7 @@ pub +put-children+put-node-spec : {M : Type 1} → statement M
     (λ t.
     list.spec (calls t) (list-at t) put-children.Post Inv μ-loop (mul-i t) (shared-slice-read-i t) (cast-i t) (add-to t) (mul-to t)
     (shared-slice-read-to t) (cast-to t) (loop-holds t) (mul-a t) (shared-slice-read-a t) (arc-head-requires t) (add-i t) (slice-read-if1 t)
-    (loop-less t) (loop-again t) (put-node-requires t) (arc-weight-requires t) (arc-requires t) (mul-walk t) (slice-write-walk t) (add-next t)
+    (loop-less t) (loop-again t) (put-node-requires t) (arc-weight-requires t) (step-of-requires t) (mul-walk t) (slice-write-walk t) (add-next t)
     (loop-less-2 t) (loop-again-2 t) (same-length t) (same-length-2 t) (returns t))
     (λ t.
     node.spec (list-below t, put-children.Post) (node-at t) put-node.Post (node-slice-write-passed t) (node-put-children-requires t)
