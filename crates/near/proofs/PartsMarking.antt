@@ -7,20 +7,19 @@ use mathlib.Core.Bool.{Bool, false, _||_}
 use mathlib.Core.List.{List, [], _∷_, _++_, map, map-append}
 use native.Mathlib.Omega.{arith}
 use lib.Bits.{bitOr}
-use lib.ListN.{length, take, drop, getD, set, replicate, length-map, length-set, length-replicate, length-append}
-use lib.Seq.{drop-length, length-take-le}
+use lib.ListN.{length, take, drop, getD, set, replicate, length-map, length-append}
+use lib.Seq.{length-take-le}
 use Rattle.lists.specs.Put.{OnlyFirst}
-use Rattle.lists.proofs.AfterStore.{after-store}
 use Rattle.lists.proofs.OnlyFirst.{only-first-none, only-first-store, only-first-of-more}
 use Rattle.lists.proofs.Put.{only-first-length}
-use Rattle.lists.proofs.TakeDrop.{take-stored, drop-more}
-use Rattle.lists.proofs.Zeros.{zeros-at}
+use Rattle.lists.proofs.TakeDrop.{take-stored}
 use Rattle.steps.specs.Steps.{stepChild, stepAbove, stepWeight}
-use Rattle.steps.specs.Touched.{Sweep, touchesPiece, sweepStep, sweep, partsTouched}
+use Rattle.steps.specs.Touched.{Sweep, touchesPiece, sweepStep}
 use Rattle.near.specs.Bits.{bitAt}
 use Rattle.near.specs.Parts.{NearPartsAsked, NearParts}
 use Rattle.near.proofs.BitsLaws.{bit-none, bit-or, bit-at, bits-stored, bits-none}
 use Rattle.steps.proofs.SweepWays.{sweep-alone, sweep-full, sweep-joins, sweep-grows}
+use Rattle.steps.proofs.SweepUnderway.{Light, light-first, light-stored, Gives, gives-first, gives-more, gives-all}
 
 -- Root j is near the vertex.
 abbrev pub nearTo : ℕ → List ℕ → ℕ → Bool
@@ -32,13 +31,10 @@ bitsOf j left beside parts = record { left = left; touched = map (bitAt j) besid
 
 -- What is marked of the first i steps, and that what is left at each vertex is below the threshold; the pass over the others gives the answer.
 pub record Marking (H : ℕ) (steps near before parts left beside : List ℕ) (r i : ℕ) : Type 0 where
-  pub within : i ≤ length steps
-  pub left-size : length left ≡ 256
-  pub light : (u : ℕ) → getD left u 0 < H
+  pub light : Light H left
   pub count : r ≤ length before
   pub only : OnlyFirst r before parts
-  pub rest : (j : ℕ)
-      → sweep H (nearTo j near) (drop i steps) (bitsOf j left beside (map (bitAt j) (take r parts))) .parts ≡ partsTouched H (nearTo j near) steps
+  pub rest : (j : ℕ) → Gives H (nearTo j near) steps i (bitsOf j left beside (map (bitAt j) (take r parts)))
 
 -- A step looked at: its two vertices, the weight of the child's piece, and the roots near that.
 pub record AtStep (near left beside : List ℕ) (step child above piece own : ℕ) : Type 0 where
@@ -48,27 +44,19 @@ pub record AtStep (near left beside : List ℕ) (step child above piece own : �
   pub own-is : own ≡ bitOr (getD beside child 0) (bitOr (getD near child 0) (getD near above 0))
 
 pub marking-first : {H : ℕ} (steps near before : List ℕ) → 0 < H → Marking H steps near before before (replicate 256 0) (replicate 256 0) 0 0
-unfolding partsTouched
 marking-first {H} steps near before h =
     record {
-      within = omega arith;
-      left-size = length-replicate {A = ℕ} 256 0;
-      light = λ u. omega (arith, zeros-at 256 u);
+      light = light-first h;
       count = omega arith;
       only = only-first-none 0 before;
-      rest =
-          λ j. ap (λ (l : List Bool). sweep H (nearTo j near) steps (record { left = replicate 256 0; touched = l; parts = [] }) .parts) (bits-none j 256);
+      rest = λ j. rw (bits-none j 256) (gives-first H (nearTo j near) steps);
     }
 
 module _ {H : ℕ} {steps near before parts left beside : List ℕ} {r i : ℕ}
     (c : Marking H steps near before parts left beside r i) where
   -- When all steps are passed, the parts are marked.
   pub marking-done : length steps ≤ i → NearParts H steps near before parts r
-  unfolding sweep
-  marking-done h =
-      let q : i ≡ length steps = omega (arith, c .within) in
-      let nothing : drop i steps ≡ [] = ap (λ k. drop k steps) q ∙ drop-length steps in
-      record { each = λ j. rw nothing at (c .rest j); within = c .count; rest = c .only }
+  marking-done h = record { each = λ j. gives-all (c .rest j) h; within = c .count; rest = c .only }
 
   module _ (asked : NearPartsAsked H steps near before) (more : i < length steps) {child above piece own : ℕ}
       (a : AtStep near left beside (getD steps i 0) child above piece own) where
@@ -96,14 +84,6 @@ module _ {H : ℕ} {steps near before parts left beside : List ℕ} {r i : ℕ}
         ap (bitAt j) (a .own-is)
         ∙ rw (bit-or j (getD beside child 0) (bitOr here there), bit-or j here there, bit-at j beside, a .child-is, a .above-is)
 
-    -- the pass from there on gives the answer
-    onward : (j : ℕ) {s : Sweep} → next j ≡ s → sweep H (nearTo j near) (drop (i + 1) steps) s .parts ≡ partsTouched H (nearTo j near) steps
-    unfolding sweep
-    onward j {s} q =
-        ap (λ (x : Sweep). sweep H (nearTo j near) (drop (i + 1) steps) x .parts) (sym q)
-        ∙ ap (λ (xs : List ℕ). sweep H (nearTo j near) xs (state j) .parts) (sym (drop-more 0 steps i more))
-        ∙ c .rest j
-
     same-size : length parts ≡ length before
     same-size = only-first-length (c .only)
 
@@ -115,7 +95,7 @@ module _ {H : ℕ} {steps near before parts left beside : List ℕ} {r i : ℕ}
           omega (
             arith,
             sweep-grows (asked .threshold-some) (nearTo 0 near) (drop (i + 1) steps) after,
-            ap length (onward 0 (splits 0)),
+            ap length (gives-more (c .rest 0) more (splits 0) .answer),
             asked .parts-room (nearTo 0 near),
             length-append (done 0) (bitAt 0 word ∷ []),
             length-map (take r parts) (bitAt 0),
@@ -126,16 +106,13 @@ module _ {H : ℕ} {steps near before parts left beside : List ℕ} {r i : ℕ}
       written : (j : ℕ) → done j ++ (bitAt j word ∷ []) ≡ map (bitAt j) (take (r + 1) (set parts r word))
       written j = sym (ap (map (bitAt j)) (take-stored parts r word split-room) ∙ map-append (bitAt j) (take r parts) (word ∷ []))
 
-      marking-split : length left′ ≡ 256 → ((u : ℕ) → getD left′ u 0 < H)
-          → Marking H steps near before (set parts r word) left′ beside′ (r + 1) (i + 1)
-      marking-split left-size light =
+      marking-split : Light H left′ → Marking H steps near before (set parts r word) left′ beside′ (r + 1) (i + 1)
+      marking-split light =
           record {
-            within = omega arith;
-            left-size = left-size;
             light = light;
             count = omega (arith, split-room, same-size);
             only = only-first-store (only-first-of-more (c .only) (r + 1) (omega arith)) r word (omega arith);
-            rest = λ j. onward j (splits j ∙ ap (bitsOf j left′ beside′) (written j));
+            rest = λ j. gives-more (c .rest j) more (splits j ∙ ap (bitsOf j left′ beside′) (written j));
           }
 
     -- The child's piece is a part alone.
@@ -147,15 +124,12 @@ module _ {H : ℕ} {steps near before parts left beside : List ℕ} {r i : ℕ}
       room-alone = split-room left beside own alone
 
       pub marking-alone : Marking H steps near before (set parts r own) left beside (r + 1) (i + 1)
-      marking-alone = marking-split left beside own alone (c .left-size) (c .light)
+      marking-alone = marking-split left beside own alone (c .light)
 
     module _ (inside : above < 256) (light : piece < H) {bunch both : ℕ}
         (bunch-is : bunch ≡ getD left above 0 + piece) (both-is : both ≡ bitOr (getD beside above 0) own) where
       both-bits : (j : ℕ) → bitAt j both ≡ getD (state j .touched) above false || bitAt j own
       both-bits j = ap (bitAt j) both-is ∙ rw (bit-or j (getD beside above 0) own, bit-at j beside)
-
-      kept-light : {w : ℕ} → w < H → (u : ℕ) → getD (set left above w) u 0 < H
-      kept-light {w} h u = after-store (λ _ x. x < H) left above w u (omega (arith, c .left-size)) h (λ _. c .light u)
 
       -- The bunch with it is one,
       module _ (heavy : H ≤ bunch) where
@@ -168,20 +142,17 @@ module _ {H : ℕ} {steps near before parts left beside : List ℕ} {r i : ℕ}
         room-full = split-room (set left above 0) (set beside above 0) both full
 
         pub marking-full : Marking H steps near before (set parts r both) (set left above 0) (set beside above 0) (r + 1) (i + 1)
-        marking-full =
-            marking-split (set left above 0) (set beside above 0) both full (length-set left above 0 ∙ c .left-size) (kept-light (asked .threshold-some))
+        marking-full = marking-split (set left above 0) (set beside above 0) both full (light-stored (c .light) inside (asked .threshold-some))
 
       -- or it joins the bunch.
       pub marking-joins : bunch < H → Marking H steps near before parts (set left above bunch) (set beside above both) r (i + 1)
       marking-joins h =
           record {
-            within = omega arith;
-            left-size = length-set left above bunch ∙ c .left-size;
-            light = kept-light h;
+            light = light-stored (c .light) inside h;
             count = c .count;
             only = c .only;
             rest =
-                λ j. onward j
+                λ j. gives-more (c .rest j) more
                 (sweep-joins (asked .threshold-some) (nearTo j near) step (state j) piece-bits (own-bits j) (a .above-is) bunch-is (both-bits j) light h
                 ∙ rw (bits-stored j beside above both));
           }

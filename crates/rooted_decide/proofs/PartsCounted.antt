@@ -14,7 +14,7 @@ use Rattle.rules.specs.Split.{allParts}
 use Rattle.rules.specs.RootedTrial.{unjoinedAt, rootedParts, mayGo, isAssignable}
 use Rattle.planner_laws.proofs.RootedPrepared.{pieces-of-whole}
 use Rattle.planner_laws.proofs.RootedPieces.{part-at}
-use Rattle.steps.specs.Steps.{partsCounted}
+use Rattle.steps.specs.Touched.{partsCounted}
 use Rattle.steps.specs.WalkPut.{Countable}
 use Rattle.rooted_state.proofs.AssignmentsAlike.{too-many}
 use Rattle.rooted_state.specs.Prepared.{TrialAsked, PartsReady}

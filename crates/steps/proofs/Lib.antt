@@ -5,12 +5,12 @@ pub mod StepsMark
 pub mod PartTouched
 -- one step of the pass, by the way it goes; the parts only grow along it
 pub mod SweepWays
+-- the pass under way: nothing left that is heavy, and the rest of the pass gives the answer
+pub mod SweepUnderway
 -- one step of the pass settles a child's piece
 pub mod StepSwept
 -- one pass over the steps tells the parts below a vertex
 pub mod StepsSwept
--- it tells of as many parts as counting counts
-pub mod SweepCounts
 -- so the parts of all trees are told, and counted
 pub mod WalkSwept
 -- the vertices of the steps

@@ -8,7 +8,7 @@ use mathlib.Core.List.{List, [], _++_, map, append-nil, List·Memᴰ·head, List
 use mathlib.Core.Logic.{dite, ⊎-elim}
 use native.Mathlib.Decide.{ℕ-discrete}
 use native.Mathlib.Omega.{arith}
-use lib.ListN.{length, getD, replicate, length-set, length-replicate}
+use lib.ListN.{length, getD, replicate, length-map, length-set, length-replicate}
 use Rattle.lists.specs.Lists.{flat, member, any}
 use Rattle.lists.specs.Segments.{segment}
 use Rattle.lists.proofs.Member.{either}
@@ -19,8 +19,7 @@ use Rattle.rules.specs.Split.{Pieces, split, allParts}
 use Rattle.edges.specs.Around.{arcHead, Around}
 use Rattle.bunches.specs.Settles.{load}
 use Rattle.split.specs.SplitBelow.{unmarked, passing, done}
-use Rattle.steps.specs.Steps.{partsCounted}
-use Rattle.steps.specs.Touched.{Sweep, sweep, partsTouched}
+use Rattle.steps.specs.Touched.{Sweep, sweep, nowhere, partsTouched, partsCounted}
 use Rattle.steps.specs.StepsBelow.{StepsBelow, steps-done, steps-past, steps-child, StepsFrom, no-roots, steps-root}
 use Rattle.split.proofs.Unvisited.{marks-kept, marked-now, unmarked-before}
 use Rattle.split.proofs.SplitAsRules.{MarksAre, Gives, node-as-rules}
@@ -28,7 +27,6 @@ use Rattle.steps.proofs.StepsMark.{HeadsMarked, still-marked, steps-clo
 use Rattle.steps.proofs.PartTouched.{partTouched}
 use Rattle.steps.proofs.StepSwept.{Sized, keptAt}
 use Rattle.steps.proofs.StepsSwept.{sweep-on, parts-on, Clear, Swept, past-swept, steps-swept}
-use Rattle.steps.proofs.SweepCounts.{sweep-counts}
 
 -- Nothing is left to be grown from any vertex with a mark.
 abbrev AllClosed : List ℕ → List ℕ → List ℕ → Type 0
@@ -120,6 +118,5 @@ module _ {g : Graph} {edges bounds arcs roots marks steps : List ℕ} (around : 
       (λ u q. nothing-kept 256 u)
 
   pub walk-counted : (H : ℕ) → partsCounted H steps ≡ length (allParts (map (split g H) (grow g edges roots)))
-  walk-counted H =
-      let never : ℕ → Bool = λ _. false in
-      sweep-counts H never steps (partTouched g never) (allParts (map (split g H) (grow g edges roots))) (walk-touched H never)
+  unfolding partsCounted
+  walk-counted H = ap length (walk-touched H nowhere) ∙ length-map (allParts (map (split g H) (grow g edges roots))) (partTouched g nowhere)

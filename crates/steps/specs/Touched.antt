@@ -1,10 +1,11 @@
--- The parts in one pass over the steps, each by whether a test holds at one of its vertices (document 01, steps 4 and 5). For the test "within the
--- limit of root j" that is whether the part may go to root j, so that a decision needs no piece.
+-- The parts in one pass over the steps, each by whether a test holds at one of its vertices (document 01, steps 4 and 5), and so the number of parts.
+-- For the test "within the limit of root j" that is whether the part may go to root j. Only weights and tests are kept, so that a decision needs no
+-- piece.
 -- Assumes nothing.
 use Prim.Native.Nat.{ℕ, _+_}
 use mathlib.Core.Bool.{Bool, false, cond, _||_}
 use mathlib.Core.List.{List, [], _∷_, _++_}
-use lib.ListN.{getD, set, replicate}
+use lib.ListN.{length, getD, set, replicate}
 use Rattle.rules.specs.Split.{reachesWeight}
 use Rattle.steps.specs.Steps.{stepChild, stepAbove, stepWeight}
 
@@ -18,7 +19,8 @@ pub record Sweep : Type 0 where
 unfoldable pub touchesPiece : (ℕ → Bool) → ℕ → Sweep → Bool
 touchesPiece test step s = getD (s .touched) (stepChild step) false || (test (stepChild step) || test (stepAbove step))
 
--- It becomes a part alone, or the bunch of the vertex above with it becomes one, or it joins the bunch, as for `tallyStep`.
+-- A child's piece "becomes a part alone" where it reaches H, "otherwise it joins the bunch" of the vertex above,
+-- "and a bunch reaching H becomes a part".
 unfoldable pub sweepStep : ℕ → (ℕ → Bool) → ℕ → Sweep → Sweep
 sweepStep H test step s =
     let above = stepAbove step in
@@ -38,3 +40,11 @@ sweep H test (step ∷ steps) s = sweep H test steps (sweepStep H test step s)
 -- For each part whether the test holds at one of its vertices, where nothing is left at any of 256 vertices to begin with.
 unfoldable pub partsTouched : ℕ → (ℕ → Bool) → List ℕ → List Bool
 partsTouched H test steps = sweep H test steps (record { left = replicate 256 0; touched = replicate 256 false; parts = [] }) .parts
+
+-- A test that holds at no vertex.
+abbrev pub nowhere : ℕ → Bool
+nowhere v = false
+
+-- The number of parts: whatever the test, the pass tells of each of them.
+unfoldable pub partsCounted : ℕ → List ℕ → ℕ
+partsCounted H steps = length (partsTouched H nowhere steps)

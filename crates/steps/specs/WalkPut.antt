@@ -14,8 +14,8 @@ use Rattle.rules.specs.Split.{split, allParts}
 use Rattle.rules.specs.Distance.{treeVertices}
 use Rattle.edges.specs.Around.{Arcs, Around}
 use Rattle.split.specs.SplitBelow.{unvisited}
-use Rattle.steps.specs.Steps.{stepChild, stepAbove, partsCounted}
-use Rattle.steps.specs.Touched.{partsTouched}
+use Rattle.steps.specs.Steps.{stepChild, stepAbove}
+use Rattle.steps.specs.Touched.{partsTouched, partsCounted}
 use Rattle.steps.specs.StepsBelow.{StepsBelow}
 
 -- What the node walk, with v passed, and the child-list walk ask: the arcs of as many vertices as there are marks, v one of them, and room

@@ -3,7 +3,7 @@ use crate::step::step_above;
 use crate::step::step_child;
 use crate::step::step_weight;
 ghost use mathlib.Core.Path.{_≡_};
-ghost use Rattle.steps.specs.Steps.{partsCounted};
+ghost use Rattle.steps.specs.Touched.{partsCounted};
 ghost use Rattle.steps.specs.WalkPut.{Countable};
 
 // The number of parts that the trees are split into with threshold h. What is left at a vertex is kept by its weight alone.

@@ -7,8 +7,8 @@ use borrow.Author.Needs.{needs}
 use lib.Bits.{bitOr}
 use lib.ListN.{length, getD}
 use Rattle.lists.proofs.Put.{only-first-length}
-use Rattle.edges.specs.Around.{arcWeight}
 use Rattle.steps.specs.Steps.{stepWeight}
+use Rattle.steps.proofs.SweepUnderway.{left-small, weight-small}
 use Rattle.near.proofs.PartsMarking.{Marking, AtStep, marking-first, marking-done, room-alone, marking-alone, room-full, marking-full, marking-joins}
 use Rattle.near.proofs.parts.near_parts.Statement.{statement}
 use Rattle.near.proofs.parts.near_parts.Tie as tie
@@ -40,12 +40,11 @@ module _ (c : tie.After-step-weight Inv-loop μ-loop) where
   above-inside = omega (arith, c .before .step-above .ensures, start .pre .countable .inside .above (loop .loop .i) more)
 
   -- a weight is below 2 to the 32nd, and so is what is left at a vertex
-  weight-small : stepWeight step < 4294967296
-  unfolding arcWeight
-  weight-small = omega (arith, c .before .before .before .shared-slice-known3 .given (loop .loop .i))
+  small-weight : stepWeight step < 4294967296
+  small-weight = weight-small step (omega (arith, c .before .before .before .shared-slice-known3 .given (loop .loop .i)))
 
-  left-small : (u : ℕ) → getD (loop .loop .left) u 0 < 4294967296
-  left-small u = omega (arith, loop .loop .inv .light u, start .pre .countable .threshold-most)
+  small-left : (u : ℕ) → getD (loop .loop .left) u 0 < 4294967296
+  small-left = left-small (loop .loop .inv .light) (start .pre .countable .threshold-most)
 
 -- At the roots near the child's piece: what the laws on a step ask.
 module _ (c : tie.After-shared-slice-known5 Inv-loop μ-loop) where
@@ -109,7 +108,7 @@ array-read-piece : tie.Need-array-read-piece Inv-loop μ-loop
 array-read-piece c = child-inside c
 
 add-piece : tie.Need-add-piece Inv-loop μ-loop
-add-piece c = omega (arith, c .step-weight .ensures, weight-small c, left-small c (c .before .before .step-child .result))
+add-piece c = omega (arith, c .step-weight .ensures, small-weight c, small-left c (c .before .before .step-child .result))
 
 mul-own : tie.Need-mul-own Inv-loop μ-loop
 mul-own c = omega (arith, child-inside c)
@@ -154,7 +153,7 @@ array-read-bunch : tie.Need-array-read-bunch Inv-loop μ-loop
 array-read-bunch c = above-inside (read (c .before))
 
 add-bunch : tie.Need-add-bunch Inv-loop μ-loop
-add-bunch c = let d = read (c .before) in omega (arith, left-small d (above (c .before)), c .if1 .left, start d .pre .countable .threshold-most)
+add-bunch c = let d = read (c .before) in omega (arith, small-left d (above (c .before)), c .if1 .left, start d .pre .countable .threshold-most)
 
 mul-both : tie.Need-mul-both Inv-loop μ-loop
 mul-both c = omega (arith, above-inside (read (c .before)))

@@ -5,8 +5,8 @@ use mathlib.Core.Path.{_≡_, refl}
 use native.Mathlib.Omega.{arith}
 use borrow.Author.Needs.{needs}
 use lib.ListN.{length, getD}
-use Rattle.edges.specs.Around.{arcWeight}
 use Rattle.steps.specs.Steps.{stepChild, stepAbove, stepWeight}
+use Rattle.steps.proofs.SweepUnderway.{left-small, weight-small}
 use Rattle.steps.proofs.PartsCounting.{Counting, none-counted, counting-first, counting-done, counting-alone, counting-full, counting-joins}
 use Rattle.steps.proofs.count.count_parts.Statement.{statement}
 use Rattle.steps.proofs.count.count_parts.Tie as tie
@@ -47,12 +47,11 @@ module _ (c : tie.After-step-child Inv-loop μ-loop) where
   piece-is = cc (c .before .step-weight .ensures, c .step-child .ensures)
 
   -- a weight is below 2 to the 32nd, and so is what is left at a vertex
-  weight-small : stepWeight step < 4294967296
-  unfolding arcWeight
-  weight-small = omega (arith, c .before .before .shared-slice-known2 .given (loop .loop .i))
+  small-weight : stepWeight step < 4294967296
+  small-weight = weight-small step (omega (arith, c .before .before .shared-slice-known2 .given (loop .loop .i)))
 
-  left-small : (u : ℕ) → getD (loop .loop .left) u 0 < 4294967296
-  left-small u = omega (arith, loop .loop .inv .light u, start .pre .threshold-most)
+  small-left : (u : ℕ) → getD (loop .loop .left) u 0 < 4294967296
+  small-left = left-small (loop .loop .inv .light) (start .pre .threshold-most)
 
 -- At the bunch of the vertex above.
 module _ (c : tie.After-step-above Inv-loop μ-loop) where
@@ -87,7 +86,7 @@ array-read-piece : tie.Need-array-read-piece Inv-loop μ-loop
 array-read-piece c = omega (arith, c .step-child .ensures, child-inside c)
 
 add-piece : tie.Need-add-piece Inv-loop μ-loop
-add-piece c = omega (arith, c .before .step-weight .ensures, weight-small c, left-small c (c .step-child .result))
+add-piece c = omega (arith, c .before .step-weight .ensures, small-weight c, small-left c (c .step-child .result))
 
 add-i : tie.Need-add-i Inv-loop μ-loop
 add-i c = search needs
@@ -111,7 +110,7 @@ array-read-bunch : tie.Need-array-read-bunch Inv-loop μ-loop
 array-read-bunch c = inside c
 
 add-bunch : tie.Need-add-bunch Inv-loop μ-loop
-add-bunch c = let d = child c in omega (arith, left-small d (c .step-above .result), c .before .if2 .left, start d .pre .threshold-most)
+add-bunch c = let d = child c in omega (arith, small-left d (c .step-above .result), c .before .if2 .left, start d .pre .threshold-most)
 
 add-parts-2 : tie.Need-add-parts-2 Inv-loop μ-loop
 add-parts-2 c = search needs
