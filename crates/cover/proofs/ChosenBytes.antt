@@ -1,7 +1,7 @@
 -- The bytes of chosen trees, as they are written: the counts, the starts, the tree numbers and the edges, one behind the other.
 -- Assumes nothing.
 use Prim.Native.Nat.{ℕ, suc, _+_, _*_, _^_, _≤_, _<_}
-use mathlib.Core.Path.{_≡_, refl, sym, ap, ap₂, subst}
+use mathlib.Core.Path.{_≡_, refl, sym, ap, ap₂, subst, _∙_}
 use mathlib.Core.List.{List, [], _∷_, _++_, map, List·Memᴰ·head, List·Memᴰ·tail}
 use native.Mathlib.Omega.{arith}
 use lib.ListN.{length, getD, replicate, length-append, length-replicate, length-map}
@@ -18,16 +18,19 @@ use Rattle.rules.specs.CoverBytes.{u16Bytes, u16List, entryTrees, entryEdges, e
 use Rattle.rules.specs.Held.{treeAt, treesAt}
 use Rattle.rules.proofs.Fields.{field-length, fields-length}
 use Rattle.cover_laws.proofs.Writing.{length-encode}
-use Rattle.cover.specs.Chosen.{startsAt, edgesAt, sizeAt, entryCount, treeNumbers, IsHeld, Readable, AllHeld, Writable, EdgesWritable}
+use Rattle.cover.specs.Chosen.{startsAt, edgesAt, sizeAt, entryCount, treeNumbers, IsHeld, Readable, EdgesOf, AllHeld, Writable, EdgesWritable}
+
+-- The number of a tree that is held, where it is read, and its edges, where they are read by that.
+pub held-readable : {bounds edges : List ℕ} {c r : ℕ} → IsHeld bounds edges c → Reads c (2 ^ 16) r → Readable bounds edges r
+held-readable {bounds} {edges} held read = record { held = subst (λ c. IsHeld bounds edges c) (sym (read .is)) held; small = omega (arith, read .small) }
+
+pub held-edges : {bounds edges taken : List ℕ} {c n r : ℕ} → Reads c n r → EdgesOf bounds edges r taken → taken ≡ segment bounds edges c
+held-edges {bounds} {edges} read of = of .is ∙ ap (segment bounds edges) (read .is)
 
 -- The number of a chosen tree, where it is read.
 pub chosen-readable : (bounds edges chosen : List ℕ) (j : ℕ) {r : ℕ} → AllHeld bounds edges chosen → j < length chosen
     → Reads (getD chosen j 0) (2 ^ 16) r → Readable bounds edges r
-chosen-readable bounds edges chosen j held h read =
-    record {
-      held = subst (λ c. IsHeld bounds edges c) (sym (read .is)) (held (getD chosen j 0) (at-place 0 chosen j h));
-      small = omega (arith, read .small);
-    }
+chosen-readable bounds edges chosen j held h read = held-readable (held (getD chosen j 0) (at-place 0 chosen j h)) read
 
 -- The tree numbers, tree by tree, and how many there are.
 module _ (bounds : List ℕ) where

@@ -5,7 +5,7 @@ ghost use Rattle.graph.specs.Bytes.{Reads};
 ghost use Rattle.cover.specs.Chosen.{sizeAt, Readable, EdgesOf};
 
 // The number at a place; 0 past the last.
-pub(crate) fn number_at(xs: &[u16], i: usize) -> usize
+pub fn number_at(xs: &[u16], i: usize) -> usize
     ensures { λ r. ⌜ Reads (getD (now (xs .entry)) i 0) (2 ^ 16) r ⌝ }
 {
     if xs.len() <= i {

@@ -2,12 +2,11 @@
 // line"). The pieces stand as the splitting left them; those chosen are laid out again with their edges rising.
 // The words of the contracts stand in specs/ and in the definitions of the crate `rules`.
 use cover::index::edges_at;
+use cover::index::number_at;
 use cover::write::write_cover;
 use edges::index::wide;
 use pieces::chosen::sort_chosen;
-use pieces::pieces::element_at;
 use pieces::pieces::number_up;
-use pieces::pieces::piece_edges;
 use pieces::pieces::put_risen;
 use replies::Reply;
 use unions::deficient::count_allowed;
@@ -38,7 +37,7 @@ fn take_starts(starts: &[u16], chosen: &[u16], laid: &mut [u16])
 {
     let mut i = 0;
     while i < chosen.len() {
-        laid[i] = element_at(starts, wide(chosen[i]));
+        laid[i] = number_at(starts, wide(chosen[i])) as u16;
         i += 1;
     }
 }
@@ -53,7 +52,7 @@ fn lay_edges(cuts: &[u16], flat: &[u16], chosen: &[u16], bounds: &mut [u16], edg
     let mut at = 0;
     let mut i = 0;
     while i < chosen.len() {
-        at = put_risen(piece_edges(cuts, flat, chosen[i]), edges, at);
+        at = put_risen(edges_at(cuts, flat, wide(chosen[i])), edges, at);
         i += 1;
         bounds[i] = at as u16;
     }
@@ -66,7 +65,7 @@ fn take_keys(bounds: &[u16], edges: &[u16], t: usize, keys: &mut [u32])
 {
     let mut i = 0;
     while i < t {
-        keys[i] = wide(element_at(edges_at(bounds, edges, i), 0)) as u32;
+        keys[i] = number_at(edges_at(bounds, edges, i), 0) as u32;
         i += 1;
     }
 }

@@ -1,8 +1,8 @@
 // The roots near each of several trees that three arrays hold, by those near each vertex. So an answer, which has its parts split, marks the roots
 // near them.
+use cover::index::edges_at;
+use cover::index::number_at;
 use edges::index::wide;
-use pieces::pieces::element_at;
-use pieces::pieces::piece_edges;
 ghost use Rattle.graph.specs.Bytes.{graphOf};
 ghost use Rattle.pieces.specs.Pieces.{treeOf};
 ghost use Rattle.near.specs.Held.{PieceAsked, NearTree, NearPiecesAsked, NearPieces};
@@ -40,9 +40,9 @@ pub fn near_pieces(
 {
     let mut i = 0;
     while i < places.len() {
-        let c = places[i];
-        let start = wide(element_at(starts, wide(c)));
-        words[i] = near_piece(b, near, start, piece_edges(cuts, flat, c));
+        let c = wide(places[i]);
+        let start = number_at(starts, c);
+        words[i] = near_piece(b, near, start, edges_at(cuts, flat, c));
         i += 1;
     }
 }

@@ -1,35 +1,11 @@
-// Lists of edges held one after the other in one array, cut by bounds: reading the list of a number, putting a list from a place on, and
-// writing runs of numbers.
-use cover::index::edges_at;
-use edges::index::wide;
+// Lists of edges held one after the other in one array: putting a list from a place on, and writing runs of numbers.
 use order::order::rise_edges;
-ghost use mathlib.Core.Path.{_≡_};
 ghost use Prim.Native.Nat.{_+_, _-_, _≤_};
-ghost use lib.ListN.{length, getD};
+ghost use lib.ListN.{length};
 ghost use Rattle.lists.specs.Count.{below, from};
 ghost use Rattle.lists.specs.Put.{PutTo};
-ghost use Rattle.lists.specs.Segments.{segment};
 ghost use Rattle.lists.specs.Sort.{rise};
-ghost use Rattle.cover.specs.Chosen.{IsHeld};
 ghost use Rattle.pieces.specs.Pieces.{RunAsked, NumbersAsked};
-
-// The element at a place; 0 past the last.
-pub fn element_at(xs: &[u16], i: usize) -> u16
-    ensures { λ r. ⌜ r ≡ getD (now (xs .entry)) i 0 ⌝ }
-{
-    if xs.len() <= i {
-        return 0;
-    }
-    xs[i]
-}
-
-// The edges of piece c.
-pub fn piece_edges<'a>(cuts: &[u16], flat: &'a [u16], c: u16) -> &'a [u16]
-    requires { ⌜ IsHeld (now cuts) (now flat) c ⌝ }
-    ensures { λ r. ⌜ now r ≡ segment (now (cuts .entry)) (now (flat .entry)) c ⌝ }
-{
-    edges_at(cuts, flat, wide(c))
-}
 
 // Puts the edges into the array from a place on, in their order. Says where they end.
 fn put_edges(edges: &[u16], out: &mut [u16], at: usize) -> usize

@@ -1,9 +1,9 @@
 // The trees of an accepted rooted trial (document 01, step 6), made root by root, laid one after the other, and written as a cover's bytes.
 use crate::tree::rooted_tree;
 use cover::heaviest::heaviest_chosen;
+use cover::index::number_at;
 use cover::write::write_cover;
 use edges::index::wide;
-use pieces::pieces::element_at;
 use pieces::pieces::number_up;
 ghost use lib.ListN.{length, getD};
 ghost use Rattle.graph.specs.Bytes.{graphOf};
@@ -34,7 +34,7 @@ fn put_tree(
 {
     let n = graph::vertex_count(b);
     let root = wide(roots[j]);
-    let left = element_at(lefts, j);
+    let left = number_at(lefts, j) as u16;
     let from = j * n;
     let to = from + n;
     let r = rooted_tree(

@@ -1,12 +1,12 @@
 // The tree of one root (document 01, step 6): "a tree is the union of its part if any, a shortest path to it, and what is left at the yard".
 // The union's edges are marked, kept in order, and put by rising number.
+use cover::index::edges_at;
+use cover::index::number_at;
 use distance::path_back;
 use distance_table::nearest::nearest_vertex;
 use edges::index::wide;
 use edges::sweep::mark_edges;
 use order::order::rise_edges;
-use pieces::pieces::element_at;
-use pieces::pieces::piece_edges;
 use unions::union::keep_union;
 ghost use Prim.Native.Nat.{_≤_};
 ghost use lib.ListN.{length};
@@ -37,7 +37,7 @@ fn mark_piece(cuts: &[u16], flat: &[u16], c: u16, marks: &mut [u8])
     requires { ⌜ PieceGiven (now cuts) (now flat) c (length (now marks)) ⌝ }
     ensures { λ _. ⌜ Marked (λ e. member e (segment (now (cuts .entry)) (now (flat .entry)) c)) (now (marks .entry)) (now (marks .exit)) ⌝ }
 {
-    mark_edges(piece_edges(cuts, flat, c), marks);
+    mark_edges(edges_at(cuts, flat, wide(c)), marks);
 }
 
 // Marks the edges of the path from vertex v back to the root.
@@ -101,17 +101,9 @@ fn mark_assigned(
     if places.len() <= i {
         return;
     }
-    let c = places[i];
-    let start = wide(element_at(starts, wide(c)));
-    mark_reach(
-        b,
-        dist,
-        last,
-        root,
-        start,
-        piece_edges(cuts, flat, c),
-        marks,
-    );
+    let c = wide(places[i]);
+    let start = number_at(starts, c);
+    mark_reach(b, dist, last, root, start, edges_at(cuts, flat, c), marks);
 }
 
 // The edges of root j's tree, written by rising number to the front of the array: of its part if it has one, a shortest path to it, and the

@@ -1,9 +1,9 @@
 // The pieces of the components as trees (document 01, step 7: "start is the lowest stop of the tree, and order is by start, then by smallest
 // line"). Piece i has the start starts[i] and the edges flat[cuts[i] .. cuts[i + 1]].
 use cover::index::edges_at;
+use cover::index::number_at;
 use edges::index::wide;
 use order::order::rise_edges;
-use pieces::pieces::element_at;
 ghost use mathlib.Core.Path.{_≡_};
 ghost use Prim.Native.Nat.{min};
 ghost use Rattle.graph.specs.Bytes.{graphOf};
@@ -84,7 +84,7 @@ fn piece_key(start: u16, cuts: &[u16], flat: &[u16], i: usize) -> u32
     ensures { λ r. ⌜ r ≡ keyOf (treeOf start (segment (now (cuts .entry)) (now (flat .entry)) i)) ⌝ }
 {
     let by_start = wide(start) * 65536;
-    (by_start + wide(element_at(edges_at(cuts, flat, i), 0))) as u32
+    (by_start + number_at(edges_at(cuts, flat, i), 0)) as u32
 }
 
 // The keys of the first k pieces.

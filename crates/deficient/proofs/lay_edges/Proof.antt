@@ -12,6 +12,7 @@ use Rattle.lists.specs.Sort.{rise}
 use Rattle.lists.proofs.Places.{at-place}
 use Rattle.lists.proofs.Put.{put-length}
 use Rattle.lists.proofs.Sorting.{rise-length}
+use Rattle.cover.proofs.ChosenBytes.{held-readable, held-edges}
 use Rattle.pieces.specs.Pieces.{Laid}
 use Rattle.deficient.specs.TooLowParts.{edgesOf}
 use Rattle.lists.proofs.SumLeft.{sum-next}
@@ -51,10 +52,13 @@ module _ (t : tie.In-loop Inv-loop μ-loop) where
 -- Where its edges are known.
 module _ (p : tie.After-put-risen-arg Inv-loop μ-loop) where
   abbrev t : tie.In-loop Inv-loop μ-loop
-  t = p .before .before .before
+  t = p .before .before .before .before
 
-  fits : t .before .loop .at + length (p .before .piece-edges .result .now) ≤ length (t .before .loop .edges)
-  fits = omega (arith, ap length (p .before .piece-edges .ensures), next t, t .before .loop .inv .left, t .before .loop .inv .edges-size, s t .pre .edges-fit)
+  taken : p .before .edges-at .result .now ≡ here t
+  taken = held-edges (p .before .before .wide .ensures) (p .before .edges-at .ensures)
+
+  fits : t .before .loop .at + length (p .before .edges-at .result .now) ≤ length (t .before .loop .edges)
+  fits = omega (arith, ap length taken, next t, t .before .loop .inv .left, t .before .loop .inv .edges-size, s t .pre .edges-fit)
 
 -- Where they are put.
 module _ (p : tie.After-put-risen Inv-loop μ-loop) where
@@ -62,7 +66,7 @@ module _ (p : tie.After-put-risen Inv-loop μ-loop) where
   turn = t (p .before)
 
   long : p .put-risen .result ≡ turn .before .loop .at + length (here turn)
-  long = omega (arith, p .put-risen .ensures .behind, rise-length (p .before .before .piece-edges .result .now), ap length (p .before .before .piece-edges .ensures))
+  long = omega (arith, p .put-risen .ensures .behind, rise-length (p .before .before .edges-at .result .now), ap length (taken (p .before)))
 
 slice-write-bounds : tie.Need-slice-write-bounds Inv-loop μ-loop
 slice-write-bounds c = search needs
@@ -78,14 +82,19 @@ loop-holds c =
       edges-size = refl;
     }
 
-mul-piece-edges : tie.Need-mul-piece-edges Inv-loop μ-loop
-mul-piece-edges c = search needs
+mul-wide : tie.Need-mul-wide Inv-loop μ-loop
+mul-wide c = search needs
 
-shared-slice-read-piece-edges : tie.Need-shared-slice-read-piece-edges Inv-loop μ-loop
-shared-slice-read-piece-edges c = search needs
+shared-slice-read-wide : tie.Need-shared-slice-read-wide Inv-loop μ-loop
+shared-slice-read-wide c = search needs
 
-piece-edges-requires : tie.Need-piece-edges-requires Inv-loop μ-loop
-piece-edges-requires c κs = s (c .before) .pre .held _ (at-place 0 (s (c .before) .args .chosen .now) (c .before .before .loop .i) (c .before .loop-test .taken))
+wide-requires : tie.Need-wide-requires Inv-loop μ-loop
+wide-requires c κs = search needs
+
+edges-at-requires : tie.Need-edges-at-requires Inv-loop μ-loop
+edges-at-requires c κs =
+    let t = c .before .before in
+    held-readable (s t .pre .held _ (at-place 0 (s t .args .chosen .now) (t .before .loop .i) (t .loop-test .taken))) (c .wide .ensures)
 
 put-risen-requires : tie.Need-put-risen-requires Inv-loop μ-loop
 put-risen-requires c κs = fits c
@@ -97,7 +106,7 @@ cast-bounds : tie.Need-cast-bounds Inv-loop μ-loop
 cast-bounds c =
     let p = c .before .before in
     let l = turn p .before in
-    omega (arith, long p, fits (p .before), ap length (p .before .before .piece-edges .ensures), l .loop .inv .edges-size, s (turn p) .pre .small)
+    omega (arith, long p, fits (p .before), ap length (taken (p .before)), l .loop .inv .edges-size, s (turn p) .pre .small)
 
 mul-bounds : tie.Need-mul-bounds Inv-loop μ-loop
 mul-bounds c = search needs
@@ -120,7 +129,7 @@ loop-again c =
     record {
       within = omega (arith, t .loop-test .taken);
       left = omega (arith, long p, next t, v .left);
-      laid = laid-more (v .laid) room (p .put-risen .ensures) (ap rise (p .before .before .piece-edges .ensures));
+      laid = laid-more (v .laid) room (p .put-risen .ensures) (ap rise (taken (p .before)));
       bounds-size = length-set (l .loop .bounds) (l .loop .i + 1) _ ∙ v .bounds-size;
       edges-size = put-length (p .put-risen .ensures .put) ∙ v .edges-size;
     }
@@ -150,9 +159,10 @@ lay-edges-spec =
     μ-loop
     slice-write-bounds
     loop-holds
-    mul-piece-edges
-    shared-slice-read-piece-edges
-    piece-edges-requires
+    mul-wide
+    shared-slice-read-wide
+    wide-requires
+    edges-at-requires
     put-risen-requires
     add-i
     cast-bounds

@@ -36,11 +36,8 @@ edges-at-requires : tie.Need-edges-at-requires Inv-loop μ-loop
 edges-at-requires c κs =
     record { held = s c .pre .held (l c .loop .i) (c .loop-test .taken); small = omega (arith, c .loop-test .taken, s c .pre .fits) }
 
-element-at-requires : tie.Need-element-at-requires Inv-loop μ-loop
-element-at-requires c κs = search needs
-
-wide-requires : tie.Need-wide-requires Inv-loop μ-loop
-wide-requires c κs = search needs
+number-at-requires : tie.Need-number-at-requires Inv-loop μ-loop
+number-at-requires c κs = search needs
 
 cast-keys : tie.Need-cast-keys Inv-loop μ-loop
 cast-keys c = search needs
@@ -49,7 +46,7 @@ mul-keys : tie.Need-mul-keys Inv-loop μ-loop
 mul-keys c = search needs
 
 slice-write-keys : tie.Need-slice-write-keys Inv-loop μ-loop
-slice-write-keys c = room (c .before .before .before)
+slice-write-keys c = room (c .before .before)
 
 add-i : tie.Need-add-i Inv-loop μ-loop
 add-i c = search needs
@@ -59,11 +56,11 @@ loop-less c = search needs
 
 loop-again : tie.Need-loop-again Inv-loop μ-loop
 loop-again c =
-    let e = c .before .before in
+    let e = c .before in
     let t = e .before in (
       omega (arith, t .loop-test .taken),
       set-more (l t .loop .inv .1) (room t)
-          (c .wide .ensures .is ∙ c .before .element-at .ensures ∙ ap (λ xs. getD xs 0 0) (e .edges-at .ensures .is) ∙ sym (head-at _)),
+          (c .number-at .ensures .is ∙ ap (λ xs. getD xs 0 0) (e .edges-at .ensures .is) ∙ sym (head-at _)),
     )
 
 same-length : tie.Need-same-length Inv-loop μ-loop
@@ -80,8 +77,7 @@ take-keys-spec =
     μ-loop
     loop-holds
     edges-at-requires
-    element-at-requires
-    wide-requires
+    number-at-requires
     cast-keys
     mul-keys
     slice-write-keys

@@ -35,8 +35,11 @@ shared-slice-read-wide c = search needs
 wide-requires : tie.Need-wide-requires Inv-loop μ-loop
 wide-requires c κs = search needs
 
-element-at-requires : tie.Need-element-at-requires Inv-loop μ-loop
-element-at-requires c κs = search needs
+number-at-requires : tie.Need-number-at-requires Inv-loop μ-loop
+number-at-requires c κs = search needs
+
+cast-laid : tie.Need-cast-laid Inv-loop μ-loop
+cast-laid c = search needs
 
 mul-laid : tie.Need-mul-laid Inv-loop μ-loop
 mul-laid c = search needs
@@ -55,7 +58,7 @@ loop-again c =
     let l = c .before .before .before .before in
     let a = l .before .before .before .before .args in
     let start : ℕ → ℕ = λ x. getD (a .starts .now) x 0 in
-    let read : start (getD (a .chosen .now) (l .loop .i) 0) ≡ c .element-at .result = sym (c .element-at .ensures ∙ ap start (c .before .wide .ensures .is)) in
+    let read : start (getD (a .chosen .now) (l .loop .i) 0) ≡ c .number-at .result = sym (c .number-at .ensures .is ∙ ap start (c .before .wide .ensures .is)) in
     record {
       within = omega arith;
       size = length-set (l .loop .laid) (l .loop .i) _ ∙ l .loop .inv .size;
@@ -82,7 +85,8 @@ take-starts-spec =
     mul-wide
     shared-slice-read-wide
     wide-requires
-    element-at-requires
+    number-at-requires
+    cast-laid
     mul-laid
     slice-write-laid
     add-i

@@ -8,7 +8,7 @@ use Rattle.lists.specs.Segments.{segment}
 use Rattle.graph.specs.Graph.{Graph}
 use Rattle.graph.specs.Bytes.{graphOf}
 use Rattle.rules.specs.Walk.{totalWeight}
-use Rattle.cover.proofs.ChosenBytes.{chosen-readable}
+use Rattle.cover.proofs.ChosenBytes.{held-edges, chosen-readable}
 use Rattle.cover.proofs.Weights.{heaviestOfFirst, chosen-none, chosen-next, chosen-all}
 use Rattle.cover.proofs.heaviest.heaviest_chosen.Statement.{statement}
 use Rattle.cover.proofs.heaviest.heaviest_chosen.Tie as tie
@@ -46,9 +46,7 @@ module _ (t : tie.After-edges-weight Inv-loop μ-loop) where
   r = t .before .before
 
   weighed : t .edges-weight .result ≡ totalWeight (g (s r)) (segment (s r .args .bounds .now) (s r .args .edges .now) (getD (s r .args .chosen .now) (turn r .loop .j) 0))
-  weighed =
-      t .edges-weight .ensures
-      ∙ ap (totalWeight (g (s r))) (t .before .edges-at .ensures .is ∙ ap (segment (s r .args .bounds .now) (s r .args .edges .now)) (r .number-at .ensures .is))
+  weighed = t .edges-weight .ensures ∙ ap (totalWeight (g (s r))) (held-edges (r .number-at .ensures) (t .before .edges-at .ensures))
 
   larger-is : max (turn r .loop .most) (t .edges-weight .result) ≡ heaviest (s r) (turn r .loop .j + 1)
   larger-is =

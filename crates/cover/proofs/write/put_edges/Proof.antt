@@ -1,7 +1,7 @@
 -- `cover::write::put_edges` meets its contract. The loop's invariant: the edges of the first j trees are put. The measure is how many
 -- trees are left. Assumes nothing.
 use Prim.Native.Nat.{ℕ, _-_, _<_}
-use mathlib.Core.Path.{_≡_, ap, _∙_}
+use mathlib.Core.Path.{_≡_}
 use mathlib.Core.List.{List}
 use native.Mathlib.Omega.{arith}
 use lib.ListN.{length, getD}
@@ -9,7 +9,7 @@ use Rattle.lists.specs.Segments.{segment}
 use Rattle.lists.proofs.EachPlace.{made-flat}
 use Rattle.cover.specs.Chosen.{Readable}
 use Rattle.cover.proofs.Writing.{FirstPut, none-put, first-length, next-room, next-put, all-put}
-use Rattle.cover.proofs.ChosenBytes.{chosen-readable, edges-length}
+use Rattle.cover.proofs.ChosenBytes.{held-edges, chosen-readable, edges-length}
 use Rattle.cover.proofs.write.put_edges.Statement.{statement}
 use Rattle.cover.proofs.write.put_edges.Tie as tie
 
@@ -46,7 +46,7 @@ module _ (t : tie.After-edges-at Inv-loop μ-loop) where
   r = t .before .before
 
   taken : t .edges-at .result .now ≡ segment (s r .args .bounds .now) (s r .args .edges .now) (tree r)
-  taken = t .edges-at .ensures .is ∙ ap (segment (s r .args .bounds .now) (s r .args .edges .now)) (r .number-at .ensures .is)
+  taken = held-edges (r .number-at .ensures) (t .edges-at .ensures)
 
 loop-holds : tie.Need-loop-holds Inv-loop μ-loop
 loop-holds c =

@@ -12,6 +12,7 @@ use Rattle.graph.specs.Graph.{Graph}
 use Rattle.graph.specs.Bytes.{graphOf}
 use Rattle.rules.specs.Held.{treeAt}
 use Rattle.pieces.specs.Pieces.{treeOf}
+use Rattle.cover.proofs.ChosenBytes.{held-readable, held-edges}
 use Rattle.near.specs.Held.{NearTree, TreeHeld}
 use Rattle.near.proofs.HeldWords.{Wording, wording-none, wording-more, wording-all}
 use Rattle.near.proofs.held.near_pieces.Statement.{statement}
@@ -48,33 +49,30 @@ module _ (t : tie.In-loop Inv-loop μ-loop) where
   room = omega (arith, t .loop-test .taken, s .pre .words-room, only-first-length (l .loop .inv .only))
 
 -- Where the tree's start was read.
-module _ (w : tie.After-wide2 Inv-loop μ-loop) where
+module _ (w : tie.After-number-at Inv-loop μ-loop) where
   abbrev turn : tie.In-loop Inv-loop μ-loop
-  turn = w .before .before .before .before
+  turn = w .before .before .before
 
-  start-is : w .wide2 .result ≡ getD (s turn .args .starts .now) (c₀ turn) 0
-  start-is = w .wide2 .ensures .is ∙ w .before .element-at .ensures ∙ ap (λ x. getD (s turn .args .starts .now) x 0) (w .before .before .wide .ensures .is)
+  start-is : w .number-at .result ≡ getD (s turn .args .starts .now) (c₀ turn) 0
+  start-is = w .number-at .ensures .is ∙ ap (λ x. getD (s turn .args .starts .now) x 0) (w .before .wide .ensures .is)
 
 loop-holds : tie.Need-loop-holds Inv-loop μ-loop
 loop-holds c = wording-none _ _ _ _ _ _ _
 
-mul-c : tie.Need-mul-c Inv-loop μ-loop
-mul-c c = search needs
+mul-wide : tie.Need-mul-wide Inv-loop μ-loop
+mul-wide c = search needs
 
-shared-slice-read-c : tie.Need-shared-slice-read-c Inv-loop μ-loop
-shared-slice-read-c c = search needs
+shared-slice-read-wide : tie.Need-shared-slice-read-wide Inv-loop μ-loop
+shared-slice-read-wide c = search needs
 
 wide-requires : tie.Need-wide-requires Inv-loop μ-loop
 wide-requires c κs = search needs
 
-element-at-requires : tie.Need-element-at-requires Inv-loop μ-loop
-element-at-requires c κs = search needs
+number-at-requires : tie.Need-number-at-requires Inv-loop μ-loop
+number-at-requires c κs = search needs
 
-wide-requires-2 : tie.Need-wide-requires-2 Inv-loop μ-loop
-wide-requires-2 c κs = search needs
-
-piece-edges-requires : tie.Need-piece-edges-requires Inv-loop μ-loop
-piece-edges-requires c κs = tree (turn c) .held
+edges-at-requires : tie.Need-edges-at-requires Inv-loop μ-loop
+edges-at-requires c κs = held-readable (tree (turn c) .held) (c .before .wide .ensures)
 
 near-piece-requires : tie.Need-near-piece-requires Inv-loop μ-loop
 near-piece-requires c κs =
@@ -99,7 +97,7 @@ loop-again c =
     let t = turn w in
     let a = s t .args in
     wording-more _ _ _ _ _ _ (l t .loop .inv) (t .loop-test .taken) (room t)
-    (the-tree (a .starts .now) (a .cuts .now) (a .flat .now) (c₀ t) (start-is w) (c .before .piece-edges .ensures) (c .near-piece .ensures))
+    (the-tree (a .starts .now) (a .cuts .now) (a .flat .now) (c₀ t) (start-is w) (held-edges (w .before .wide .ensures) (c .before .edges-at .ensures)) (c .near-piece .ensures))
 
 same-length : tie.Need-same-length Inv-loop μ-loop
 same-length c = omega (arith, only-first-length (c .before .loop .inv .only))
@@ -114,12 +112,11 @@ near-pieces-spec =
     Inv-loop
     μ-loop
     loop-holds
-    mul-c
-    shared-slice-read-c
+    mul-wide
+    shared-slice-read-wide
     wide-requires
-    element-at-requires
-    wide-requires-2
-    piece-edges-requires
+    number-at-requires
+    edges-at-requires
     near-piece-requires
     mul-words
     slice-write-words

@@ -18,7 +18,7 @@ abbrev came : tie.After-vertex-count → tie.Start
 came v = let d = v .before .before .before .before in let e = d .before .before .before .before in e .before .before .before .before .before
 
 -- Where the root and the number of its leftover are read.
-module _ (e : tie.After-element-at) where
+module _ (e : tie.After-number-at) where
   abbrev counted : tie.After-vertex-count
   counted = e .before .before .before
 
@@ -34,8 +34,8 @@ module _ (e : tie.After-element-at) where
   root-is : e .before .wide .result ≡ getD (s .args .roots .now) (s .args .j) 0
   root-is = e .before .wide .ensures .is
 
-  left-is : e .element-at .result ≡ getD (s .args .lefts .now) (s .args .j) 0
-  left-is = e .element-at .ensures
+  left-is : e .number-at .result ≡ getD (s .args .lefts .now) (s .args .j) 0
+  left-is = e .number-at .ensures .is
 
   -- The root's row lies in either array.
   in-table : s .args .j * n + n ≤ length (s .args .table .now)
@@ -56,8 +56,11 @@ shared-slice-read-wide c = search needs
 wide-requires : tie.Need-wide-requires
 wide-requires c κs = search needs
 
-element-at-requires : tie.Need-element-at-requires
-element-at-requires c κs = search needs
+number-at-requires : tie.Need-number-at-requires
+number-at-requires c κs = search needs
+
+cast-left : tie.Need-cast-left
+cast-left c = search needs
 
 mul-from : tie.Need-mul-from
 mul-from c = let h = in-table c in search needs
@@ -129,7 +132,8 @@ put-tree-spec =
     mul-wide
     shared-slice-read-wide
     wide-requires
-    element-at-requires
+    number-at-requires
+    cast-left
     mul-from
     add-to
     mul-rooted-tree

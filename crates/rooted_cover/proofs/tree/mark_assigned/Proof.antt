@@ -8,6 +8,7 @@ use borrow.Author.Needs.{needs}
 use Rattle.lists.specs.Member.{_∈_}
 use Rattle.lists.proofs.Places.{at-place}
 use Rattle.graph.specs.Graph.{Graph}
+use Rattle.cover.proofs.ChosenBytes.{held-readable, held-edges}
 use Rattle.rooted_cover.specs.Tree.{ReachGiven, ReachMarked, none, part}
 use Rattle.rooted_cover.proofs.RootUnion.{marked-none}
 use Rattle.rooted_cover.proofs.tree.mark_assigned.Statement.{statement}
@@ -37,11 +38,11 @@ module _ (e : tie.Else1) where
   of-places = at-place 0 places (e .before .place-with .result) inside
 
 -- Where the start of its piece was read.
-start-is : (w : tie.After-wide2) → let e = w .before .before .before .before in
-    w .wide2 .result ≡ getD (start e .args .starts .now) (getD (places e) (e .before .place-with .result) 0) 0
+start-is : (w : tie.After-number-at) → let e = w .before .before .before in
+    w .number-at .result ≡ getD (start e .args .starts .now) (getD (places e) (e .before .place-with .result) 0) 0
 start-is w =
-    let s = start (w .before .before .before .before) in
-    w .wide2 .ensures .is ∙ w .before .element-at .ensures ∙ ap (λ c. getD (s .args .starts .now) c 0) (w .before .before .wide .ensures .is)
+    let s = start (w .before .before .before) in
+    w .number-at .ensures .is ∙ ap (λ c. getD (s .args .starts .now) c 0) (w .before .wide .ensures .is)
 
 place-with-requires : tie.Need-place-with-requires
 place-with-requires c κs = search needs
@@ -52,29 +53,26 @@ returns c =
     let found = p .place-with .ensures in
     record { edges = []; are = none (λ i h. found .earlier i (omega (arith, c .if1 .taken))) refl; marks = marked-none _ }
 
-mul-c : tie.Need-mul-c
-mul-c c = search needs
+mul-wide : tie.Need-mul-wide
+mul-wide c = search needs
 
-shared-slice-read-c : tie.Need-shared-slice-read-c
-shared-slice-read-c c = search needs
+shared-slice-read-wide : tie.Need-shared-slice-read-wide
+shared-slice-read-wide c = search needs
 
 wide-requires : tie.Need-wide-requires
 wide-requires c κs = search needs
 
-element-at-requires : tie.Need-element-at-requires
-element-at-requires c κs = search needs
+number-at-requires : tie.Need-number-at-requires
+number-at-requires c κs = search needs
 
-wide-requires-2 : tie.Need-wide-requires-2
-wide-requires-2 c κs = search needs
-
-piece-edges-requires : tie.Need-piece-edges-requires
-piece-edges-requires c κs = start (c .before .before .before .before) .pre .held _ (of-places (c .before .before .before .before))
+edges-at-requires : tie.Need-edges-at-requires
+edges-at-requires c κs = let e = c .before .before .before in held-readable (start e .pre .held _ (of-places e)) (c .before .wide .ensures)
 
 mark-reach-requires : tie.Need-mark-reach-requires
 mark-reach-requires c κs =
     let w = c .before .before in
-    let e = w .before .before .before .before in
-    given-named (start-is w) (c .before .piece-edges .ensures) (start e .pre .reach _ (inside e) (e .before .place-with .ensures .here (inside e)))
+    let e = w .before .before .before in
+    given-named (start-is w) (held-edges (w .before .wide .ensures) (c .before .edges-at .ensures)) (start e .pre .reach _ (inside e) (e .before .place-with .ensures .here (inside e)))
 
 same-length : tie.Need-same-length
 same-length c = search needs
@@ -84,8 +82,8 @@ returns-2 c =
     let m = c .before .before in
     let p = m .before .before in
     let w = p .before in
-    let e = w .before .before .before .before in
-    let marked = marked-as (start-is w) (p .piece-edges .ensures) (m .mark-reach .ensures) in
+    let e = w .before .before .before in
+    let marked = marked-as (start-is w) (held-edges (w .before .wide .ensures) (p .edges-at .ensures)) (m .mark-reach .ensures) in
     record { edges = _; are = part _ (marked .vertex) (inside e) (e .before .place-with .ensures) (marked .nearest) refl; marks = marked .marks }
 
 pub mark-assigned-spec : {M : Type 1} → statement M
@@ -94,12 +92,11 @@ mark-assigned-spec =
     (tie.spec
     place-with-requires
     returns
-    mul-c
-    shared-slice-read-c
+    mul-wide
+    shared-slice-read-wide
     wide-requires
-    element-at-requires
-    wide-requires-2
-    piece-edges-requires
+    number-at-requires
+    edges-at-requires
     mark-reach-requires
     same-length
     returns-2)

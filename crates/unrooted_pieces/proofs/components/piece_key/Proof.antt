@@ -19,11 +19,8 @@ mul-by-start c = search needs
 edges-at-requires : tie.Need-edges-at-requires
 edges-at-requires c κs = search needs
 
-element-at-requires : tie.Need-element-at-requires
-element-at-requires c κs = search needs
-
-wide-requires-2 : tie.Need-wide-requires-2
-wide-requires-2 c κs = search needs
+number-at-requires : tie.Need-number-at-requires
+number-at-requires c κs = search needs
 
 add-result : tie.Need-add-result
 add-result c = search needs
@@ -34,11 +31,11 @@ cast-result c = search needs
 returns : tie.Need-returns
 unfolding smallestEdge
 returns c =
-    let e = c .before .before in
+    let e = c .before in
     let s = e .before .before .before .before .args in
     let edges = segment (s .cuts .now) (s .flat .now) (s .i) in
-    let first : c .wide2 .result ≡ headD edges 0 =
-    c .wide2 .ensures .is ∙ c .before .element-at .ensures ∙ ap (λ l. getD l 0 0) (e .edges-at .ensures .is) ∙ sym (head-at edges) in
+    let first : c .number-at .result ≡ headD edges 0 =
+    c .number-at .ensures .is ∙ ap (λ l. getD l 0 0) (e .edges-at .ensures .is) ∙ sym (head-at edges) in
     omega (arith, first, e .before .wide .ensures .is)
 
 pub piece-key-spec : {M : Type 1} → statement M
@@ -48,8 +45,7 @@ piece-key-spec =
     wide-requires
     mul-by-start
     edges-at-requires
-    element-at-requires
-    wide-requires-2
+    number-at-requires
     add-result
     cast-result
     returns)
