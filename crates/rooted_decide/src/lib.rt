@@ -7,7 +7,7 @@ use near::parts::near_parts;
 use near::rows::put_rows;
 use pieces::whole::light_forest;
 use pieces::whole::stop_at;
-use rooted_parts::parts::is_assigned;
+use rooted_parts::parts::assign_roots;
 use rooted_parts::within::roots_within;
 use steps::count::count_parts;
 ghost use mathlib.Core.Path.{_≡_};
@@ -62,7 +62,7 @@ fn few_assigned(b: &[u8], roots: &[u16], limit: u64, table: &[u32], walk: &[u64]
     put_rows(&parts[..p], k, &mut rows);
     let size = p * k;
     let mut out = [0u8; 32];
-    is_assigned(p, k, &rows[..size], &mut out)
+    assign_roots(p, k, &rows[..size], &mut out)
 }
 
 // Whether each part of the trial gets a root of its own, where every vertex is joined to a root. The parts are counted first: more than there are

@@ -40,8 +40,8 @@ fn place_pieces(
     part_places(&lefts[..roots.len()], places)
 }
 
-// Gives each of p parts a root of its own, or else marks a deficient set.
-pub fn is_assigned(p: usize, k: usize, rows: &[u8], out: &mut [u8]) -> bool
+// Gives each of p parts a root of its own, or else marks a deficient set. Says whether each has one.
+pub fn assign_roots(p: usize, k: usize, rows: &[u8], out: &mut [u8]) -> bool
     requires { ⌜ AssignAsked p k (now rows) (now out) ⌝ }
     ensures { λ r. ⌜ AssignDone p k (now (rows .entry)) (now (out .entry)) (now (out .exit)) r ⌝ }
 {
@@ -107,7 +107,7 @@ fn assign_parts(
     let k = roots.len();
     let size = parts * k;
     put_rows(&words[..parts], k, rows);
-    is_assigned(parts, k, &rows[..size], out)
+    assign_roots(parts, k, &rows[..size], out)
 }
 
 // The parts of a rooted trial where the edges within the limit join every vertex to a root, by the arcs of the whole forest and the distances

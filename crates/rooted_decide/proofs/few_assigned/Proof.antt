@@ -82,14 +82,14 @@ mul-size c = let h = small (q (c .before)) in search needs
 array-share-prefix-rows : tie.Need-array-share-prefix-rows
 array-share-prefix-rows c = let h = small (q (c .before)) in search needs
 
-slice-aggregate-is-assigned : tie.Need-slice-aggregate-is-assigned
-slice-aggregate-is-assigned c = let w = c .before .before in sym (taken (near (q w)) (put w) (room w))
+slice-aggregate-assign-roots : tie.Need-slice-aggregate-assign-roots
+slice-aggregate-assign-roots c = let w = c .before .before in sym (taken (near (q w)) (put w) (room w))
 
-slice-aggregate-is-assigned-2 : tie.Need-slice-aggregate-is-assigned-2
-slice-aggregate-is-assigned-2 c = search needs
+slice-aggregate-assign-roots-2 : tie.Need-slice-aggregate-assign-roots-2
+slice-aggregate-assign-roots-2 c = search needs
 
-is-assigned-requires : tie.Need-is-assigned-requires
-is-assigned-requires c κs =
+assign-roots-requires : tie.Need-assign-roots-requires
+assign-roots-requires c κs =
     let w = c .before .before .before in
     let t = s (q w) .pre .counted .ready .asked in
     let most : p (q w) ≤ 32 = omega (arith, few (q w), t .decidable .given .few) in
@@ -99,7 +99,7 @@ returns : tie.Need-returns
 returns c =
     let a = c .before in
     let w = a .before .before .before .before in
-    rows-assigned (near (q w)) (put w) (room w) (a .is-assigned .ensures) .assigned-is
+    rows-assigned (near (q w)) (put w) (room w) (a .assign-roots .ensures) .assigned-is
 
 pub few-assigned-spec : {M : Type 1} → statement M
 few-assigned-spec =
@@ -113,7 +113,7 @@ few-assigned-spec =
     put-rows-requires
     mul-size
     array-share-prefix-rows
-    slice-aggregate-is-assigned
-    slice-aggregate-is-assigned-2
-    is-assigned-requires
+    slice-aggregate-assign-roots
+    slice-aggregate-assign-roots-2
+    assign-roots-requires
     returns)

@@ -72,14 +72,14 @@ slice-aggregate-put-rows c = sym (many (c .before .before))
 put-rows-requires : tie.Need-put-rows-requires
 put-rows-requires c κs = let q = c .before .before .before in rw (many q) (s q .pre .rows-room)
 
-slice-reshare-prefix-is-assigned : tie.Need-slice-reshare-prefix-is-assigned
-slice-reshare-prefix-is-assigned c = search needs
+slice-reshare-prefix-assign-roots : tie.Need-slice-reshare-prefix-assign-roots
+slice-reshare-prefix-assign-roots c = search needs
 
-slice-aggregate-is-assigned : tie.Need-slice-aggregate-is-assigned
-slice-aggregate-is-assigned c = let w = c .before .before .before in sym (taken (near (q w)) (put w) (s (q w) .pre .rows-room))
+slice-aggregate-assign-roots : tie.Need-slice-aggregate-assign-roots
+slice-aggregate-assign-roots c = let w = c .before .before .before in sym (taken (near (q w)) (put w) (s (q w) .pre .rows-room))
 
-is-assigned-requires : tie.Need-is-assigned-requires
-is-assigned-requires c κs =
+assign-roots-requires : tie.Need-assign-roots-requires
+assign-roots-requires c κs =
     let w = c .before .before .before .before in
     let a = s (q w) .pre in
     let h = a .held in
@@ -95,7 +95,7 @@ returns : tie.Need-returns
 returns c =
     let i = c .before .before in
     let w = i .before .before .before .before .before in
-    rows-assigned (near (q w)) (put w) (s (q w) .pre .rows-room) (i .is-assigned .ensures)
+    rows-assigned (near (q w)) (put w) (s (q w) .pre .rows-room) (i .assign-roots .ensures)
 
 pub assign-parts-spec : {M : Type 1} → statement M
 assign-parts-spec =
@@ -107,9 +107,9 @@ assign-parts-spec =
     array-share-prefix-words
     slice-aggregate-put-rows
     put-rows-requires
-    slice-reshare-prefix-is-assigned
-    slice-aggregate-is-assigned
-    is-assigned-requires
+    slice-reshare-prefix-assign-roots
+    slice-aggregate-assign-roots
+    assign-roots-requires
     same-length
     same-length-2
     returns)

@@ -1,9 +1,9 @@
--- `rooted_parts::parts::is_assigned` meets its contract: an input as asked is not refused, and each arm says what its case says.
+-- `rooted_parts::parts::assign_roots` meets its contract: an input as asked is not refused, and each arm says what its case says.
 -- Assumes nothing.
 use borrow.Author.Needs.{needs}
 use Rattle.rooted_parts.proofs.NotRefused.{done-refused, done-assigned, done-deficient}
-use Rattle.rooted_parts.proofs.parts.is_assigned.Statement.{statement}
-use Rattle.rooted_parts.proofs.parts.is_assigned.Tie as tie
+use Rattle.rooted_parts.proofs.parts.assign_roots.Statement.{statement}
+use Rattle.rooted_parts.proofs.parts.assign_roots.Tie as tie
 
 -- The start, seen from the call.
 abbrev s₀ : tie.After-assign → tie.Start
@@ -39,8 +39,8 @@ same-length-3 c = search needs
 returns-3 : tie.Need-returns-3
 returns-3 c = let a = c .before .before .before .before in done-deficient (s₀ a .pre) (a .assign .ensures) (c .enum-told3 .given .1)
 
-pub is-assigned-spec : {M : Type 1} → statement M
-is-assigned-spec =
+pub assign-roots-spec : {M : Type 1} → statement M
+assign-roots-spec =
     tie.close
     (tie.spec
     assign-requires
