@@ -11,13 +11,13 @@ pub mod SweepUnderway
 pub mod StepSwept
 -- one pass over the steps tells the parts below a vertex
 pub mod StepsSwept
--- so the parts of all trees are told, and counted
+-- so the parts of all trees are told
 pub mod WalkSwept
 -- the vertices of the steps
 pub mod StepsInside
 -- the child-list walk that writes the steps below a vertex, under way
 pub mod StepsUnderway
--- writing the steps of all trees, under way
+-- writing the steps of all trees, under way; one pass tells their parts, and so counts them
 pub mod TreesUnderway
 -- counting the parts, under way
 pub mod PartsCounting

@@ -5,16 +5,17 @@ use mathlib.Core.Path.{_≡_, refl, sym, ap, _∙_}
 use mathlib.Core.List.{List, [], _∷_, _++_, append-assoc, append-nil}
 use native.Mathlib.Numerals.{add-one}
 use native.Mathlib.Omega.{arith}
-use lib.ListN.{length, drop, getD, length-set}
+use lib.ListN.{length, drop, getD, length-map, length-set}
 use lib.Seq.{drop-cons, drop-length}
 use Rattle.lists.specs.Put.{PutTo}
 use Rattle.lists.proofs.Put.{put-length, put-behind, put-to-none}
 use Rattle.split.specs.SplitBelow.{unvisited, passing}
+use Rattle.steps.specs.Touched.{nowhere, partsCounted}
 use Rattle.steps.specs.StepsBelow.{StepsFrom, no-roots, steps-root}
 use Rattle.steps.specs.WalkPut.{StepsAsked, StepsPut, WalkReady, WalkPut}
 use Rattle.split.proofs.Unvisited.{unvisited-fewer, unvisited-most}
 use Rattle.steps.proofs.StepsInside.{steps-inside}
-use Rattle.steps.proofs.WalkSwept.{walk-touched, walk-counted}
+use Rattle.steps.proofs.WalkSwept.{walk-touched}
 
 -- The steps of the first j roots' trees are written: whatever steps the other roots give, they stand behind them.
 pub record TreesUnderway (bounds arcs roots first walk₀ : List ℕ) (j : ℕ) (marks walk : List ℕ) (next : ℕ) : Type 0 where
@@ -40,6 +41,7 @@ module _ {bounds arcs roots first walk₀ : List ℕ} {j : ℕ} {marks walk : Li
     (ready : WalkReady bounds arcs roots first walk₀) where
   -- When all roots are done, the walk is written.
   pub trees-done : length roots ≤ j → WalkPut (length first) bounds arcs roots walk₀ walk next
+  unfolding partsCounted
   trees-done h =
       let q : j ≡ length roots = omega (arith, u .within) in
       let nothing : drop j roots ≡ [] = ap (λ k. drop k roots) q ∙ drop-length roots in
@@ -49,11 +51,8 @@ module _ {bounds arcs roots first walk₀ : List ℕ} {j : ℕ} {marks walk : Li
         put = u .put;
         of-graph =
             λ g edges around n-is.
-            record {
-              inside = steps-inside all (ready .asked .around .few);
-              counts = walk-counted around (sym n-is) (ready .none-marked) all;
-              touches = walk-touched around (sym n-is) (ready .none-marked) all;
-            };
+            let touches = walk-touched around (sym n-is) (ready .none-marked) all in
+            record { inside = steps-inside all (ready .asked .around .few); counts = λ H. ap length (touches H nowhere) ∙ simp length-map; touches = touches };
       }
 
   -- One root more: the steps below it may be written,

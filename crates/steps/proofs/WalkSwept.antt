@@ -1,5 +1,5 @@
--- One pass over the steps of all trees tells of each part that the rules split off whether the test holds at one of its vertices; so one pass counts
--- the parts. A root that has a mark already stands in an earlier tree, and nothing more is grown from it.
+-- One pass over the steps of all trees tells of each part that the rules split off whether the test holds at one of its vertices. A root that has a
+-- mark already stands in an earlier tree, and nothing more is grown from it.
 -- Assumes nothing.
 use Prim.Native.Nat.{ℕ, zero, suc, _<_}
 use mathlib.Core.Path.{_≡_, refl, sym, ap, subst, _∙_}
@@ -8,7 +8,7 @@ use mathlib.Core.List.{List, [], _++_, map, append-nil, List·Memᴰ·head, List
 use mathlib.Core.Logic.{dite, ⊎-elim}
 use native.Mathlib.Decide.{ℕ-discrete}
 use native.Mathlib.Omega.{arith}
-use lib.ListN.{length, getD, replicate, length-map, length-set, length-replicate}
+use lib.ListN.{length, getD, replicate, length-set, length-replicate}
 use Rattle.lists.specs.Lists.{flat, member, any}
 use Rattle.lists.specs.Segments.{segment}
 use Rattle.lists.proofs.Member.{either}
@@ -19,7 +19,7 @@ use Rattle.rules.specs.Split.{Pieces, split, allParts}
 use Rattle.edges.specs.Around.{arcHead, Around}
 use Rattle.bunches.specs.Settles.{load}
 use Rattle.split.specs.SplitBelow.{unmarked, passing, done}
-use Rattle.steps.specs.Touched.{Sweep, sweep, nowhere, partsTouched, partsCounted}
+use Rattle.steps.specs.Touched.{Sweep, sweep, partsTouched}
 use Rattle.steps.specs.StepsBelow.{StepsBelow, steps-done, steps-past, steps-child, StepsFrom, no-roots, steps-root}
 use Rattle.split.proofs.Unvisited.{marks-kept, marked-now, unmarked-before}
 use Rattle.split.proofs.SplitAsRules.{MarksAre, Gives, node-as-rules}
@@ -116,7 +116,3 @@ module _ {g : Graph} {edges bounds arcs roots marks steps : List ℕ} (around : 
       (record { left = replicate 256 0; touched = replicate 256 false; parts = [] })
       (record { left = length-replicate {A = ℕ} 256 0; touched = length-replicate {A = Bool} 256 false })
       (λ u q. nothing-kept 256 u)
-
-  pub walk-counted : (H : ℕ) → partsCounted H steps ≡ length (allParts (map (split g H) (grow g edges roots)))
-  unfolding partsCounted
-  walk-counted H = ap length (walk-touched H nowhere) ∙ length-map (allParts (map (split g H) (grow g edges roots))) (partTouched g nowhere)
