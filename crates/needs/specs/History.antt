@@ -12,6 +12,7 @@ use lib.Dec.{ltb}
 use Rattle.lists.specs.Count.{below}
 use Rattle.lists.specs.Lists.{sumOf}
 use Rattle.lists.specs.Put.{OnlyFirst}
+use Rattle.lists.specs.Scratch.{Scratch}
 use Rattle.graph.specs.Graph.{Graph, oneEnd, otherEnd, weightOf}
 use Rattle.graph.specs.Bytes.{graphOf}
 use Rattle.rules.specs.Labels.{Labels, apart, mergeEdge}
@@ -85,6 +86,12 @@ pub record MergesAsked (b kept label made total until : List ℕ) : Type 0 where
   pub made-room : graphOf b .vertices ≤ length made
   pub made-none : (v : ℕ) → getD made v 0 ≡ 0
   pub none : getD total 0 0 ≡ 0
+
+-- At its end: it was recorded, and labels and merges were scratch.
+pub record AllMerged (g : Graph) (kept label label-after made made-after total total-after until until-after : List ℕ) : Type 0 where
+  pub written : HistoryWritten g kept total total-after until until-after
+  pub label-scratch : Scratch label label-after
+  pub made-scratch : Scratch made made-after
 
 -- What reading it asks: the first `light` merges are there, and neither they nor the vertices are too many or too heavy.
 pub record ReadAsked (n : ℕ) (total until : List ℕ) (light : ℕ) : Type 0 where

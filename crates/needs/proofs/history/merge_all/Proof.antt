@@ -134,9 +134,14 @@ returns : tie.Need-returns Inv-loop μ-loop
 returns c =
     let t = c .before in
     record {
-      history = recorded-all (valid t) (edges-kept t) (edges-few t) (room t) (t .loop .inv .0) (omega arith);
-      total-rest = t .loop .inv .1 .total-only;
-      until-rest = t .loop .inv .1 .until-only;
+      written =
+          record {
+            history = recorded-all (valid t) (edges-kept t) (edges-few t) (room t) (t .loop .inv .0) (omega arith);
+            total-rest = t .loop .inv .1 .total-only;
+            until-rest = t .loop .inv .1 .until-only;
+          };
+      label-scratch = same-length c;
+      made-scratch = same-length-2 c;
     }
 
 pub merge-all-spec : {M : Type 1} → statement M
