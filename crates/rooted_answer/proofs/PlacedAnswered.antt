@@ -44,13 +44,17 @@ module _ {b roots : List ℕ} {limit : ℕ} {order bounds arcs table lasts rows 
         joined = l .asked .joined;
       }
 
+  -- no more of them than there are vertices,
+  pub placed-few : {a : TrialArrays} {parts : ℕ} {assigned : Bool} → PartsPlaced (graphOf b) roots limit a parts assigned → parts ≤ graphOf b .vertices
+  placed-few placed =
+      omega (arith, parts-count (placed .pieces), rooted-parts-few (graphOf b) roots limit (l .asked .asked .prepared .decidable .given .graph .valid))
+
   -- and where they are, in rows no shorter than those lent, they may be answered.
   pub placed-given : {a : TrialArrays} {parts : ℕ} {assigned : Bool} → PartsPlaced (graphOf b) roots limit a parts assigned → length rows ≤ length (a .rows)
       → PlacedGiven b roots limit order table lasts a parts assigned edges-room room
   placed-given {parts = parts} placed large =
       let asked = l .asked .asked in
-      let d = asked .prepared .decidable in
-      let few : parts ≤ graphOf b .vertices = omega (arith, parts-count (placed .pieces), rooted-parts-few (graphOf b) roots limit (d .given .graph .valid)) in
+      let few : parts ≤ graphOf b .vertices = placed-few placed in
       record {
         cover =
             record {
