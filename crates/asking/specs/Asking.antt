@@ -5,6 +5,7 @@ use mathlib.Core.Path.{_≡_}
 use mathlib.Core.List.{List}
 use mathlib.Core.Option.{none}
 use lib.ListN.{length}
+use Rattle.lists.specs.Put.{OnlyFirst}
 use Rattle.graph.specs.Graph.{Graph, edgeCount}
 use Rattle.graph.specs.Bytes.{graphOf}
 use Rattle.graph.specs.Valid.{IsGraph}
@@ -23,7 +24,8 @@ use Rattle.asking.specs.declared.ask.Asked.{Asked}
 use Rattle.asking.specs.declared.ask.Asked.the-variants.{At, Best}
 use Rattle.answers.specs.Answers.{AnswerAsked}
 use Rattle.rooted_state.specs.Prepared.{RootsGiven}
-use Rattle.prepare.specs.Preparing.{Small, RootedRoom}
+use Rattle.prepare.specs.declared.Ready.{Ready}
+use Rattle.prepare.specs.Preparing.{Small, RootedRoom, RootedPrepared}
 
 -- The limit at which the answer is written.
 abbrev pub limitOf : Asked → Graph → cover.Crews → ℕ
@@ -63,6 +65,13 @@ pub record RootedLent (b roots : List ℕ) (asked : Asked) (order kept bounds al
   pub arrays : RootedRoom (graphOf b .vertices) (edgeCount (graphOf b)) (length roots) (length order) (length kept) (length bounds) (length all) (length arcs)
       (length table) (length lasts)
 
+-- It is answered, and the arrays hold what was prepared for it.
+pub record RootedAnswered (asked : Asked) (b roots order₀ order kept₀ kept bounds₀ bounds all₀ all arcs₀ arcs table₀ table lasts₀ lasts before after : List ℕ)
+    (r : Reply) : Type 0 where
+  pub answered : Answered asked (graphOf b) (cover.rooted roots) before after r
+  pub ready : Ready
+  pub prepared : RootedPrepared b roots order₀ order kept₀ kept bounds₀ bounds all₀ all arcs₀ arcs table₀ table lasts₀ lasts ready
+
 -- A question by crews with roots of which nothing is prepared yet, about a small graph.
 pub record RootedSmall (b roots : List ℕ) (asked : Asked) (room : ℕ) : Type 0 where
   pub question : RootedAsked b roots asked room
@@ -79,6 +88,13 @@ pub record UnrootedAsked (k : ℕ) (b : List ℕ) (asked : Asked) (room : ℕ) :
 pub record UnrootedLent (k : ℕ) (b : List ℕ) (asked : Asked) (keys spare order room : ℕ) : Type 0 where
   pub question : UnrootedAsked k b asked room
   pub for-order : RoomForOrder b keys spare order
+
+-- It is answered. Behind an element for each edge these arrays are as they came.
+pub record UnrootedAnswered (asked : Asked) (k : ℕ) (b keys₀ keys spare₀ spare order₀ order before after : List ℕ) (r : Reply) : Type 0 where
+  pub answered : Answered asked (graphOf b) (cover.unrooted k) before after r
+  pub keys-rest : OnlyFirst (edgeCount (graphOf b)) keys₀ keys
+  pub spare-rest : OnlyFirst (edgeCount (graphOf b)) spare₀ spare
+  pub order-rest : OnlyFirst (edgeCount (graphOf b)) order₀ order
 
 -- A question by crews without roots of which nothing is prepared yet, about at most 512 edges.
 pub record UnrootedSmall (k : ℕ) (b : List ℕ) (asked : Asked) (room : ℕ) : Type 0 where
