@@ -8,6 +8,7 @@ use lib.Dec.{eqb}
 use lib.ListN.{length}
 use Rattle.lists.specs.Count.{below}
 use Rattle.lists.specs.Put.{PutTo}
+use Rattle.lists.specs.Scratch.{Scratch}
 use Rattle.graph.specs.Bytes.{graphOf}
 use Rattle.rules.specs.Cover.{Crews, rooted, unrooted}
 use Rattle.rules.specs.RootedTrial.{Choices}
@@ -58,6 +59,11 @@ pub record TextAnswered (input before after : List ℕ) (r : ℕ) : Type 0 where
 pub record TextRoom (buf room : ℕ) : Type 0 where
   pub buffer : buf ≡ 32708
   pub enough : 65536 ≤ room
+
+-- The same, where the buffer for the cover is lent, as scratch.
+pub record TextAnsweredIn (input buf buf-after before after : List ℕ) (r : ℕ) : Type 0 where
+  pub answered : TextAnswered input before after r
+  pub buf-scratch : Scratch buf buf-after
 
 -- What the program's function promises on every input: the text, or nothing where there is too little room for any.
 pub record AnswerPromise (input before after : List ℕ) (r : ℕ) : Type 0 where
