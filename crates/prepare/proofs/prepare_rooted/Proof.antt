@@ -36,8 +36,15 @@ module _ (k : tie.After-keep-forest) where
   few-kept =
       let f = k .keep-forest .ensures in
       let roots = s .args .roots .now in
-      omega (arith, size, ap length (f .forest), ap length (f .in-order), length-take-le (k .keep-forest .result .edges) (k .keep-forest .last .1 .1 .1 .1 .0) (f .edges-room), f .edges-are,
-      length-within (kept-once g (together roots) (ordered g)) (λ e. kept-subset g (together roots) (ordered g)))
+      omega (
+        arith,
+        size,
+        ap length (f .forest),
+        ap length (f .in-order),
+        length-take-le (k .keep-forest .result .edges) (k .keep-forest .last .1 .1 .1 .1 .0) (f .edges-room),
+        f .edges-are,
+        length-within (kept-once g (together roots) (ordered g)) (λ e. kept-subset g (together roots) (ordered g)),
+      )
 
 prepare-distances-requires : tie.Need-prepare-distances-requires
 prepare-distances-requires c κs = search needs
