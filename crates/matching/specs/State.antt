@@ -78,7 +78,7 @@ Finding y allowed i owner (Root j) parts via from = Reached y allowed i owner pa
 Finding y allowed i owner (Nothing t) parts via from = Closed y allowed i owner parts t
 
 -- The search has ended. Beyond what its end says of them the arrays were scratch.
-pub record Searched (y : ℕ) (allowed : ℕ → ℕ → Bool) (i : ℕ) (owner : List ℕ) (r : Found) (parts parts-after via via-after from from-after : List ℕ) : Type 0 where
+pub record SearchEnded (y : ℕ) (allowed : ℕ → ℕ → Bool) (i : ℕ) (owner : List ℕ) (r : Found) (parts parts-after via via-after from from-after : List ℕ) : Type 0 where
   pub finding : Finding y allowed i owner r parts-after via-after from-after
   pub parts-scratch : Scratch parts parts-after
   pub via-scratch : Scratch via via-after
