@@ -5,6 +5,7 @@ use mathlib.Core.Path.{_≡_}
 use mathlib.Core.List.{List}
 use mathlib.Core.Option.{none}
 use lib.ListN.{length}
+use Rattle.lists.specs.Put.{OnlyFirst}
 use Rattle.graph.specs.Graph.{Graph, edgeCount}
 use Rattle.graph.specs.Valid.{Valid}
 use Rattle.rules.specs.Cover as cover
@@ -22,7 +23,8 @@ use Rattle.asking.specs.declared.ask.Asked.{Asked}
 use Rattle.asking.specs.declared.ask.Asked.the-variants.{At, Best}
 use Rattle.answers.specs.Answers.{AnswerAsked}
 use Rattle.rooted_state.specs.Prepared.{RootsGiven}
-use Rattle.prepare.specs.Preparing.{Small, RootedRoom}
+use Rattle.prepare.specs.declared.Ready.{Ready}
+use Rattle.prepare.specs.Preparing.{Small, RootedRoom, RootedPrepared}
 
 -- The limit at which the answer is written.
 abbrev pub limitOf : Asked → Graph → cover.Crews → ℕ
@@ -62,6 +64,13 @@ pub record RootedLent (g : Graph) (roots : List ℕ) (asked : Asked) (order kept
   pub arrays : RootedRoom (g .vertices) (edgeCount g) (length roots) (length order) (length kept) (length bounds) (length all) (length arcs)
       (length table) (length lasts)
 
+-- It is answered, and the arrays hold what was prepared for it.
+pub record RootedAnswered (asked : Asked) (g : Graph) (roots order₀ order kept₀ kept bounds₀ bounds all₀ all arcs₀ arcs table₀ table lasts₀ lasts before after : List ℕ)
+    (r : Reply) : Type 0 where
+  pub answered : Answered asked g (cover.rooted roots) before after r
+  pub ready : Ready
+  pub prepared : RootedPrepared g roots order₀ order kept₀ kept bounds₀ bounds all₀ all arcs₀ arcs table₀ table lasts₀ lasts ready
+
 -- A question by crews with roots of which nothing is prepared yet, about a small graph.
 pub record RootedSmall (g : Graph) (roots : List ℕ) (asked : Asked) (room : ℕ) : Type 0 where
   pub question : RootedAsked g roots asked room
@@ -78,6 +87,13 @@ pub record UnrootedAsked (k : ℕ) (g : Graph) (asked : Asked) (room : ℕ) : Ty
 pub record UnrootedLent (k : ℕ) (g : Graph) (asked : Asked) (keys spare order room : ℕ) : Type 0 where
   pub question : UnrootedAsked k g asked room
   pub for-order : RoomForOrder g keys spare order
+
+-- It is answered. Behind an element for each edge these arrays are as they came.
+pub record UnrootedAnswered (asked : Asked) (k : ℕ) (g : Graph) (keys₀ keys spare₀ spare order₀ order before after : List ℕ) (r : Reply) : Type 0 where
+  pub answered : Answered asked g (cover.unrooted k) before after r
+  pub keys-rest : OnlyFirst (edgeCount g) keys₀ keys
+  pub spare-rest : OnlyFirst (edgeCount g) spare₀ spare
+  pub order-rest : OnlyFirst (edgeCount g) order₀ order
 
 -- A question by crews without roots of which nothing is prepared yet, about at most 512 edges.
 pub record UnrootedSmall (k : ℕ) (g : Graph) (asked : Asked) (room : ℕ) : Type 0 where

@@ -8,7 +8,7 @@ use replies::Reply;
 ghost use lib.ListN.{length};
 ghost use Rattle.graph.specs.Bytes.{graphOf};
 ghost use Rattle.rules.specs.Cover.{rooted};
-ghost use Rattle.asking.specs.Asking.{Answered, RootedAsked, RootedLent, RootedSmall};
+ghost use Rattle.asking.specs.Asking.{Answered, RootedAsked, RootedLent, RootedAnswered, RootedSmall};
 ghost use Rattle.prepare.specs.Preparing.{SizeTold};
 
 // Prepares the question in the arrays that are lent, and answers it.
@@ -26,7 +26,10 @@ fn ask_rooted_in(
     buf: &mut [u8],
 ) -> Reply
     requires { ⌜ RootedLent (graphOf (now b)) (now roots) asked (now order) (now kept) (now bounds) (now all) (now arcs) (now table) (now lasts) (length (now buf)) ⌝ }
-    ensures { λ r. ⌜ Answered asked (graphOf (now (b .entry))) (rooted (now (roots .entry))) (now (buf .entry)) (now (buf .exit)) r ⌝ }
+    ensures { λ r. ⌜ RootedAnswered asked (graphOf (now (b .entry))) (now (roots .entry)) (now (order .entry)) (now (order .exit)) (now (kept .entry)) (now (kept .exit))
+        (now (bounds .entry)) (now (bounds .exit)) (now (all .entry)) (now (all .exit)) (now (arcs .entry)) (now (arcs .exit))
+        (now (table .entry)) (now (table .exit)) (now (lasts .entry)) (now (lasts .exit))
+        (now (buf .entry)) (now (buf .exit)) r ⌝ }
 {
     let ready = prepare_rooted(b, roots, order, kept, bounds, all, arcs, table, lasts);
     answer_asked(

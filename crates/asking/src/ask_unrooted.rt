@@ -7,7 +7,7 @@ use replies::Reply;
 ghost use lib.ListN.{length};
 ghost use Rattle.graph.specs.Bytes.{graphOf};
 ghost use Rattle.rules.specs.Cover.{unrooted};
-ghost use Rattle.asking.specs.Asking.{Answered, UnrootedAsked, UnrootedLent, UnrootedSmall};
+ghost use Rattle.asking.specs.Asking.{Answered, UnrootedAsked, UnrootedLent, UnrootedAnswered, UnrootedSmall};
 
 // Prepares the question, with the edges put in order in the arrays that are lent, and answers it.
 fn ask_unrooted_in(
@@ -20,7 +20,8 @@ fn ask_unrooted_in(
     buf: &mut [u8],
 ) -> Reply
     requires { ⌜ UnrootedLent k (graphOf (now b)) asked (length (now keys)) (length (now spare)) (length (now order)) (length (now buf)) ⌝ }
-    ensures { λ r. ⌜ Answered asked (graphOf (now (b .entry))) (unrooted k) (now (buf .entry)) (now (buf .exit)) r ⌝ }
+    ensures { λ r. ⌜ UnrootedAnswered asked k (graphOf (now (b .entry))) (now (keys .entry)) (now (keys .exit)) (now (spare .entry)) (now (spare .exit)) (now (order .entry)) (now (order .exit))
+        (now (buf .entry)) (now (buf .exit)) r ⌝ }
 {
     let mut kept = [0u16; 256];
     let mut total = [0u64; 256];

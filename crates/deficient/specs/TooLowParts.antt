@@ -1,12 +1,13 @@
 -- The parts of a set that admits no assignment, laid out and written (document 01, step 5: "too low, parts T, yards D").
 -- Assumes nothing.
-use Prim.Native.Nat.{ℕ, _*_, _≤_, _<_}
+use Prim.Native.Nat.{ℕ, _+_, _*_, _≤_, _<_}
 use mathlib.Core.Path.{_≡_}
 use mathlib.Core.List.{List, map, headD}
 use lib.ListN.{length, getD, take}
 use Rattle.lists.specs.Lists.{sumOf}
-use Rattle.lists.specs.Put.{PutTo}
+use Rattle.lists.specs.Put.{PutTo, OnlyFirst}
 use Rattle.lists.specs.Segments.{segment}
+use Rattle.lists.specs.Sort.{rise}
 use Rattle.graph.specs.Graph.{Graph}
 use Rattle.matching.specs.Assignment.{markedParts, allowedRoots}
 use Rattle.matching.specs.Input.{allowedAt}
@@ -14,6 +15,7 @@ use Rattle.rules.specs.CoverBytes.{encode}
 use Rattle.rules.specs.Held.{treesAt, risen}
 use Rattle.rules.specs.RootedTrial.{rootedParts, mayGo, chosenParts}
 use Rattle.cover.specs.Chosen.{IsHeld, AllHeld}
+use Rattle.pieces.specs.Pieces.{Laid}
 use Rattle.replies.specs.declared.Reply.{Reply}
 use Rattle.replies.specs.declared.Reply.the-variants.{Parts}
 use Rattle.deficient.specs.declared.Deficient.{Deficient}
@@ -29,6 +31,12 @@ pub record LayGiven (cuts flat chosen : List ℕ) (bounds-room edges-room : ℕ)
   pub edges-fit : edgesOf cuts flat chosen ≤ edges-room
   pub small : edges-room < 65536
 
+-- They are laid one piece after the other, each piece's rising. What stands behind them is as it came, and so are the bounds behind theirs.
+pub record EdgesLaid (cuts flat chosen bounds bounds-after edges edges-after : List ℕ) : Type 0 where
+  pub laid : Laid (λ i. rise (segment cuts flat (getD chosen i 0))) (length chosen) (getD bounds-after (length chosen) 0) bounds-after edges-after
+  pub bounds-rest : OnlyFirst (length chosen + 1) bounds bounds-after
+  pub edges-rest : OnlyFirst (edgesOf cuts flat chosen) edges edges-after
+
 -- What taking the keys of t trees asks: each is held, and there is room for the keys.
 pub record KeysGiven (bounds edges : List ℕ) (t room : ℕ) : Type 0 where
   pub held : (i : ℕ) → i < t → IsHeld bounds edges i
@@ -37,6 +45,11 @@ pub record KeysGiven (bounds edges : List ℕ) (t room : ℕ) : Type 0 where
 -- At the number of each tree stands its first edge.
 pub record Keyed (bounds edges : List ℕ) (t : ℕ) (keys : List ℕ) : Type 0 where
   pub are : (i : ℕ) → i < t → getD keys i 0 ≡ headD (segment bounds edges i) 0
+
+-- The keys were taken, and what stands behind them is as it came.
+pub record KeysTaken (bounds edges : List ℕ) (t : ℕ) (keys keys-after : List ℕ) : Type 0 where
+  pub keyed : Keyed bounds edges t keys-after
+  pub rest : OnlyFirst t keys keys-after
 
 -- What writing chosen pieces asks: each is held, they are fewer than 256 and have fewer than 256 edges, and the buffer is large enough.
 pub record ChosenGiven (cuts flat chosen : List ℕ) (room : ℕ) : Type 0 where

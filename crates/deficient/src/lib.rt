@@ -13,16 +13,13 @@ use unions::deficient::count_allowed;
 use unions::deficient::marked_places;
 ghost use mathlib.Core.List.{map};
 ghost use Prim.Native.Nat.{_≤_};
-ghost use lib.ListN.{length, getD};
+ghost use lib.ListN.{length};
 ghost use Rattle.lists.specs.Put.{PutTo};
-ghost use Rattle.lists.specs.Segments.{segment};
-ghost use Rattle.lists.specs.Sort.{rise};
 ghost use Rattle.rules.specs.CoverBytes.{encode};
 ghost use Rattle.rules.specs.Held.{treesAt, risen};
 ghost use Rattle.cover.specs.Chosen.{startsAt};
-ghost use Rattle.pieces.specs.Pieces.{Laid};
 ghost use Rattle.rules.specs.RootedTrial.{bySmallest};
-ghost use Rattle.deficient.specs.TooLowParts.{LayGiven, KeysGiven, Keyed, ChosenGiven, SetGiven, SetWritten, SetReplied};
+ghost use Rattle.deficient.specs.TooLowParts.{LayGiven, EdgesLaid, KeysGiven, KeysTaken, ChosenGiven, SetGiven, SetWritten, SetReplied};
 
 // How many parts the set has ("T"), and how many roots are allowed to them ("D").
 pub struct Deficient {
@@ -45,8 +42,7 @@ fn take_starts(starts: &[u16], chosen: &[u16], laid: &mut [u16])
 // The edges of the chosen pieces, each piece's rising, laid one piece after the other.
 fn lay_edges(cuts: &[u16], flat: &[u16], chosen: &[u16], bounds: &mut [u16], edges: &mut [u16])
     requires { ⌜ LayGiven (now cuts) (now flat) (now chosen) (length (now bounds)) (length (now edges)) ⌝ }
-    ensures { λ _. ⌜ Laid (λ i. rise (segment (now (cuts .entry)) (now (flat .entry)) (getD (now (chosen .entry)) i 0))) (length (now (chosen .entry)))
-        (getD (now (bounds .exit)) (length (now (chosen .entry))) 0) (now (bounds .exit)) (now (edges .exit)) ⌝ }
+    ensures { λ _. ⌜ EdgesLaid (now (cuts .entry)) (now (flat .entry)) (now (chosen .entry)) (now (bounds .entry)) (now (bounds .exit)) (now (edges .entry)) (now (edges .exit)) ⌝ }
 {
     bounds[0] = 0;
     let mut at = 0;
@@ -61,7 +57,7 @@ fn lay_edges(cuts: &[u16], flat: &[u16], chosen: &[u16], bounds: &mut [u16], edg
 // The key of each tree: its first edge, the smallest where they rise.
 fn take_keys(bounds: &[u16], edges: &[u16], t: usize, keys: &mut [u32])
     requires { ⌜ KeysGiven (now bounds) (now edges) t (length (now keys)) ⌝ }
-    ensures { λ _. ⌜ Keyed (now (bounds .entry)) (now (edges .entry)) t (now (keys .exit)) ⌝ }
+    ensures { λ _. ⌜ KeysTaken (now (bounds .entry)) (now (edges .entry)) t (now (keys .entry)) (now (keys .exit)) ⌝ }
 {
     let mut i = 0;
     while i < t {

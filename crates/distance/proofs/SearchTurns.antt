@@ -35,9 +35,9 @@ pub record Searching (n : ℕ) (bounds arcs : List ℕ) (root : ℕ) (dist₀ la
 
 module _ {n : ℕ} {bounds arcs : List ℕ} {root : ℕ} where
   -- The start.
-  pub searching-start : {dist₀ last₀ dist none wait low : List ℕ} {least key : ℕ} → Searchable n bounds arcs root dist₀ last₀ → Started n root dist₀ dist
+  pub searching-start : {dist₀ last₀ dist none wait low₀ low : List ℕ} {least key : ℕ} → Searchable n bounds arcs root dist₀ last₀ → Started n root dist₀ dist
       → length none ≡ 256 → ((v : ℕ) → v < 256 → getD none v 0 ≡ nobody) → key ≡ keyOf 0 root
-      → KeyPut root key none wait low → LeastFrom low 0 16 least → Searching n bounds arcs root dist last₀ least dist last₀ wait low
+      → KeyPut root key none wait low₀ low → LeastFrom low 0 16 least → Searching n bounds arcs root dist last₀ least dist last₀ wait low
   searching-start {last₀ = last₀} {dist = dist} {none = none} p s size all is put near = record {
     ready = record { sound = p .sound; root-inside = p .root-inside; dist-room = omega (arith, p .dist-room, only-first-length (s .rest)); last-room = p .last-room };
     blocks = put .blocks;
@@ -106,7 +106,7 @@ module _ {n : ℕ} {bounds arcs : List ℕ} {root : ℕ} {dist₀ last₀ : List
       open-now : Open n dist wait u
       open-now = (near .inside, λ q. absurd (near .waits q))
 
-      module _ {taken low-taken : List ℕ} (t : KeyPut u nobody wait taken low-taken) where
+      module _ {taken low-taken : List ℕ} (t : KeyPut u nobody wait taken low low-taken) where
         keyed-now : Keyed n dist taken
         keyed-now = rw (t .stored) (keyed-taken (k .keyed) (omega (arith, k .blocks .wait-size, few, near .inside)))
 

@@ -26,22 +26,24 @@ use Rattle.filed.proofs.JoinedByParents.{short-none, short-then}
 module _ (g : Graph) (c : List ℕ) (from to : ℕ) {start home : ℕ} {before after : List ℕ} (f : Found start before after home) where
   -- One that is not joined to it.
   pub run-apart : (k : ℕ) → from ≤ k → k < to → ((label : Labels) → Spells after label → label home ≡ label (oneEnd g (entryEdge c k)) → ⊥)
-      → RunJoined g c from to start before false
+      → {last : List ℕ} → Shortened after last → RunJoined g c from to start before last false
   unfolding joined
-  run-apart k h l d =
+  run-apart k h l d short =
       record {
         is = λ label w.
             sym (one-fails (λ e. joined label start (oneEnd g e)) (in-map (entryEdge c) (in-from from (to - from) h (omega arith)))
             (ne-eqb (label start) (label (oneEnd g (entryEdge c k))) (λ q. d label (f .short .spells label w) (f .same label w ∙ q))));
+        short = short-then (f .short) short;
       }
 
   -- Each joined to it.
   pub run-together : ((label : Labels) → Spells after label → (k : ℕ) → from ≤ k → k < to → label home ≡ label (oneEnd g (entryEdge c k)))
-      → RunJoined g c from to start before true
+      → {last : List ℕ} → Shortened after last → RunJoined g c from to start before last true
   unfolding joined
-  run-together same =
+  run-together same short =
       record {
         is = λ label w. sym (each-all (λ e. joined label start (oneEnd g e)) (runEdges c from to) (λ e m. one label w e (of-map (entryEdge c) (Count.from from (to - from)) m)));
+        short = short-then (f .short) short;
       }
     where
       one : (label : Labels) → Spells before label → (e : ℕ)
@@ -97,7 +99,7 @@ module _ (g : Graph) (c : List ℕ) (j from to : ℕ) {before after : List ℕ} 
   tree-loop q = sym (no-and (allJoined g tree) (sym (taken .free apart unjoined) ∙ q))
 
   -- They close none: whether they are joined to the start decides.
-  pub tree-joined : r ≡ true → {s : Bool} → RunJoined g c from to (startIn c j) after s → s ≡ treeRight g tree
+  pub tree-joined : r ≡ true → {s : Bool} {last : List ℕ} → RunJoined g c from to (startIn c j) after last s → s ≡ treeRight g tree
   unfolding allJoined
   tree-joined q {s} run =
       run .is (mergeAll g apart (runEdges c from to)) (taken .labels apart unjoined q)

@@ -7,14 +7,12 @@ use cover::read::entry_edge;
 use cover::read::start_in;
 use cover::read::trees_in;
 use cover::runs::run_end;
-ghost use mathlib.Core.Path.{_≡_};
 ghost use Prim.Native.Nat.{_≤_, _<_};
 ghost use Rattle.graph.specs.Bytes.{graphOf};
 ghost use Rattle.rules.specs.CoverBytes.{startIn, decode};
-ghost use Rattle.rules.specs.CheckCover.{treeRight, treesRight};
 ghost use Rattle.cover.specs.Runs.{runEdges};
 ghost use Rattle.filed.specs.Parents.{Joinable};
-ghost use Rattle.filed.specs.Trees.{RunTaken, RunJoined, TreeGiven, TreesGiven};
+ghost use Rattle.filed.specs.Trees.{RunTaken, RunJoined, TreeGiven, TreeTold, TreesGiven, TreesTold};
 
 // Joins the ends of the edges of a run of entries, one edge after the other, as long as they are not yet joined. Says whether none were.
 fn run_loop_free(b: &[u8], c: &[u8], from: usize, to: usize, parents: &mut [u8]) -> bool
@@ -34,7 +32,7 @@ fn run_loop_free(b: &[u8], c: &[u8], from: usize, to: usize, parents: &mut [u8])
 // Says whether each edge of a run of entries is joined to the start.
 fn run_joined(b: &[u8], c: &[u8], from: usize, to: usize, start: usize, parents: &mut [u8]) -> bool
     requires { ⌜ (start < graphOf (now b) .vertices) × Joinable (graphOf (now b)) (now parents) ⌝ }
-    ensures { λ r. ⌜ RunJoined (graphOf (now (b .entry))) (now (c .entry)) from to start (now (parents .entry)) r ⌝ }
+    ensures { λ r. ⌜ RunJoined (graphOf (now (b .entry))) (now (c .entry)) from to start (now (parents .entry)) (now (parents .exit)) r ⌝ }
 {
     let home = stands_for(parents, start);
     let mut i = from;
@@ -51,7 +49,8 @@ fn run_joined(b: &[u8], c: &[u8], from: usize, to: usize, start: usize, parents:
 // Says whether tree j, whose entries are the run, has no loop and no edge that is not joined to its start.
 fn tree_right(b: &[u8], c: &[u8], j: usize, from: usize, to: usize, parents: &mut [u8]) -> bool
     requires { ⌜ TreeGiven (graphOf (now b)) (now c) j from to (now parents) ⌝ }
-    ensures { λ r. ⌜ r ≡ treeRight (graphOf (now (b .entry))) (record { start = startIn (now (c .entry)) j; edges = runEdges (now (c .entry)) from to }) ⌝ }
+    ensures { λ r. ⌜ TreeTold (graphOf (now (b .entry))) (record { start = startIn (now (c .entry)) j; edges = runEdges (now (c .entry)) from to })
+        (now (parents .entry)) (now (parents .exit)) r ⌝ }
 {
     set_apart(parents);
     if !run_loop_free(b, c, from, to, parents) {
@@ -63,7 +62,7 @@ fn tree_right(b: &[u8], c: &[u8], j: usize, from: usize, to: usize, parents: &mu
 // Says whether every tree is so. The parents are scratch.
 pub fn trees_right(b: &[u8], c: &[u8], parents: &mut [u8]) -> bool
     requires { ⌜ TreesGiven (graphOf (now b)) (now c) (now parents) ⌝ }
-    ensures { λ r. ⌜ r ≡ treesRight (graphOf (now (b .entry))) (decode (now (c .entry))) ⌝ }
+    ensures { λ r. ⌜ TreesTold (graphOf (now (b .entry))) (decode (now (c .entry))) (now (parents .entry)) (now (parents .exit)) r ⌝ }
 {
     let t = trees_in(c);
     let mut from = 0;

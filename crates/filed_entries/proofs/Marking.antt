@@ -6,7 +6,7 @@ use mathlib.Core.Bool.{Bool, true}
 use mathlib.Core.List.{List}
 use mathlib.Core.Logic.{_⊎_, inl, inr, _↔_}
 use native.Mathlib.Omega.{arith}
-use lib.ListN.{length, set, length-set}
+use lib.ListN.{length, getD, set, length-set}
 use lib.Seq.{getD-set-same, getD-set-other}
 use lib.Dec.{eqb}
 use borrow.Author.Count.{below-none, below-more}
@@ -47,6 +47,14 @@ module _ (marks : List ℕ) (x : ℕ) where
         go (inl q) = rw q mark-here
         go (inr d) = getD-set-other marks x v 1 0 d ∙ p
 
+    -- What is not marked is as it came.
+    mark-rest : (v : ℕ) → (VertexMarked (set marks x 1) v → ⊥) → getD (set marks x 1) v 0 ≡ getD marks v 0
+    mark-rest v n = go (equal-or-not v x)
+      where
+        go : (v ≡ x) ⊎ (v ≡ x → ⊥) → getD (set marks x 1) v 0 ≡ getD marks v 0
+        go (inl q) = absurd (n (rw q mark-here))
+        go (inr d) = getD-set-other marks x v 1 0 d
+
   only-more : (g : Graph) (c : List ℕ) → HasTree g (decode c) x → OnlyCovered g c marks → OnlyCovered g c (set marks x 1)
   only-more g c new only v p = go (mark-of v p)
     where
@@ -80,7 +88,7 @@ module _ (g : Graph) (c : List ℕ) where
 
 -- Starts, one after the other.
 pub starts-none : (c before : List ℕ) → StartsMarked c 0 before before
-starts-none c before = record { starts = below-none _; only = λ g only. only }
+starts-none c before = record { starts = below-none _; only = λ g only. only; rest = λ v n. refl }
 
 module _ {c : List ℕ} {j : ℕ} {before after : List ℕ} (s : StartsMarked c j before after) where
   pub starts-more : length after ≡ length before → j < treesIn c → startIn c j < length before → StartsMarked c (j + 1) before (set after (startIn c j) 1)
@@ -90,14 +98,15 @@ module _ {c : List ℕ} {j : ℕ} {before after : List ℕ} (s : StartsMarked c 
       record {
         starts = below-more (λ k. VertexMarked (set after x 1) (startIn c k)) j (λ k m. mark-kept after x inside (startIn c k) (s .starts k m)) (mark-here after x inside);
         only = λ g only. only-more after x g c (start-covered g c j h) (s .only g only);
+        rest = λ v n. mark-rest after x inside v n ∙ s .rest v (λ p. n (mark-kept after x inside v p));
       }
 
   pub starts-all : treesIn c ≤ j → StartsMarked c (treesIn c) before after
-  starts-all h = record { starts = λ k l. s .starts k (omega arith); only = s .only }
+  starts-all h = record { starts = λ k l. s .starts k (omega arith); only = s .only; rest = s .rest }
 
 -- Ends, entry by entry.
 pub ends-none : (g : Graph) (c before : List ℕ) → EndsMarked g c 0 before before
-ends-none g c before = record { ends = below-none _; only = λ n only. only; kept = λ v p. p }
+ends-none g c before = record { ends = below-none _; only = λ n only. only; kept = λ v p. p; rest = λ v n. refl }
 
 module _ {g : Graph} {c : List ℕ} {i : ℕ} {before after : List ℕ} (s : EndsMarked g c i before after) where
   ends-more : length after ≡ length before → i < entriesIn c → oneEnd g (entryEdge c i) < length before → otherEnd g (entryEdge c i) < length before
@@ -118,6 +127,10 @@ module _ {g : Graph} {c : List ℕ} {i : ℕ} {before after : List ℕ} (s : End
             only-more once v g c (other-end-covered g c i h (named i h))
             (only-more after u g c (one-end-covered g c i h (named i h)) (s .only named only));
         kept = λ w p. kept w (s .kept w p);
+        rest = λ w n.
+            mark-rest once v inside-once w n
+            ∙ mark-rest after u inside w (λ p. n (mark-kept once v inside-once w p))
+            ∙ s .rest w (λ p. n (kept w p));
       }
 
   -- The same, where the ends were read.
@@ -130,7 +143,7 @@ module _ {g : Graph} {c : List ℕ} {i : ℕ} {before after : List ℕ} (s : End
       subst (λ (w : List ℕ). EndsMarked g c (i + 1) before w) (ap₂ (λ k l. set (set after k 1) l 1) (sym p) (sym q)) more
 
   pub ends-all : entriesIn c ≤ i → EndsMarked g c (entriesIn c) before after
-  ends-all h = record { ends = λ k l. s .ends k (omega arith); only = s .only; kept = s .kept }
+  ends-all h = record { ends = λ k l. s .ends k (omega arith); only = s .only; kept = s .kept; rest = s .rest }
 
 -- Where all starts and all ends are marked, every vertex that is covered is.
 module _ (g : Graph) (c marks : List ℕ) (starts : (j : ℕ) → j < treesIn c → VertexMarked marks (startIn c j))

@@ -11,6 +11,8 @@ pub mod InOrder
 pub mod Sort
 -- a list put into an array, with everything else as it came
 pub mod Put
+-- an array lent as scratch
+pub mod Scratch
 -- several lists in one array, cut by bounds
 pub mod Segments
 -- items put into buckets by counting and filling

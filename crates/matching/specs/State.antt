@@ -8,6 +8,7 @@ use mathlib.Core.Bool.{Bool, true, false}
 use mathlib.Core.List.{List}
 use lib.ListN.{length, getD, take}
 use Rattle.lists.specs.Put.{OnlyFirst}
+use Rattle.lists.specs.Scratch.{Scratch}
 use Rattle.matching.specs.declared.Answer.{Answer}
 use Rattle.matching.specs.declared.Answer.the-variants.{Refused, Assigned, Deficient}
 use Rattle.matching.specs.declared.path.Found.{Found}
@@ -76,6 +77,13 @@ abbrev pub Finding : (y : ℕ) (allowed : ℕ → ℕ → Bool) (i : ℕ) (owner
 Finding y allowed i owner (Root j) parts via from = Reached y allowed i owner parts via from j
 Finding y allowed i owner (Nothing t) parts via from = Closed y allowed i owner parts t
 
+-- The search has ended. Beyond what its end says of them the arrays were scratch.
+pub record SearchEnded (y : ℕ) (allowed : ℕ → ℕ → Bool) (i : ℕ) (owner : List ℕ) (r : Found) (parts parts-after via via-after from from-after : List ℕ) : Type 0 where
+  pub finding : Finding y allowed i owner r parts-after via-after from-after
+  pub parts-scratch : Scratch parts parts-after
+  pub via-scratch : Scratch via via-after
+  pub from-scratch : Scratch from from-after
+
 -- The roots can be exchanged along the path to root j.
 pub record Exchangeable (i j : ℕ) (parts via from owner roots : List ℕ) : Type 0 where
   pub is-root : j < 32
@@ -106,9 +114,10 @@ pub record Ready (p y i : ℕ) (bytes owner roots : List ℕ) : Type 0 where
   pub mirror : Mirror i owner roots
   pub may : May y (allowedAt bytes y) i roots
 
--- Part i has a root too, or else the first p bytes are a deficient set.
-pub record Placed (p y i : ℕ) (bytes : List ℕ) (placed : Bool) (before owner after : List ℕ) : Type 0 where
-  pub mirror : placed ≡ true → Mirror (i + 1) owner after
+-- Part i has a root too, or else the first p bytes are a deficient set and the owners are as they came.
+pub record Placed (p y i : ℕ) (bytes : List ℕ) (placed : Bool) (owner owner-after before after : List ℕ) : Type 0 where
+  pub mirror : placed ≡ true → Mirror (i + 1) owner-after after
+  pub owner-kept : placed ≡ false → owner-after ≡ owner
   pub may : placed ≡ true → May y (allowedAt bytes y) (i + 1) after
   pub set : placed ≡ false → IsDeficient p y (allowedAt bytes y) (take p after)
   pub rest : OnlyFirst p before after

@@ -32,7 +32,7 @@ fn place(
     out: &mut [u8],
 ) -> bool
     requires { ⌜ Ready p y i (now allowed) (now owner) (now out) ⌝ }
-    ensures { λ r. ⌜ Placed p y i (now (allowed .entry)) r (now (out .entry)) (now (owner .exit)) (now (out .exit)) ⌝ }
+    ensures { λ r. ⌜ Placed p y i (now (allowed .entry)) r (now (owner .entry)) (now (owner .exit)) (now (out .entry)) (now (out .exit)) ⌝ }
 {
     let mut parts = [0usize; 33];
     let mut via = [0usize; 33];

@@ -3,7 +3,7 @@
 // The parts reached stand in `parts`, in the order in which they were reached, with the root that each has in `via`.
 // `from` has, for each root reached, the place in `parts` of the part that reached it.
 ghost use Rattle.matching.specs.Input.{allowedAt};
-ghost use Rattle.matching.specs.State.{Searchable, Finding, Exchangeable, Exchanged};
+ghost use Rattle.matching.specs.State.{Searchable, SearchEnded, Exchangeable, Exchanged};
 use crate::input::allows;
 
 // No part has the root; no part has reached it. Parts and places are below it.
@@ -26,7 +26,8 @@ pub fn find(
     from: &mut [usize; 32],
 ) -> Found
     requires { ⌜ Searchable y i (now allowed) (now owner) (now parts) (now via) (now from) ⌝ }
-    ensures { λ r. ⌜ Finding y (allowedAt (now (allowed .entry)) y) i (now (owner .entry)) r (now (parts .exit)) (now (via .exit)) (now (from .exit)) ⌝ }
+    ensures { λ r. ⌜ SearchEnded y (allowedAt (now (allowed .entry)) y) i (now (owner .entry)) r (now (parts .entry)) (now (parts .exit))
+        (now (via .entry)) (now (via .exit)) (now (from .entry)) (now (from .exit)) ⌝ }
 {
     parts[0] = i;
     let mut t = 1;

@@ -13,6 +13,7 @@ use Rattle.lists.specs.Put.{OnlyFirst}
 use Rattle.lists.proofs.AfterStore.{at-or-not}
 use Rattle.lists.proofs.Bounds.{sum-most}
 use Rattle.lists.proofs.OneMore.{sum-first}
+use Rattle.lists.proofs.OnlyFirst.{only-first-none, only-first-store}
 use Rattle.lists.proofs.SumsAlike.{sum-zero}
 use Rattle.lists.proofs.TakeDrop.{take-more}
 use Rattle.graph.specs.Graph.{Graph, oneEnd, otherEnd, weightOf}
@@ -51,12 +52,14 @@ pub record Room (n : ℕ) (label made total until : List ℕ) : Type 0 where
   pub totals : 256 ≤ length total
   pub untils : 256 ≤ length until
 
--- The arrays are as long as they came, and of the history only the first m places changed.
-pub record Sizes (m : ℕ) (label₀ made₀ total₀ until₀ label made total until : List ℕ) : Type 0 where
+-- The arrays are as long as they came, and only the places of n vertices changed, and of the history the first m.
+pub record Sizes (n m : ℕ) (label₀ made₀ total₀ until₀ label made total until : List ℕ) : Type 0 where
   pub labels : length label ≡ length label₀
   pub mades : length made ≡ length made₀
   pub totals : length total ≡ length total₀
   pub untils : length until ≡ length until₀
+  pub label-only : OnlyFirst n label₀ label
+  pub made-only : OnlyFirst n made₀ made
   pub total-only : OnlyFirst m total₀ total
   pub until-only : OnlyFirst m until₀ until
 
@@ -114,6 +117,12 @@ module _ {g : Graph} (valid : Valid g) {kept : List ℕ} (k : AllKept g apart ke
 
       pub merged-only : (b : ℕ) → j + 1 < b → OnlyFirst b total total' × OnlyFirst b until until'
       merged-only = noted-only j asked (noted-of one-label other-label refl (m .noted))
+
+      pub merged-made : OnlyFirst (g .vertices) made made'
+      merged-made =
+          rw (m .noted .made-is)
+          (only-first-store (only-first-none (g .vertices) made) (getD label (oneEnd g e) 0) (j + 1)
+          (omega (arith, one-label, vertices .below (oneEnd g e) (one-end-below valid e))))
 
       noted : Noted (before (oneEnd g e)) (before (otherEnd g e)) (weightOf g e) j (at made) (at made') (at total) (at total') (at until) (at until')
       noted = noted-places j asked (noted-of one-label other-label refl (m .noted))

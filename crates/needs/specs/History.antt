@@ -69,6 +69,7 @@ pub record EdgeAsked (g : Graph) (e number : ℕ) (label made total until : List
 pub record EdgeMerged (g : Graph) (e number : ℕ) (label₀ label₁ made₀ made₁ total₀ total₁ until₀ until₁ : List ℕ) : Type 0 where
   pub noted : MergeNoted (getD label₀ (oneEnd g e) 0) (getD label₀ (otherEnd g e) 0) (weightOf g e) number made₀ made₁ total₀ total₁ until₀ until₁
   pub joined : (label : Labels) → Agrees (g .vertices) label₀ label → Agrees (g .vertices) label₁ (mergeEdge g label e)
+  pub label-rest : OnlyFirst (g .vertices) label₀ label₁
 
 -- What the history asks: a whole forest without roots, and room for 256 numbers.
 pub record HistoryAsked (g : Graph) (kept total until : List ℕ) : Type 0 where
@@ -84,6 +85,12 @@ pub record MergesAsked (g : Graph) (kept label made total until : List ℕ) : Ty
   pub made-room : g .vertices ≤ length made
   pub made-none : (v : ℕ) → getD made v 0 ≡ 0
   pub none : getD total 0 0 ≡ 0
+
+-- At its end: it was recorded, and of labels and merges no more changed than those of the vertices.
+pub record AllMerged (g : Graph) (kept label label-after made made-after total total-after until until-after : List ℕ) : Type 0 where
+  pub written : HistoryWritten g kept total total-after until until-after
+  pub label-rest : OnlyFirst (g .vertices) label label-after
+  pub made-rest : OnlyFirst (g .vertices) made made-after
 
 -- What reading it asks: the first `light` merges are there, and neither they nor the vertices are too many or too heavy.
 pub record ReadAsked (n : ℕ) (total until : List ℕ) (light : ℕ) : Type 0 where

@@ -10,7 +10,7 @@ ghost use mathlib.Core.Bool.{cond};
 ghost use Prim.Native.Nat.{_*_, _/_};
 ghost use lib.Dec.{ltb};
 ghost use Rattle.graph.specs.Bytes.{graphOf};
-ghost use Rattle.needs.specs.History.{neededBy, HistoryWritten, HistoryAsked, MergesAsked, NoteAsked, MergeNoted, EdgeAsked, EdgeMerged, ReadAsked};
+ghost use Rattle.needs.specs.History.{neededBy, HistoryWritten, HistoryAsked, MergesAsked, AllMerged, NoteAsked, MergeNoted, EdgeAsked, EdgeMerged, ReadAsked};
 
 // Notes a merge: of the components whose labels are a and c, by an edge of that weight. a stays the label.
 fn note_merge(
@@ -64,7 +64,8 @@ fn merge_all(
     until: &mut [u16],
 )
     requires { ⌜ MergesAsked (graphOf (now b)) (now kept) (now label) (now made) (now total) (now until) ⌝ }
-    ensures { λ _. ⌜ HistoryWritten (graphOf (now (b .entry))) (now (kept .entry)) (now (total .entry)) (now (total .exit)) (now (until .entry)) (now (until .exit)) ⌝ }
+    ensures { λ _. ⌜ AllMerged (graphOf (now (b .entry))) (now (kept .entry)) (now (label .entry)) (now (label .exit)) (now (made .entry)) (now (made .exit))
+        (now (total .entry)) (now (total .exit)) (now (until .entry)) (now (until .exit)) ⌝ }
 {
     let mut i = 0;
     while i < kept.len() {

@@ -10,8 +10,7 @@ use pieces::pieces::number_up;
 use pieces::whole::keep_whole;
 ghost use lib.ListN.{length};
 ghost use Rattle.graph.specs.Bytes.{graphOf};
-ghost use Rattle.distance_table.specs.Table.{Tabled};
-ghost use Rattle.prepare.specs.Preparing.{ForestAsked, ForestPrepared, DistancesAsked, RootedPreparable, RootedPrepared, UnrootedPreparable, UnrootedPrepared};
+ghost use Rattle.prepare.specs.Preparing.{ForestAsked, ForestPrepared, DistancesAsked, DistancesPrepared, RootedPreparable, RootedPrepared, UnrootedPreparable, UnrootedPrepared};
 
 // How many edges there are, and how many of them the whole forest has.
 pub struct Ready {
@@ -30,7 +29,8 @@ fn keep_forest(
     kept: &mut [u16],
 ) -> Ready
     requires { ⌜ ForestAsked (graphOf (now b)) (length (now keys)) (length (now spare)) (length (now order)) (length (now kept)) ⌝ }
-    ensures { λ r. ⌜ ForestPrepared (graphOf (now (b .entry))) (now (roots .entry)) (now (order .exit)) (now (kept .exit)) r ⌝ }
+    ensures { λ r. ⌜ ForestPrepared (graphOf (now (b .entry))) (now (roots .entry)) (now (keys .entry)) (now (keys .exit)) (now (spare .entry)) (now (spare .exit))
+        (now (order .entry)) (now (order .exit)) (now (kept .entry)) (now (kept .exit)) r ⌝ }
 {
     let mut label = [0u16; 256];
     let edges = order_edges(b, keys, spare, order);
@@ -50,7 +50,9 @@ fn prepare_distances(
     lasts: &mut [u32],
 )
     requires { ⌜ DistancesAsked (graphOf (now b)) (now roots) (length (now numbers)) (length (now bounds)) (length (now all)) (length (now table)) (length (now lasts)) ⌝ }
-    ensures { λ _. ⌜ Tabled (graphOf (now (b .entry))) (now (roots .entry)) (now (table .exit)) (now (lasts .exit)) ⌝ }
+    ensures { λ _. ⌜ DistancesPrepared (graphOf (now (b .entry))) (now (roots .entry)) (now (numbers .entry)) (now (numbers .exit))
+        (now (bounds .entry)) (now (bounds .exit)) (now (all .entry)) (now (all .exit))
+        (now (table .entry)) (now (table .exit)) (now (lasts .entry)) (now (lasts .exit)) ⌝ }
 {
     let m = graph::edge_count(b);
     number_up(m, numbers);
@@ -73,8 +75,9 @@ pub fn prepare_rooted(
     lasts: &mut [u32],
 ) -> Ready
     requires { ⌜ RootedPreparable (graphOf (now b)) (now roots) (now order) (now kept) (now bounds) (now all) (now arcs) (now table) (now lasts) ⌝ }
-    ensures { λ r. ⌜ RootedPrepared (graphOf (now (b .entry))) (now (roots .entry)) (now (order .exit)) (now (kept .exit)) (now (bounds .exit)) (now (arcs .exit))
-        (now (table .exit)) (now (lasts .exit)) r ⌝ }
+    ensures { λ r. ⌜ RootedPrepared (graphOf (now (b .entry))) (now (roots .entry)) (now (order .entry)) (now (order .exit)) (now (kept .entry)) (now (kept .exit))
+        (now (bounds .entry)) (now (bounds .exit)) (now (all .entry)) (now (all .exit)) (now (arcs .entry)) (now (arcs .exit))
+        (now (table .entry)) (now (table .exit)) (now (lasts .entry)) (now (lasts .exit)) r ⌝ }
 {
     prepare_distances(b, roots, order, bounds, all, table, lasts);
     let ready = keep_forest(b, roots, all, arcs, order, kept);
@@ -93,7 +96,9 @@ pub fn prepare_unrooted(
     until: &mut [u16],
 ) -> Ready
     requires { ⌜ UnrootedPreparable (graphOf (now b)) (now keys) (now spare) (now order) (now kept) (now total) (now until) ⌝ }
-    ensures { λ r. ⌜ UnrootedPrepared (graphOf (now (b .entry))) (now (order .exit)) (now (kept .exit)) (now (total .exit)) (now (until .exit)) r ⌝ }
+    ensures { λ r. ⌜ UnrootedPrepared (graphOf (now (b .entry))) (now (keys .entry)) (now (keys .exit)) (now (spare .entry)) (now (spare .exit))
+        (now (order .entry)) (now (order .exit)) (now (kept .entry)) (now (kept .exit))
+        (now (total .entry)) (now (total .exit)) (now (until .entry)) (now (until .exit)) r ⌝ }
 {
     let ready = keep_forest(b, &[], keys, spare, order, kept);
     record_merges(b, &kept[..ready.forest], total, until);

@@ -6,6 +6,7 @@ use mathlib.Core.Bool.{Bool, true, false, cond}
 use mathlib.Core.List.{List}
 use lib.ListN.{length}
 use Rattle.lists.specs.Put.{PutTo}
+use Rattle.lists.specs.Scratch.{Scratch}
 use Rattle.rules.specs.RootedTrial.{Choices}
 use Rattle.rules.specs.Reply as rules
 use Rattle.rules.specs.Search.{bestLimit}
@@ -50,6 +51,11 @@ pub record TextAnswered (input before after : List ℕ) (r : ℕ) : Type 0 where
 pub record TextRoom (buf room : ℕ) : Type 0 where
   pub buffer : buf ≡ leastRoom
   pub enough : 65536 ≤ room
+
+-- The same, where the buffer for the cover is lent, as scratch.
+pub record TextAnsweredIn (input buf buf-after before after : List ℕ) (r : ℕ) : Type 0 where
+  pub answered : TextAnswered input before after r
+  pub buf-scratch : Scratch buf buf-after
 
 -- What the program's function promises on every input: the text, or nothing where there is too little room for any.
 pub record AnswerPromise (input before after : List ℕ) (r : ℕ) : Type 0 where

@@ -9,7 +9,7 @@ use reply_text::reply::write_reply;
 ghost use mathlib.Core.Path.{_≡_};
 ghost use lib.ListN.{length};
 ghost use Rattle.rules.specs.Questions.{question, unknown as unknownIn, kindIn, isTrial};
-ghost use Rattle.question.specs.Question.{KnownAnswered, TextAnswered, TextRoom, AnswerPromise};
+ghost use Rattle.question.specs.Question.{KnownAnswered, TextAnsweredIn, TextRoom, AnswerPromise};
 
 // Whether the input is too short or too long, or the question unknown (41).
 fn unknown(input: &[u8]) -> bool
@@ -50,7 +50,7 @@ fn reply_to(asked: usize, k: usize, limit: u64, b: &[u8], buf: &mut [u8]) -> Rep
 // The text of the answer, with a buffer for the cover.
 fn answer_in(input: &[u8], buf: &mut [u8], out: &mut [u8]) -> usize
     requires { ⌜ TextRoom (length (now buf)) (length (now out)) ⌝ }
-    ensures { λ r. ⌜ TextAnswered (now (input .entry)) (now (out .entry)) (now (out .exit)) r ⌝ }
+    ensures { λ r. ⌜ TextAnsweredIn (now (input .entry)) (now (buf .entry)) (now (buf .exit)) (now (out .entry)) (now (out .exit)) r ⌝ }
 {
     if unknown(input) {
         return write_refused(41, out);

@@ -43,13 +43,17 @@ module _ {g : Graph} {roots : List ℕ} {limit : ℕ} {order bounds arcs table l
         joined = l .asked .joined;
       }
 
+  -- no more of them than there are vertices,
+  pub placed-few : {a : TrialArrays} {parts : ℕ} {assigned : Bool} → PartsPlaced g roots limit a parts assigned → parts ≤ g .vertices
+  placed-few placed =
+      omega (arith, parts-count (placed .pieces), rooted-parts-few g roots limit (l .asked .asked .prepared .decidable .given .valid))
+
   -- and where they are, in rows no shorter than those lent, they may be answered.
   pub placed-given : {a : TrialArrays} {parts : ℕ} {assigned : Bool} → PartsPlaced g roots limit a parts assigned → length rows ≤ length (a .rows)
       → PlacedGiven g roots limit order table lasts a parts assigned edges-room room
   placed-given {parts = parts} placed large =
       let asked = l .asked .asked in
-      let d = asked .prepared .decidable in
-      let few : parts ≤ g .vertices = omega (arith, parts-count (placed .pieces), rooted-parts-few g roots limit (d .given .valid)) in
+      let few : parts ≤ g .vertices = placed-few placed in
       record {
         cover =
             record {

@@ -6,11 +6,15 @@ use mathlib.Core.Bool.{Bool}
 use mathlib.Core.List.{List}
 use mathlib.Core.Option.{none}
 use lib.ListN.{length}
+use Rattle.lists.specs.Put.{OnlyFirst}
 use Rattle.graph.specs.Graph.{Graph}
+use Rattle.rules.specs.Cover.{rooted}
 use Rattle.rules.specs.Order.{ordered}
 use Rattle.rules.specs.Labels.{together}
 use Rattle.rules.specs.Forest.{keep}
 use Rattle.rules.specs.RootedTrial.{unjoinedAt}
+use Rattle.replies.specs.declared.Reply.{Reply}
+use Rattle.replies.specs.Replies.{Answers}
 use Rattle.rooted_state.specs.Placed.{TrialArrays, PartsPlaced, CoverReady}
 use Rattle.rooted_state.specs.Prepared.{Prepared}
 
@@ -43,3 +47,14 @@ pub record PlacedGiven (g : Graph) (roots : List ℕ) (limit : ℕ) (order table
   pub joined : unjoinedAt g roots limit ≡ none
   pub placed : PartsPlaced g roots limit a parts assigned
   pub rows-room : parts * length roots ≤ length (a .rows)
+
+-- The answer where the parts are placed. Behind an element for each vertex and each root the array of edges is as it came.
+pub record PlacedReplied (g : Graph) (roots : List ℕ) (limit : ℕ) (edges₀ edges before after : List ℕ) (r : Reply) : Type 0 where
+  pub answers : Answers g (rooted roots) limit before after r
+  pub edges-rest : OnlyFirst (length roots * g .vertices) edges₀ edges
+
+-- The answer where every vertex is joined to a root. So it is with the edges, and with the rows.
+pub record JoinedReplied (g : Graph) (roots : List ℕ) (limit : ℕ) (rows₀ rows edges₀ edges before after : List ℕ) (r : Reply) : Type 0 where
+  pub answers : Answers g (rooted roots) limit before after r
+  pub rows-rest : OnlyFirst (g .vertices * length roots) rows₀ rows
+  pub edges-rest : OnlyFirst (length roots * g .vertices) edges₀ edges

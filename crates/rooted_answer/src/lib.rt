@@ -13,7 +13,7 @@ ghost use lib.ListN.{length};
 ghost use Rattle.graph.specs.Bytes.{graphOf};
 ghost use Rattle.rules.specs.Cover.{rooted};
 ghost use Rattle.replies.specs.Replies.{Answers};
-ghost use Rattle.rooted_answer.specs.Answer.{RootedAnswerAsked, JoinedAsked, JoinedLent, JoinedSmall, PlacedGiven};
+ghost use Rattle.rooted_answer.specs.Answer.{RootedAnswerAsked, JoinedAsked, JoinedLent, JoinedReplied, JoinedSmall, PlacedGiven, PlacedReplied};
 ghost use Rattle.rooted_state.specs.Placed.{trialArrays};
 
 // The answer where the parts are placed: the cover where each has a root of its own, and otherwise a deficient set.
@@ -38,7 +38,7 @@ fn answer_placed(
     requires { ⌜ PlacedGiven (graphOf (now b)) (now roots) limit (now order) (now table) (now lasts)
         (trialArrays (now starts) (now cuts) (now flat) (now lefts) (now places) (now rows) (now out)) (placed .parts) (placed .assigned)
         (length (now edges)) (length (now buf)) ⌝ }
-    ensures { λ r. ⌜ Answers (graphOf (now (b .entry))) (rooted (now (roots .entry))) limit (now (buf .entry)) (now (buf .exit)) r ⌝ }
+    ensures { λ r. ⌜ PlacedReplied (graphOf (now (b .entry))) (now (roots .entry)) limit (now (edges .entry)) (now (edges .exit)) (now (buf .entry)) (now (buf .exit)) r ⌝ }
 {
     let k = roots.len();
     if placed.assigned {
@@ -79,7 +79,8 @@ fn answer_parts(
 ) -> Reply
     requires { ⌜ JoinedLent (graphOf (now b)) (now roots) limit (now order) (now bounds) (now arcs) (now table) (now lasts) (now rows) (length (now edges))
         (length (now buf)) ⌝ }
-    ensures { λ r. ⌜ Answers (graphOf (now (b .entry))) (rooted (now (roots .entry))) limit (now (buf .entry)) (now (buf .exit)) r ⌝ }
+    ensures { λ r. ⌜ JoinedReplied (graphOf (now (b .entry))) (now (roots .entry)) limit (now (rows .entry)) (now (rows .exit)) (now (edges .entry)) (now (edges .exit))
+        (now (buf .entry)) (now (buf .exit)) r ⌝ }
 {
     let mut starts = [0u16; 288];
     let mut cuts = [0u16; 289];

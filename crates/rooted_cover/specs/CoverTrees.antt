@@ -5,7 +5,7 @@ use mathlib.Core.Path.{_≡_}
 use mathlib.Core.Bool.{true}
 use mathlib.Core.List.{List, _++_}
 use lib.ListN.{length, getD, take}
-use Rattle.lists.specs.Put.{Put, PutTo}
+use Rattle.lists.specs.Put.{Put, PutTo, OnlyFirst}
 use Rattle.lists.specs.Segments.{segment, Bounded}
 use Rattle.graph.specs.Graph.{Graph}
 use Rattle.graph.specs.Valid.{Valid}
@@ -59,6 +59,12 @@ pub record TreesLaid (g : Graph) (table lasts roots : List ℕ) (a : PieceArrays
   pub inside : used ≤ length edges
   pub are : (h : ℕ) → h < i → RootTree g table lasts roots a out h (segment bounds edges h)
 
+-- The trees of all roots are laid. Of the bounds one more than there are roots may have changed, of the edges one for each vertex and each root.
+pub record RootsLaid (g : Graph) (table lasts roots : List ℕ) (a : PieceArrays) (out bounds bounds-after edges edges-after : List ℕ) : Type 0 where
+  pub laid : TreesLaid g table lasts roots a out (length roots) (getD bounds-after (length roots) 0) bounds-after edges-after
+  pub bounds-rest : OnlyFirst (length roots + 1) bounds bounds-after
+  pub edges-rest : OnlyFirst (length roots * g .vertices) edges edges-after
+
 -- The arrays without the places behind the parts'.
 abbrev pub partsOf : ℕ → PieceArrays → PieceArrays
 partsOf parts a = arraysOf (a .starts) (a .cuts) (a .flat) (a .lefts) (take parts (a .places))
@@ -81,3 +87,8 @@ pub record CoverWritten (g : Graph) (roots : List ℕ) (limit : ℕ) (before aft
 pub record CoverAtLimits (g : Graph) (roots : List ℕ) (a : PieceArrays) (parts : ℕ) (out before after : List ℕ) (r : ℕ) : Type 0 where
   pub at-limit : (limit : ℕ) (rows : List ℕ) → limit ≤ 2048000000
       → PartsPlaced g roots limit (record { pieces = a; rows = rows; out = out }) parts true → CoverWritten g roots limit before after r
+
+-- The same, with the array that the trees' edges were laid in: behind one element for each vertex and each root it is as it came.
+pub record RootedWritten (g : Graph) (roots : List ℕ) (a : PieceArrays) (parts : ℕ) (out edges edges-after before after : List ℕ) (r : ℕ) : Type 0 where
+  pub cover : CoverAtLimits g roots a parts out before after r
+  pub edges-rest : OnlyFirst (length roots * g .vertices) edges edges-after

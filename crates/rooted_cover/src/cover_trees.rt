@@ -5,10 +5,10 @@ use cover::index::number_at;
 use cover::write::write_cover;
 use edges::index::wide;
 use pieces::pieces::number_up;
-ghost use lib.ListN.{length, getD};
+ghost use lib.ListN.{length};
 ghost use Rattle.graph.specs.Bytes.{graphOf};
 ghost use Rattle.rooted_state.specs.Placed.{arraysOf};
-ghost use Rattle.rooted_cover.specs.CoverTrees.{TreeGivenAt, TreePut, LayRootsGiven, TreesLaid, CoverAsked, CoverAtLimits};
+ghost use Rattle.rooted_cover.specs.CoverTrees.{TreeGivenAt, TreePut, LayRootsGiven, RootsLaid, CoverAsked, RootedWritten};
 
 // Puts the edges of root j's tree into the array from a place on. Says where they end.
 fn put_tree(
@@ -73,9 +73,9 @@ fn lay_trees(
 )
     requires { ⌜ LayRootsGiven (graphOf (now b)) (now order) (now table) (now lasts) (now roots) (arraysOf (now starts) (now cuts) (now flat) (now lefts) (now places)) (now out)
         (length (now bounds)) (length (now edges)) ⌝ }
-    ensures { λ _. ⌜ TreesLaid (graphOf (now (b .entry))) (now (table .entry)) (now (lasts .entry)) (now (roots .entry)) (arraysOf
-        (now (starts .entry)) (now (cuts .entry)) (now (flat .entry)) (now (lefts .entry)) (now (places .entry))) (now (out .entry)) (length (now (roots .entry)))
-        (getD (now (bounds .exit)) (length (now (roots .entry))) 0) (now (bounds .exit)) (now (edges .exit)) ⌝ }
+    ensures { λ _. ⌜ RootsLaid (graphOf (now (b .entry))) (now (table .entry)) (now (lasts .entry)) (now (roots .entry)) (arraysOf
+        (now (starts .entry)) (now (cuts .entry)) (now (flat .entry)) (now (lefts .entry)) (now (places .entry))) (now (out .entry))
+        (now (bounds .entry)) (now (bounds .exit)) (now (edges .entry)) (now (edges .exit)) ⌝ }
 {
     bounds[0] = 0;
     let mut at = 0;
@@ -122,8 +122,9 @@ pub fn write_rooted(
 ) -> u64
     requires { ⌜ CoverAsked (graphOf (now b)) (now order) (now table) (now lasts) (now roots) (arraysOf (now starts) (now cuts) (now flat) (now lefts) (now places)) parts (now out)
         (length (now edges)) (length (now buf)) ⌝ }
-    ensures { λ r. ⌜ CoverAtLimits (graphOf (now (b .entry))) (now (roots .entry)) (arraysOf
-        (now (starts .entry)) (now (cuts .entry)) (now (flat .entry)) (now (lefts .entry)) (now (places .entry))) parts (now (out .entry)) (now (buf .entry)) (now (buf .exit)) r ⌝ }
+    ensures { λ r. ⌜ RootedWritten (graphOf (now (b .entry))) (now (roots .entry)) (arraysOf
+        (now (starts .entry)) (now (cuts .entry)) (now (flat .entry)) (now (lefts .entry)) (now (places .entry))) parts (now (out .entry))
+        (now (edges .entry)) (now (edges .exit)) (now (buf .entry)) (now (buf .exit)) r ⌝ }
 {
     let mut bounds = [0u16; 33];
     let mut numbers = [0u16; 32];

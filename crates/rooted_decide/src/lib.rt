@@ -15,7 +15,7 @@ ghost use Rattle.graph.specs.Bytes.{graphOf};
 ghost use Rattle.rules.specs.Cover.{rooted};
 ghost use Rattle.rules.specs.RootedTrial.{isAssignable};
 ghost use Rattle.rules.specs.Search.{accepts, noCover};
-ghost use Rattle.rooted_parts.specs.Near.{PartsNear};
+ghost use Rattle.rooted_parts.specs.Near.{PartsNearPut};
 ghost use Rattle.rooted_decide.specs.Decide.{NoCoverAsked, RootedDecisionAsked, CountReady, FewReady, NearReady};
 
 // Whether some vertex is joined to no root by any edge ("no cover"). The whole forest joins what all edges join.
@@ -42,7 +42,7 @@ fn parts_near(
     parts: &mut [u32],
 ) -> usize
     requires { ⌜ NearReady (graphOf (now b)) (now roots) limit (now table) (now walk) (now parts) ⌝ }
-    ensures { λ r. ⌜ PartsNear (graphOf (now (b .entry))) (now (roots .entry)) limit (now (parts .exit)) r ⌝ }
+    ensures { λ r. ⌜ PartsNearPut (graphOf (now (b .entry))) (now (roots .entry)) limit (now (parts .entry)) (now (parts .exit)) r ⌝ }
 {
     let mut near = [0u32; 256];
     roots_within(b, roots, limit, table, &mut near);

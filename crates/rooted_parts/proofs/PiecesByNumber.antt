@@ -10,7 +10,8 @@ use Rattle.lists.specs.Put.{PutTo}
 use Rattle.lists.specs.Segments.{segment}
 use Rattle.lists.specs.Sort.{rise}
 use Rattle.lists.proofs.Places.{at-place}
-use Rattle.lists.proofs.Put.{put-count, put-taken, put-fits, put-length, only-first-length}
+use Rattle.lists.proofs.Put.{put-count, put-taken, put-fits, put-length, put-only-first, only-first-length}
+use Rattle.lists.proofs.OnlyFirst.{only-first-of-more}
 use Rattle.graph.specs.Graph.{Graph}
 use Rattle.graph.specs.Valid.{Valid}
 use Rattle.rules.specs.Cover.{Tree}
@@ -31,7 +32,7 @@ use Rattle.planner_laws.proofs.RootedPrepared.{pieces-of-whole}
 use Rattle.planner_laws.proofs.RootedSize.{rooted-parts-few}
 use Rattle.unions.specs.Places.{placesBetween}
 use Rattle.rooted_state.specs.Placed.{arraysOf, PiecesPlaced}
-use Rattle.rooted_parts.specs.Parts.{PiecesAsked}
+use Rattle.rooted_parts.specs.Parts.{PiecesAsked, PiecesRest}
 use Rattle.unions.proofs.PartsBetween.{between-lefts}
 
 -- The trees of the whole forest can be split.
@@ -127,3 +128,17 @@ module _ {g : Graph} {roots : List ℕ} {limit : ℕ} {bounds arcs starts cuts f
           lefts-are = this-left;
           lefts-held = λ j h. is-held (left-inside j h);
         }
+
+    -- What stands behind them is as it came: each root has a piece more than parts, and all pieces together have fewer edges than there are vertices.
+    pub pieces-rest : PiecesRest (g .vertices) (length roots) p (arraysOf starts cuts flat lefts places) (arraysOf starts′ cuts′ flat′ lefts′ places′)
+    pieces-rest =
+        record {
+          starts-rest = only-first-of-more (x .starts-rest) (g .vertices + length roots) (omega (arith, x .few, x .used-few, n-is));
+          cuts-rest = only-first-of-more (x .cuts-rest) (g .vertices + length roots) (omega (arith, x .few, x .used-few, n-is, some));
+          flat-rest = only-first-of-more (x .flat-rest) (g .vertices) (omega (arith, x .used-few, n-is));
+          lefts-rest = x .lefts-rest;
+          places-rest = put-only-first put;
+        }
+      where
+        some : 1 ≤ g .vertices
+        some = omega (arith, asked .given .inside 0 (omega (arith, asked .given .some)))

@@ -32,3 +32,8 @@ pub record PartsNear (g : Graph) (roots : List ℕ) (limit : ℕ) (words : List 
   pub count : r ≡ length (rootedParts g roots limit)
   pub within : r ≤ length words
   pub each : (i j : ℕ) → i < r → j < length roots → bitAt j (getD words i 0) ≡ mayGo g roots limit i j
+
+-- The first words are the parts', and what stands behind them is as it came.
+pub record PartsNearPut (g : Graph) (roots : List ℕ) (limit : ℕ) (before after : List ℕ) (r : ℕ) : Type 0 where
+  pub near : PartsNear g roots limit after r
+  pub rest : OnlyFirst r before after

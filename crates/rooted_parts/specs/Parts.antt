@@ -14,7 +14,7 @@ use Rattle.matching.specs.Assignable.{assignable}
 use Rattle.matching.specs.Input.{allowedAt}
 use Rattle.rules.specs.RootedTrial.{unjoinedAt}
 use Rattle.rooted_state.specs.Prepared.{RootsGiven, WholeAround, LimitReady}
-use Rattle.rooted_state.specs.Placed.{PieceArrays, arraysOf, PiecesPlaced}
+use Rattle.rooted_state.specs.Placed.{PieceArrays, arraysOf, TrialArrays, PiecesPlaced, RowsAssigned, PartsPlaced}
 
 -- What is asked for the pieces: the arcs of the whole forest, which joins every vertex to a root within the limit; and room.
 pub record PiecesAsked (g : Graph) (roots : List ℕ) (limit : ℕ) (bounds arcs : List ℕ) (a : PieceArrays) : Type 0 where
@@ -26,6 +26,19 @@ pub record PiecesAsked (g : Graph) (roots : List ℕ) (limit : ℕ) (bounds arcs
   pub flat-room : g .vertices ≤ length (a .flat)
   pub lefts-room : length roots ≤ length (a .lefts)
   pub places-room : g .vertices ≤ length (a .places)
+
+-- Behind the pieces of n vertices and k roots, and behind the places of the parts, the arrays are as they came.
+pub record PiecesRest (n k parts : ℕ) (a z : PieceArrays) : Type 0 where
+  pub starts-rest : OnlyFirst (n + k) (a .starts) (z .starts)
+  pub cuts-rest : OnlyFirst (n + k) (a .cuts) (z .cuts)
+  pub flat-rest : OnlyFirst n (a .flat) (z .flat)
+  pub lefts-rest : OnlyFirst k (a .lefts) (z .lefts)
+  pub places-rest : OnlyFirst parts (a .places) (z .places)
+
+-- The pieces are placed, in arrays that were a.
+pub record PiecesPut (g : Graph) (roots : List ℕ) (limit : ℕ) (a z : PieceArrays) (parts : ℕ) : Type 0 where
+  pub placed : PiecesPlaced g roots limit z parts
+  pub rest : PiecesRest (g .vertices) (length roots) parts a z
 
 -- What an assignment that is not refused asks: at most 255 parts, 1 to 32 roots, a byte of 0 or 1 for each part and root, and room.
 pub record AssignAsked (p k : ℕ) (rows out : List ℕ) : Type 0 where
@@ -67,3 +80,16 @@ pub record PartsAsked (g : Graph) (roots : List ℕ) (limit : ℕ) (bounds arcs 
   pub ready : LimitReady g roots limit table
   pub rows-room : g .vertices * length roots ≤ length rows
   pub out-room : g .vertices ≤ length out
+
+-- The rows are made and the parts assigned. What stands behind a row and a byte for each part is as it came.
+pub record RowsPlaced (g : Graph) (roots : List ℕ) (limit parts : ℕ) (rows₀ rows out₀ out : List ℕ) (assigned : Bool) : Type 0 where
+  pub placed : RowsAssigned g roots limit parts rows out assigned
+  pub rows-rest : OnlyFirst (parts * length roots) rows₀ rows
+  pub out-rest : OnlyFirst parts out₀ out
+
+-- The parts are placed, in arrays that were a: what stands behind the pieces, the places, the rows and the bytes is as it came.
+pub record PartsPut (g : Graph) (roots : List ℕ) (limit : ℕ) (a z : TrialArrays) (parts : ℕ) (assigned : Bool) : Type 0 where
+  pub placed : PartsPlaced g roots limit z parts assigned
+  pub pieces-rest : PiecesRest (g .vertices) (length roots) parts (a .pieces) (z .pieces)
+  pub rows-rest : OnlyFirst (parts * length roots) (a .rows) (z .rows)
+  pub out-rest : OnlyFirst parts (a .out) (z .out)

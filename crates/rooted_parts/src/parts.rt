@@ -8,9 +8,9 @@ use near::rows::put_rows;
 use split::split_forest;
 use unions::places::part_places;
 ghost use Rattle.graph.specs.Bytes.{graphOf};
-ghost use Rattle.rooted_parts.specs.Near.{PartsNear};
-ghost use Rattle.rooted_parts.specs.Parts.{PiecesAsked, AssignAsked, AssignDone, WordsAsked, RowsAsked, PartsAsked};
-ghost use Rattle.rooted_state.specs.Placed.{arraysOf, trialArrays, PiecesPlaced, RowsAssigned, PartsPlaced};
+ghost use Rattle.rooted_parts.specs.Near.{PartsNearPut};
+ghost use Rattle.rooted_parts.specs.Parts.{PiecesAsked, PiecesPut, AssignAsked, AssignDone, WordsAsked, RowsAsked, RowsPlaced, PartsAsked, PartsPut};
+ghost use Rattle.rooted_state.specs.Placed.{arraysOf, trialArrays};
 
 // How many parts there are, and whether each has a root of its own.
 pub struct Placed {
@@ -32,7 +32,8 @@ fn place_pieces(
     places: &mut [u16],
 ) -> usize
     requires { ⌜ PiecesAsked (graphOf (now b)) (now roots) limit (now bounds) (now arcs) (arraysOf (now starts) (now cuts) (now flat) (now lefts) (now places)) ⌝ }
-    ensures { λ r. ⌜ PiecesPlaced (graphOf (now (b .entry))) (now (roots .entry)) limit
+    ensures { λ r. ⌜ PiecesPut (graphOf (now (b .entry))) (now (roots .entry)) limit
+        (arraysOf (now (starts .entry)) (now (cuts .entry)) (now (flat .entry)) (now (lefts .entry)) (now (places .entry)))
         (arraysOf (now (starts .exit)) (now (cuts .exit)) (now (flat .exit)) (now (lefts .exit)) (now (places .exit))) r ⌝ }
 {
     let n = graph::vertex_count(b);
@@ -67,7 +68,7 @@ fn pieces_near(
     words: &mut [u32],
 )
     requires { ⌜ WordsAsked (graphOf (now b)) (now roots) limit (now table) (now starts) (now cuts) (now flat) (now places) parts (now words) ⌝ }
-    ensures { λ _. ⌜ PartsNear (graphOf (now (b .entry))) (now (roots .entry)) limit (now (words .exit)) parts ⌝ }
+    ensures { λ _. ⌜ PartsNearPut (graphOf (now (b .entry))) (now (roots .entry)) limit (now (words .entry)) (now (words .exit)) parts ⌝ }
 {
     let mut near = [0u32; 256];
     roots_within(b, roots, limit, table, &mut near);
@@ -89,7 +90,8 @@ fn assign_parts(
     out: &mut [u8],
 ) -> bool
     requires { ⌜ RowsAsked (graphOf (now b)) (now roots) limit (now table) (now starts) (now cuts) (now flat) (now places) parts (now rows) (now out) ⌝ }
-    ensures { λ r. ⌜ RowsAssigned (graphOf (now (b .entry))) (now (roots .entry)) limit parts (now (rows .exit)) (now (out .exit)) r ⌝ }
+    ensures { λ r. ⌜ RowsPlaced (graphOf (now (b .entry))) (now (roots .entry)) limit parts (now (rows .entry)) (now (rows .exit))
+        (now (out .entry)) (now (out .exit)) r ⌝ }
 {
     let mut words = [0u32; 256];
     pieces_near(
@@ -129,7 +131,8 @@ pub fn place_parts(
 ) -> Placed
     requires { ⌜ PartsAsked (graphOf (now b)) (now roots) limit (now bounds) (now arcs) (now table)
         (arraysOf (now starts) (now cuts) (now flat) (now lefts) (now places)) (now rows) (now out) ⌝ }
-    ensures { λ r. ⌜ PartsPlaced (graphOf (now (b .entry))) (now (roots .entry)) limit
+    ensures { λ r. ⌜ PartsPut (graphOf (now (b .entry))) (now (roots .entry)) limit
+        (trialArrays (now (starts .entry)) (now (cuts .entry)) (now (flat .entry)) (now (lefts .entry)) (now (places .entry)) (now (rows .entry)) (now (out .entry)))
         (trialArrays (now (starts .exit)) (now (cuts .exit)) (now (flat .exit)) (now (lefts .exit)) (now (places .exit)) (now (rows .exit)) (now (out .exit)))
         (r .parts) (r .assigned) ⌝ }
 {

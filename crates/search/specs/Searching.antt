@@ -4,6 +4,7 @@ use Prim.Native.Nat.{ℕ, _≤_}
 use mathlib.Core.Path.{_≡_}
 use mathlib.Core.List.{List}
 use lib.ListN.{length, take}
+use Rattle.lists.specs.Put.{OnlyFirst}
 use Rattle.graph.specs.Graph.{Graph}
 use Rattle.rules.specs.Cover as cover
 use Rattle.rules.specs.Order.{ordered}
@@ -45,7 +46,8 @@ pub record WalkGiven (kind : Kind) (g : Graph) (roots bounds arcs walk : List �
   pub around : kind ≡ Rooted → WholeAround g roots bounds arcs
   pub room : length walk ≡ 256
 
--- The first r elements are the walk of the whole forest's trees, where crews have roots.
-pub record WalkFor (kind : Kind) (g : Graph) (roots walk : List ℕ) (r : ℕ) : Type 0 where
+-- The first r elements are the walk of the whole forest's trees, where crews have roots; what stands behind them is as it came.
+pub record WalkFor (kind : Kind) (g : Graph) (roots walk₀ walk : List ℕ) (r : ℕ) : Type 0 where
   pub fits : r ≤ length walk
   pub walked : kind ≡ Rooted → WholeWalked g roots (take r walk)
+  pub rest : OnlyFirst r walk₀ walk

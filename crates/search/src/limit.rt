@@ -77,7 +77,7 @@ fn write_walk(
     walk: &mut [u64],
 ) -> usize
     requires { ⌜ WalkGiven kind (graphOf (now b)) (now roots) (now bounds) (now arcs) (now walk) ⌝ }
-    ensures { λ r. ⌜ WalkFor kind (graphOf (now (b .entry))) (now (roots .entry)) (now (walk .exit)) r ⌝ }
+    ensures { λ r. ⌜ WalkFor kind (graphOf (now (b .entry))) (now (roots .entry)) (now (walk .entry)) (now (walk .exit)) r ⌝ }
 {
     match kind {
         Kind::Rooted => put_walk(graph::vertex_count(b), bounds, arcs, roots, walk),

@@ -9,6 +9,7 @@ use native.Mathlib.Omega.{arith}
 use lib.ListN.{length, take, drop, getD, set, length-set}
 use lib.Seq.{slice, slice-empty, take-take, take-set-le, getD-take, getD-set-same}
 use Rattle.lists.specs.Segments.{segment}
+use Rattle.lists.proofs.OnlyFirst.{only-first-none, only-first-store, only-first-on, only-first-of-more}
 use Rattle.lists.proofs.NextPlace.{slice-next}
 use Rattle.edges.specs.Around.{arcEdge, arcHead, arcWeight, Arcs}
 use Rattle.bunches.specs.Store.{Store, Added}
@@ -53,6 +54,7 @@ module _ {n : ℕ} {bounds arcs : List ℕ} {H v base : ℕ} {s : State} {w : �
         added = added-none (b .room .sound);
         edge-each = omega arith;
         kept = refl;
+        stack-rest = only-first-none _ (s .stack);
         bunched = b;
         fits = omega arith;
         fewer = omega arith;
@@ -68,6 +70,7 @@ module _ {n : ℕ} {bounds arcs : List ℕ} {H v base : ℕ} {s : State} {w : �
         added = x .added;
         edge-each = x .edge-each;
         kept = x .kept;
+        stack-rest = x .stack-rest;
         bunched = x .bunched;
         fits = x .fits;
         fewer = x .fewer;
@@ -198,6 +201,13 @@ module _ {n base : ℕ} {s : State} {w : ℕ} (b : Bunched n base s w) {arc head
                 ∙ sym (take-take base (s .top) (t .stack) (b .above))
                 ∙ ap (take base) stack-kept
                 ∙ take-take base (s .top) (s .stack) (b .above);
+            stack-rest =
+                let most : ℕ = s .top + unvisited n (s .marks) in
+                only-first-on
+                (only-first-on (only-first-store (only-first-none most (s .stack)) (s .top) edge (omega (arith, child-less)))
+                (only-first-of-more (inner .stack-rest) most (omega (arith, child-less))))
+                (only-first-of-more (later .stack-rest) most
+                (omega (arith, settled .fits, settled .added .used-more, inner .fits, inner .added .used-more, child-less)));
             bunched = later .bunched;
             fits = omega (arith, later .fits, settled .fits, inner .fits, child-less);
             fewer = omega (arith, later .fewer, after-fewer);

@@ -4,6 +4,7 @@ use Prim.Native.Nat.{ℕ, _+_, _-_, _≤_, _<_}
 use mathlib.Core.Path.{_≡_}
 use mathlib.Core.List.{List}
 use lib.ListN.{length, take}
+use Rattle.lists.specs.Put.{OnlyFirst}
 use Rattle.lists.specs.Segments.{segment}
 use Rattle.rules.specs.Cover.{Tree}
 use Rattle.edges.specs.Around.{Arcs}
@@ -44,7 +45,7 @@ pub record Bunched (n base : ℕ) (s : State) (w : ℕ) : Type 0 where
   pub light : WithinEdges w (s .top - base)
 
 -- The children of v among the arcs `rest` were grown and split, with a bunch on the stack that weighs w: from the state s to the state t,
--- where what is left at v stands on the stack and weighs z.
+-- where what is left at v stands on the stack and weighs z. Below the bunch the stack is as it was, and behind a place for each vertex that was left.
 pub record ChildrenWalked (n : ℕ) (bounds arcs : List ℕ) (H v base : ℕ) (rest : List ℕ) (s : State) (w : ℕ) (t : State) (z : ℕ) : Type 0 where
   pub parts : List Tree
   pub below : SplitBelow bounds arcs H v rest (s .marks) (stacked (s .stack) base (s .top) w)
@@ -52,6 +53,7 @@ pub record ChildrenWalked (n : ℕ) (bounds arcs : List ℕ) (H v base : ℕ) (r
   pub added : Added n parts (s .store) (t .store)
   pub edge-each : EdgeEach (s .store) (t .store)
   pub kept : take base (t .stack) ≡ take base (s .stack)
+  pub stack-rest : OnlyFirst (s .top + unvisited n (s .marks)) (s .stack) (t .stack)
   pub bunched : Bunched n base t z
   pub fits : t .store .used + t .top + unvisited n (t .marks) ≤ s .store .used + s .top + unvisited n (s .marks)
   pub fewer : unvisited n (t .marks) ≤ unvisited n (s .marks)

@@ -7,6 +7,7 @@ use lib.ListN.{length, getD}
 use Rattle.lists.specs.Count.{below}
 use Rattle.lists.specs.Member.{_∈_}
 use Rattle.lists.specs.Put.{PutTo, OnlyFirst}
+use Rattle.lists.specs.Scratch.{Scratch}
 use Rattle.lists.specs.Segments.{Bounded}
 use Rattle.graph.specs.Graph.{Graph}
 use Rattle.rules.specs.Held.{treesAt, risen}
@@ -67,3 +68,9 @@ pub record ForestSplit (n : ℕ) (bounds arcs roots : List ℕ) (H : ℕ) (a z :
   pub cuts-rest : OnlyFirst (r + 1) (a .cuts) (z .cuts)
   pub flat-rest : OnlyFirst used (a .flat) (z .flat)
   pub lefts-rest : OnlyFirst (length roots) (a .lefts) (z .lefts)
+
+-- The same, where marks and a stack are lent besides, as scratch.
+pub record RootsWalked (bounds arcs roots : List ℕ) (H : ℕ) (marks marks-after stack stack-after : List ℕ) (a z : Lent) (r : ℕ) : Type 0 where
+  pub split : ForestSplit (length stack) bounds arcs roots H a z r
+  pub marks-scratch : Scratch marks marks-after
+  pub stack-scratch : Scratch stack stack-after

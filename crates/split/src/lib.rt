@@ -2,8 +2,7 @@
 // The trees are walked over the edges around each vertex, so that no byte of the graph is read.
 // What is done at each node with its bunch stands in the crate `bunches`.
 // The words of the contracts stand in specs/: `ForestSplit` is what the public function promises.
-ghost use lib.ListN.{length};
-ghost use Rattle.split.specs.ForestSplit.{lent, Splittable, Unwalked, ForestSplit};
+ghost use Rattle.split.specs.ForestSplit.{lent, Splittable, Unwalked, RootsWalked, ForestSplit};
 
 mod walk;
 
@@ -26,7 +25,8 @@ fn split_roots(
     lefts: &mut [u16],
 ) -> usize
     requires { ⌜ Unwalked (now bounds) (now arcs) (now roots) (now passed) (now stack) (lent (now starts) (now cuts) (now flat) (now lefts)) ⌝ }
-    ensures { λ r. ⌜ ForestSplit (length (now (stack .entry))) (now (bounds .entry)) (now (arcs .entry)) (now (roots .entry)) h
+    ensures { λ r. ⌜ RootsWalked (now (bounds .entry)) (now (arcs .entry)) (now (roots .entry)) h
+        (now (passed .entry)) (now (passed .exit)) (now (stack .entry)) (now (stack .exit))
         (lent (now (starts .entry)) (now (cuts .entry)) (now (flat .entry)) (now (lefts .entry)))
         (lent (now (starts .exit)) (now (cuts .exit)) (now (flat .exit)) (now (lefts .exit))) r ⌝ }
 {

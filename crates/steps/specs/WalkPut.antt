@@ -7,6 +7,7 @@ use mathlib.Core.List.{List, map}
 use lib.ListN.{length, getD}
 use Rattle.lists.specs.Lists.{any}
 use Rattle.lists.specs.Put.{PutTo}
+use Rattle.lists.specs.Scratch.{Scratch}
 use Rattle.lists.specs.Segments.{segment}
 use Rattle.graph.specs.Graph.{Graph}
 use Rattle.rules.specs.Grow.{grow}
@@ -61,6 +62,11 @@ pub record WalkPut (n : ℕ) (bounds arcs roots walk walk′ : List ℕ) (r : �
   pub steps : List ℕ
   pub put : PutTo 0 steps walk walk′ r
   pub of-graph : (g : Graph) (edges : List ℕ) → Around g edges bounds arcs → g .vertices ≡ n → TreeSteps g edges roots steps
+
+-- The same, where marks are lent besides, as scratch.
+pub record TreesPut (bounds arcs roots marks marks′ walk walk′ : List ℕ) (r : ℕ) : Type 0 where
+  pub walk-put : WalkPut (length marks) bounds arcs roots walk walk′ r
+  pub marks-scratch : Scratch marks marks′
 
 -- What counting asks: steps among 256 vertices, and a threshold below 2 to the 32nd, so that no sum wraps.
 pub record Countable (H : ℕ) (steps : List ℕ) : Type 0 where

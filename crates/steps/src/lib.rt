@@ -1,8 +1,7 @@
 // The trees of a forest as a list of steps, written once, and the number of parts at a threshold in one pass over them.
 // A step is a child, the vertex above it and the weight of the edge between, packed as an arc is, with the child in the edge's place.
 // The words of the contracts stand in specs/.
-ghost use lib.ListN.{length};
-ghost use Rattle.steps.specs.WalkPut.{WalkReady, WalkAsked, WalkPut};
+ghost use Rattle.steps.specs.WalkPut.{WalkReady, WalkAsked, WalkPut, TreesPut};
 
 pub mod count;
 pub mod step;
@@ -19,7 +18,8 @@ fn put_trees(
     walk: &mut [u64],
 ) -> usize
     requires { ⌜ WalkReady (now bounds) (now arcs) (now roots) (now passed) (now walk) ⌝ }
-    ensures { λ r. ⌜ WalkPut (length (now (passed .entry))) (now (bounds .entry)) (now (arcs .entry)) (now (roots .entry)) (now (walk .entry)) (now (walk .exit)) r ⌝ }
+    ensures { λ r. ⌜ TreesPut (now (bounds .entry)) (now (arcs .entry)) (now (roots .entry)) (now (passed .entry)) (now (passed .exit))
+        (now (walk .entry)) (now (walk .exit)) r ⌝ }
 {
     let mut next = 0;
     let mut j = 0;

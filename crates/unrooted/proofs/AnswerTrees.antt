@@ -78,7 +78,8 @@ places-inside cuts (l ∷ ls) first total h {x} m =
     go later (inl i) = let (low, high) = of-from first (treeEnd cuts first l - first) i in omega (arith, end-most cuts first l, h l (List·Memᴰ·head refl))
     go later (inr i) = later i
 
-module _ {g : Graph} {limit : ℕ} {starts cuts edges lefts : List ℕ} {s : Split} (valid : Valid g) (c : ComponentsSplit g limit starts cuts edges lefts s) where
+module _ {g : Graph} {limit : ℕ} {starts₀ starts cuts₀ cuts edges₀ edges lefts₀ lefts : List ℕ} {s : Split} (valid : Valid g)
+    (c : ComponentsSplit g limit starts₀ starts cuts₀ cuts edges₀ edges lefts₀ lefts s) where
   abbrev ts : List Rooted
   ts = components g limit
 
@@ -142,7 +143,7 @@ module _ {g : Graph} {limit : ℕ} {starts cuts edges lefts : List ℕ} {s : Spl
         room = omega (arith, places-count, unrooted-few g limit);
       }
 
-  module _ {starts′ edges′ chosen : List ℕ} {t : ℕ} (o : TreesOrdered g r own starts starts′ cuts edges edges′ chosen t) where
+  module _ {starts′ edges′ chosen₀ chosen : List ℕ} {t : ℕ} (o : TreesOrdered g r own starts starts′ cuts edges edges′ chosen₀ chosen t) where
     abbrev tree : ℕ → Tree
     tree = treeAt starts′ cuts edges′
 

@@ -8,6 +8,7 @@ use lib.ListN.{length, take}
 use Rattle.lists.specs.Member.{_∈_}
 use Rattle.lists.specs.Sort.{rise}
 use Rattle.lists.proofs.Put.{put-count, put-taken, put-fits, put-length, only-first-length}
+use Rattle.lists.proofs.OnlyFirst.{only-first-of-more}
 use Rattle.lists.proofs.Places.{at-place}
 use Rattle.graph.specs.Graph.{Graph, edgeCount}
 use Rattle.rules.specs.Labels.{apart}
@@ -69,9 +70,10 @@ module _ {g : Graph} {edges : List ℕ} {limit : ℕ} {starts cuts flat lefts ro
     few : r ≤ 511
     few = omega (arith, f .few, f .used-few, ap length roots-are, roots-count, w .few, q, small)
 
-    pub components-split : ComponentsSplit g limit starts′ cuts′ flat′ lefts′ (record { pieces = r; roots = k })
+    pub components-split : ComponentsSplit g limit starts starts′ cuts cuts′ flat flat′ lefts lefts′ (record { pieces = r; roots = k })
     unfolding components
     components-split =
+        let count : length (take k roots) ≡ k = ap length roots-are ∙ sym roots-count in
         record {
           pieces-are = splits .pieces;
           lefts-are = ap (λ m. take m lefts′) roots-count ∙ put-taken (splits .lefts);
@@ -91,4 +93,8 @@ module _ {g : Graph} {edges : List ℕ} {limit : ℕ} {starts cuts flat lefts ro
                 starts-room = omega (arith, few, only-first-length (f .starts-rest), a .starts-room);
               };
           few = omega (arith, few);
+          starts-rest = f .starts-rest;
+          cuts-rest = f .cuts-rest;
+          flat-rest = only-first-of-more (f .flat-rest) (g .vertices) (omega (arith, f .used-few, q));
+          lefts-rest = rw count at (f .lefts-rest);
         }

@@ -9,7 +9,8 @@ use lib.ListN.{length, take, drop, length-append}
 use lib.Seq.{take-at}
 use Rattle.lists.specs.Put.{PutTo}
 use Rattle.lists.specs.Sort.{sortBy}
-use Rattle.lists.proofs.Put.{put-count, put-taken}
+use Rattle.lists.proofs.Put.{put-count, put-taken, put-fits, put-length, put-only-first}
+use Rattle.lists.proofs.OnlyFirst.{only-first-on, only-front}
 use Rattle.lists.proofs.Sorting.{sort-length}
 use Rattle.graph.specs.Graph.{Graph}
 use Rattle.pieces.specs.Chosen.{byKey}
@@ -33,7 +34,7 @@ given-on g q h =
 pub trees-ordered : {g : Graph} {pieces : ℕ} {lefts starts₀ starts₁ cuts flat₀ flat₁ keys came mid last : List ℕ} {t : ℕ}
     → SegmentsRisen cuts pieces flat₀ flat₁ → LowestSet g cuts flat₁ pieces starts₀ starts₁ → Keyed starts₁ cuts flat₁ pieces keys
     → PutTo 0 (treePlaces cuts 0 lefts) came mid t → last ≡ sortBy (byKey keys) (take t mid)
-    → TreesOrdered g pieces lefts starts₀ starts₁ cuts flat₀ flat₁ (last ++ drop t mid) t
+    → TreesOrdered g pieces lefts starts₀ starts₁ cuts flat₀ flat₁ came (last ++ drop t mid) t
 trees-ordered {lefts = lefts} {cuts = cuts} {keys = keys} {mid = mid} {last = last} {t = t} risen low keyed put sorted =
     let places : List ℕ = treePlaces cuts 0 lefts in
     let is : last ≡ sortBy (byKey keys) places = sorted ∙ ap (sortBy (byKey keys)) (put-taken put) in
@@ -46,4 +47,5 @@ trees-ordered {lefts = lefts} {cuts = cuts} {keys = keys} {mid = mid} {last = la
       are = take-at last (drop t mid) t size ∙ is;
       count = put-count put;
       room = omega (arith, length-append last (drop t mid));
+      chosen-rest = only-first-on (put-only-first put) (only-front t last mid size (omega (arith, put-fits put, put-length (put .put))));
     }

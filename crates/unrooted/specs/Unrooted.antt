@@ -1,11 +1,11 @@
 -- The trial at a limit for crews without roots (document 01, a "roving" trial): what its steps ask and promise.
 -- Assumes nothing.
-use Prim.Native.Nat.{ℕ, _*_, _≤_, _<_}
+use Prim.Native.Nat.{ℕ, _+_, _*_, _≤_, _<_}
 use mathlib.Core.Path.{_≡_}
 use mathlib.Core.List.{List, map}
 use lib.ListN.{length, take}
 use Rattle.lists.specs.Count.{below}
-use Rattle.lists.specs.Put.{Put}
+use Rattle.lists.specs.Put.{Put, OnlyFirst}
 use Rattle.lists.specs.Sort.{rise, sortBy}
 use Rattle.graph.specs.Graph.{Graph}
 use Rattle.rules.specs.Cover.{heaviest}
@@ -32,13 +32,17 @@ pub record SplitAsked (g : Graph) (edges : List ℕ) (limit : ℕ) (starts cuts 
   pub flat-room : 256 ≤ length flat
   pub lefts-room : 256 ≤ length lefts
 
--- The arrays hold the pieces of the components' trees, and the number of each component's leftover.
-pub record ComponentsSplit (g : Graph) (limit : ℕ) (starts cuts flat lefts : List ℕ) (r : Split) : Type 0 where
+-- The arrays hold the pieces of the components' trees, and the number of each component's leftover. What stands behind them is as it came.
+pub record ComponentsSplit (g : Graph) (limit : ℕ) (starts₀ starts cuts₀ cuts flat₀ flat lefts₀ lefts : List ℕ) (r : Split) : Type 0 where
   pub pieces-are : map risen (treesAt starts cuts flat (below (r .pieces))) ≡ piecesOf g (2 * limit) (rise (forest g apart limit)) (lowest g (labelsAt g apart limit))
   pub lefts-are : take (r .roots) lefts ≡ leftPlaces 0 (map (rules.split g (2 * limit)) (components g limit))
   pub roots-room : r .roots ≤ length lefts
   pub given : PiecesGiven starts cuts flat (r .pieces)
   pub few : r .pieces ≤ 512
+  pub starts-rest : OnlyFirst (r .pieces) starts₀ starts
+  pub cuts-rest : OnlyFirst (r .pieces + 1) cuts₀ cuts
+  pub flat-rest : OnlyFirst (g .vertices) flat₀ flat
+  pub lefts-rest : OnlyFirst (r .roots) lefts₀ lefts
 
 -- Pieces, and room for the numbers of those that are trees.
 pub record OrderAsked (pieces : ℕ) (lefts starts cuts flat chosen : List ℕ) : Type 0 where
@@ -47,7 +51,8 @@ pub record OrderAsked (pieces : ℕ) (lefts starts cuts flat chosen : List ℕ) 
   pub places : PlacesAsked lefts cuts chosen
 
 -- The edges of each piece rise, each starts at its lowest vertex, and the first t chosen are the pieces that are trees, by their keys.
-pub record TreesOrdered (g : Graph) (pieces : ℕ) (lefts starts₀ starts₁ cuts flat₀ flat₁ chosen : List ℕ) (t : ℕ) : Type 0 where
+-- What stands behind these is as it came.
+pub record TreesOrdered (g : Graph) (pieces : ℕ) (lefts starts₀ starts₁ cuts flat₀ flat₁ chosen₀ chosen : List ℕ) (t : ℕ) : Type 0 where
   pub rising : SegmentsRisen cuts pieces flat₀ flat₁
   pub from-lowest : LowestSet g cuts flat₁ pieces starts₀ starts₁
   pub keys : List ℕ
@@ -55,6 +60,7 @@ pub record TreesOrdered (g : Graph) (pieces : ℕ) (lefts starts₀ starts₁ cu
   pub are : take t chosen ≡ sortBy (byKey keys) (treePlaces cuts 0 lefts)
   pub count : t ≡ length (treePlaces cuts 0 lefts)
   pub room : t ≤ length chosen
+  pub chosen-rest : OnlyFirst t chosen₀ chosen
 
 -- The forest at a limit whose components need at most 32 trees, and room for the bytes of any such cover.
 pub record UnrootedTreesAsked (g : Graph) (edges : List ℕ) (limit : ℕ) (buf : List ℕ) : Type 0 where

@@ -36,7 +36,8 @@ fn split_components(
     lefts: &mut [u16],
 ) -> Split
     requires { ⌜ SplitAsked (graphOf (now b)) (now edges) limit (now starts) (now cuts) (now flat) (now lefts) ⌝ }
-    ensures { λ r. ⌜ ComponentsSplit (graphOf (now (b .entry))) limit (now (starts .exit)) (now (cuts .exit)) (now (flat .exit)) (now (lefts .exit)) r ⌝ }
+    ensures { λ r. ⌜ ComponentsSplit (graphOf (now (b .entry))) limit (now (starts .entry)) (now (starts .exit)) (now (cuts .entry)) (now (cuts .exit))
+        (now (flat .entry)) (now (flat .exit)) (now (lefts .entry)) (now (lefts .exit)) r ⌝ }
 {
     let mut roots = [0u16; 256];
     let mut bounds = [0u16; 257];
@@ -70,7 +71,7 @@ fn order_trees(
 ) -> usize
     requires { ⌜ OrderAsked pieces (now lefts) (now starts) (now cuts) (now flat) (now chosen) ⌝ }
     ensures { λ r. ⌜ TreesOrdered (graphOf (now (b .entry))) pieces (now (lefts .entry)) (now (starts .entry)) (now (starts .exit)) (now (cuts .entry))
-        (now (flat .entry)) (now (flat .exit)) (now (chosen .exit)) r ⌝ }
+        (now (flat .entry)) (now (flat .exit)) (now (chosen .entry)) (now (chosen .exit)) r ⌝ }
 {
     let mut keys = [0u32; 512];
     let t = tree_places(lefts, cuts, chosen);

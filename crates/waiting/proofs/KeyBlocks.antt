@@ -56,6 +56,10 @@ module _ {wait low : List ℕ} (b : Blocks wait low) {v : ℕ} (vertex : v < 256
   in-low : v / 16 < length low
   in-low = omega (arith, b .low-size)
 
+  -- No other block's least changes.
+  pub low-set : (m : ℕ) → set low (v / 16) m ≡ set low (v / 16) (getD (set low (v / 16) m) (v / 16) 0)
+  low-set m = ap (set low (v / 16)) (sym (getD-set-same low (v / 16) m 0 in-low))
+
   module _ (key : ℕ) where
     abbrev now-waits : List ℕ
     now-waits = set wait v key

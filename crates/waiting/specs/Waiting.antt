@@ -51,7 +51,8 @@ pub record KeyGiven (v key : ℕ) (wait low : List ℕ) : Type 0 where
   pub blocks : Blocks wait low
   pub no-higher : key ≤ getD wait v 0
 
--- Vertex v has this key now, and all others have what they had.
-pub record KeyPut (v key : ℕ) (wait wait-after low-after : List ℕ) : Type 0 where
+-- Vertex v has this key now, and all others have what they had; so have all blocks but its own.
+pub record KeyPut (v key : ℕ) (wait wait-after low low-after : List ℕ) : Type 0 where
   pub stored : wait-after ≡ set wait v key
   pub blocks : Blocks wait-after low-after
+  pub low-stored : low-after ≡ set low (v / 16) (getD low-after (v / 16) 0)

@@ -51,7 +51,7 @@ pub fn least_from(keys: &[u64], from: usize) -> u64
 // Vertex v waits with this key, no higher than what stood for it.
 pub fn put_key(v: usize, key: u64, wait: &mut [u64], low: &mut [u64])
     requires { ⌜ KeyGiven v key (now wait) (now low) ⌝ }
-    ensures { λ _. ⌜ KeyPut v key (now (wait .entry)) (now (wait .exit)) (now (low .exit)) ⌝ }
+    ensures { λ _. ⌜ KeyPut v key (now (wait .entry)) (now (wait .exit)) (now (low .entry)) (now (low .exit)) ⌝ }
 {
     wait[v] = key;
     low[v / 16] = lower(low[v / 16], key);
@@ -60,7 +60,7 @@ pub fn put_key(v: usize, key: u64, wait: &mut [u64], low: &mut [u64])
 // Vertex v waits no longer.
 pub fn take_key(v: usize, wait: &mut [u64], low: &mut [u64])
     requires { ⌜ (v < 256) × Blocks (now wait) (now low) ⌝ }
-    ensures { λ _. ⌜ KeyPut v nobody (now (wait .entry)) (now (wait .exit)) (now (low .exit)) ⌝ }
+    ensures { λ _. ⌜ KeyPut v nobody (now (wait .entry)) (now (wait .exit)) (now (low .entry)) (now (low .exit)) ⌝ }
 {
     wait[v] = NOBODY;
     low[v / 16] = least_from(wait, v / 16 * 16);

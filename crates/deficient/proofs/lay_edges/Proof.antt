@@ -7,10 +7,12 @@ use native.Mathlib.Omega.{arith}
 use lib.ListN.{length, getD, drop, length-set}
 use lib.Seq.{getD-set-same}
 use borrow.Author.Needs.{needs}
+use Rattle.lists.specs.Put.{OnlyFirst}
 use Rattle.lists.specs.Segments.{segment}
 use Rattle.lists.specs.Sort.{rise}
 use Rattle.lists.proofs.Places.{at-place}
 use Rattle.lists.proofs.Put.{put-length}
+use Rattle.lists.proofs.OnlyFirst.{only-first-none, only-first-store, only-first-on, only-first-put}
 use Rattle.lists.proofs.Sorting.{rise-length}
 use Rattle.cover.proofs.ChosenBytes.{held-readable, held-edges}
 use Rattle.pieces.specs.Pieces.{Laid}
@@ -28,6 +30,8 @@ Inv-loop cuts flat chosen bounds₀ edges₀ at₀ i₀ bounds edges at i =
       laid : Laid (λ h. rise (segment cuts flat (getD chosen h 0))) i at bounds edges;
       bounds-size : length bounds ≡ length bounds₀;
       edges-size : length edges ≡ length edges₀;
+      bounds-rest : OnlyFirst (length chosen + 1) bounds₀ bounds;
+      edges-rest : OnlyFirst (edgesOf cuts flat chosen) edges₀ edges;
     }
 
 abbrev μ-loop : tie.MeasureT-loop
@@ -80,6 +84,8 @@ loop-holds c =
       laid = laid-none _ _ _ (getD-set-same (s .args .bounds .now) 0 0 0 (omega (arith, s .pre .bounds-fit)));
       bounds-size = refl;
       edges-size = refl;
+      bounds-rest = only-first-none _ _;
+      edges-rest = only-first-none _ _;
     }
 
 mul-wide : tie.Need-mul-wide Inv-loop μ-loop
@@ -132,6 +138,11 @@ loop-again c =
       laid = laid-more (v .laid) room (p .put-risen .ensures) (ap rise (taken (p .before)));
       bounds-size = length-set (l .loop .bounds) (l .loop .i + 1) _ ∙ v .bounds-size;
       edges-size = put-length (p .put-risen .ensures .put) ∙ v .edges-size;
+      bounds-rest = only-first-store (v .bounds-rest) (l .loop .i + 1) _ (omega (arith, t .loop-test .taken));
+      edges-rest =
+          only-first-on (v .edges-rest)
+          (only-first-put (p .put-risen .ensures .put) (edgesOf (s t .args .cuts .now) (s t .args .flat .now) (s t .args .chosen .now))
+          (omega (arith, p .put-risen .ensures .behind, long p, next t, v .left)));
     }
 
 same-length : tie.Need-same-length Inv-loop μ-loop
@@ -149,7 +160,11 @@ returns c =
     let a = came l .args in
     let all : l .loop .i ≡ length (a .chosen .now) = omega (arith, l .loop .inv .within, c .loop-test .left) in
     let laid = rw all at (l .loop .inv .laid) in
-    rw (laid .bounded .last) laid
+    record {
+      laid = rw (laid .bounded .last) laid;
+      bounds-rest = only-first-on (only-first-store (only-first-none _ (a .bounds .now)) 0 0 (omega arith)) (l .loop .inv .bounds-rest);
+      edges-rest = l .loop .inv .edges-rest;
+    }
 
 pub lay-edges-spec : {M : Type 1} → statement M
 lay-edges-spec =

@@ -1,14 +1,14 @@
 -- `deficient::take_keys` meets its contract. The loop's invariant: the trees before i have their keys.
 -- The measure is how many trees are left. Assumes nothing.
 use Prim.Native.Nat.{_-_, _≤_, _<_}
-use mathlib.Core.Path.{sym, ap, _∙_}
+use mathlib.Core.Path.{_≡_, sym, ap, _∙_}
 use mathlib.Core.List.{headD}
 use native.Mathlib.Omega.{arith}
 use lib.ListN.{length, getD}
 use borrow.Author.Needs.{needs}
 use Rattle.lists.specs.Segments.{segment}
 use Rattle.lists.proofs.FirstElement.{head-at}
-use Rattle.lists.proofs.SetUpTo.{SetUpTo, set-none, set-more}
+use Rattle.lists.proofs.SetUpTo.{SetUpTo, set-none, set-more, set-only-first}
 use Rattle.deficient.proofs.take_keys.Statement.{statement}
 use Rattle.deficient.proofs.take_keys.Tie as tie
 
@@ -67,7 +67,11 @@ same-length : tie.Need-same-length Inv-loop μ-loop
 same-length c = search needs
 
 returns : tie.Need-returns Inv-loop μ-loop
-returns c = record { are = λ i h. c .before .loop .inv .1 .done i (omega (arith, c .loop-test .left)) }
+returns c =
+    let l = c .before in
+    let s = l .before .before .before .before in
+    let all : l .loop .i ≡ s .args .t = omega (arith, l .loop .inv .0, c .loop-test .left) in
+    record { keyed = record { are = λ i h. l .loop .inv .1 .done i (omega arith) }; rest = rw all at (set-only-first (l .loop .inv .1)) }
 
 pub take-keys-spec : {M : Type 1} → statement M
 take-keys-spec =

@@ -88,12 +88,12 @@ module _ (o : tie.After-sort-chosen) where
   writable : Writable laidStarts bounds edges order (length (s .args .buf .now))
   writable =
       laid-writable (s .args .starts .now) (s .args .cuts .now) (s .args .flat .now) (chosen u) (laid u .before .before .before .before .take-starts .ensures)
-      (laid u .lay-edges .ensures) (keyed u .take-keys .ensures) (s .pre .few) (omega (arith, laid u .lay-edges .kept .1 .1 .1 .1 .0)) (s .pre .most)
+      (laid u .lay-edges .ensures .laid) (keyed u .take-keys .ensures .keyed) (s .pre .few) (omega (arith, laid u .lay-edges .kept .1 .1 .1 .1 .0)) (s .pre .most)
 
   in-order : treesAt laidStarts bounds edges order ≡ bySmallest (map risen (treesAt (s .args .starts .now) (s .args .cuts .now) (s .args .flat .now) (chosen u)))
   in-order =
       laid-in-order (s .args .starts .now) (s .args .cuts .now) (s .args .flat .now) (chosen u) (laid u .before .before .before .before .take-starts .ensures)
-      (laid u .lay-edges .ensures) (keyed u .take-keys .ensures)
+      (laid u .lay-edges .ensures .laid) (keyed u .take-keys .ensures .keyed)
 
 slice-aggregate-take-starts : tie.Need-slice-aggregate-take-starts
 slice-aggregate-take-starts c = search needs
@@ -124,7 +124,7 @@ slice-aggregate-take-keys-3 c = search needs
 take-keys-requires : tie.Need-take-keys-requires
 take-keys-requires c κs =
     let l = laidBefore c in
-    let w = l .lay-edges .ensures in
+    let w = l .lay-edges .ensures .laid in
     record { held = λ i h. record { forward = w .bounded .rising i h; inside = omega (arith, w .bounded .within (i + 1) (omega arith), w .inside) }; fits = omega (arith, start l .pre .few) }
 
 slice-aggregate-number-up : tie.Need-slice-aggregate-number-up

@@ -46,7 +46,7 @@ module _ (f : tie.After-found) where
   allowed = allowedAt (at-root .args .allowed .now) (at-root .args .y)
 
   root-found : Reached (at-root .args .y) allowed (at-root .args .i) (at-root .args .owner .now) parts via from (f .found .given .0 .0)
-  root-found = rw (f .found .given .1) at (f .before .before .find .ensures)
+  root-found = rw (f .found .given .1) at (f .before .before .find .ensures .finding)
 
 -- Where it ended with nothing left: the set that it has reached.
 module _ (f : tie.After-found2) where
@@ -56,7 +56,7 @@ module _ (f : tie.After-found2) where
   nothing-found :
       let a = at-none .args in
       Closed (a .y) (allowedAt (a .allowed .now) (a .y)) (a .i) (a .owner .now) (f .before .before .find .last .1 .1 .1 .1 .0) (f .found2 .given .0 .0)
-  nothing-found = rw (f .found2 .given .1) at (f .before .before .find .ensures)
+  nothing-found = rw (f .found2 .given .1) at (f .before .before .find .ensures .finding)
 
 -- Where the exchange, or the marking, is asked for: back to what was found.
 abbrev path-found : tie.After-exchange-arg2 → tie.After-found
@@ -115,6 +115,7 @@ returns c =
     let done = k .exchange .ensures in
     record {
       mirror = λ _. done .mirror;
+      owner-kept = λ e. absurd (true≢false e);
       may = λ _. exchanged-may (s .args .y) (allowed f) done (root-found f .edges) (s .pre .may);
       set = λ e. absurd (true≢false e);
       rest = only-first-of-more (done .rest) (s .args .p) (omega (arith, s .pre));
@@ -131,6 +132,7 @@ returns-2 c =
     let marks = k .mark .ensures in
     record {
       mirror = λ e. absurd (false≢true e);
+      owner-kept = λ _. refl;
       may = λ e. absurd (false≢true e);
       set =
           λ _.

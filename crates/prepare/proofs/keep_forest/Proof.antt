@@ -2,7 +2,9 @@
 use mathlib.Core.Path.{_≡_, sym, ap, _∙_}
 use native.Mathlib.Omega.{arith}
 use lib.ListN.{length, take}
-use Rattle.lists.proofs.Put.{put-count, put-taken, put-fits, put-length}
+use Rattle.lists.specs.Put.{OnlyFirst}
+use Rattle.lists.proofs.Put.{put-count, put-taken, put-fits, put-length, put-only-first}
+use Rattle.graph.specs.Graph.{edgeCount}
 use Rattle.graph.specs.Bytes.{graphOf}
 use Rattle.rules.specs.Order.{ordered}
 use borrow.Author.Needs.{needs}
@@ -16,6 +18,9 @@ module _ (o : tie.After-order-edges) where
 
   ordered-is : take (o .order-edges .result) (o .order-edges .last .1 .1 .1 .0) ≡ ordered (graphOf (s .args .b .now))
   ordered-is = put-taken (o .order-edges .ensures .put)
+
+  order-only : OnlyFirst (edgeCount (graphOf (s .args .b .now))) (s .args .order .now) (o .order-edges .last .1 .1 .1 .0)
+  order-only = rw (← o .order-edges .ensures .count) (put-only-first (o .order-edges .ensures .put))
 
 order-edges-requires : tie.Need-order-edges-requires
 order-edges-requires c κs = search needs
@@ -57,11 +62,16 @@ returns c =
     let order = o .order-edges .ensures .put in
     let kept = k .keep-whole .ensures .edges-are in
     record {
+      edges-are = o .order-edges .ensures .count;
       edges-room = omega (arith, put-fits order, put-length (order .put));
       in-order = ordered-is o;
       forest-room = omega (arith, put-fits kept, put-length (kept .put));
       forest = put-taken kept;
       fewer = k .keep-whole .ensures .fewer;
+      keys-rest = o .order-edges .ensures .keys-rest;
+      spare-rest = o .order-edges .ensures .spare-rest;
+      order-rest = order-only o;
+      kept-rest = put-only-first kept;
     }
 
 pub keep-forest-spec : {M : Type 1} → statement M

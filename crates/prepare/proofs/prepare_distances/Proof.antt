@@ -3,8 +3,9 @@ use mathlib.Core.Path.{_≡_, sym, ap, _∙_}
 use native.Mathlib.Omega.{arith}
 use lib.ListN.{length, take}
 use Rattle.lists.specs.Count.{below}
+use Rattle.lists.specs.Put.{OnlyFirst}
 use Rattle.lists.proofs.Below.{of-below}
-use Rattle.lists.proofs.Put.{put-taken}
+use Rattle.lists.proofs.Put.{put-taken, put-only-first}
 use Rattle.lists.proofs.Runs.{length-below}
 use Rattle.graph.specs.Graph.{Graph, edgeCount}
 use Rattle.graph.specs.Bytes.{graphOf}
@@ -28,6 +29,9 @@ module _ (u : tie.After-number-up) where
 
   size : length (take (e .edge-count .result) (u .number-up .last .1 .0)) ≡ edgeCount g
   size = ap length all-are ∙ length-below (edgeCount g)
+
+  numbers-only : OnlyFirst (edgeCount g) (s .args .numbers .now) (u .number-up .last .1 .0)
+  numbers-only = rw (← e .edge-count .ensures .is) (put-only-first (u .number-up .ensures))
 
 -- and where the vertices are counted: their arcs are put.
 module _ (v : tie.After-vertex-count) where
@@ -95,7 +99,15 @@ returns : tie.Need-returns
 returns c =
     let t = c .before .before .before .before in
     let v = (let d = t .before .before .before .before in d .before) in
-    t .fill-table .ensures .of-graph (g (u v)) (rw (all-are (u v)) at (p v .put-around .ensures .around)) (sym (v .vertex-count .ensures .is))
+    let n = v .vertex-count .ensures .is in
+    record {
+      tabled = t .fill-table .ensures .of-graph (g (u v)) (rw (all-are (u v)) at (p v .put-around .ensures .around)) (sym n);
+      numbers-rest = numbers-only (u v);
+      bounds-rest = p v .put-around .ensures .bounds-only;
+      all-rest = rw (size (u v)) at (p v .put-around .ensures .arcs-only);
+      table-rest = rw n at (t .fill-table .ensures .table-rest);
+      lasts-rest = rw n at (t .fill-table .ensures .lasts-rest);
+    }
 
 pub prepare-distances-spec : {M : Type 1} → statement M
 prepare-distances-spec =

@@ -1,9 +1,13 @@
 -- `prepare::prepare_rooted` meets its contract: the distances, the forest, and the arcs over the forest. Assumes nothing.
-use mathlib.Core.Path.{_≡_, sym}
+use Prim.Native.Nat.{ℕ, _*_, _≤_}
+use mathlib.Core.Path.{_≡_, sym, ap, _∙_}
 use native.Mathlib.Omega.{arith}
 use lib.ListN.{length, take}
 use lib.Seq.{length-take-le}
-use Rattle.graph.specs.Graph.{Graph}
+use Rattle.lists.proofs.Lengths.{length-within}
+use Rattle.lists.proofs.OnlyFirst.{only-first-on, only-first-of-more}
+use Rattle.lists.proofs.Sorting.{rise-length}
+use Rattle.graph.specs.Graph.{Graph, edgeCount}
 use Rattle.graph.specs.Bytes.{graphOf}
 use Rattle.rules.specs.Order.{ordered}
 use Rattle.rules.specs.Labels.{together}
@@ -26,6 +30,21 @@ module _ (k : tie.After-keep-forest) where
 
   size : length (take (k .keep-forest .result .forest) (k .keep-forest .last .1 .1 .1 .1 .1 .0)) ≡ k .keep-forest .result .forest
   size = length-take-le _ _ (k .keep-forest .ensures .forest-room)
+
+  -- The forest has no more edges than the graph.
+  few-kept : k .keep-forest .result .forest ≤ edgeCount g
+  few-kept =
+      let f = k .keep-forest .ensures in
+      let roots = s .args .roots .now in
+      omega (
+        arith,
+        size,
+        ap length (f .forest),
+        ap length (f .in-order),
+        length-take-le (k .keep-forest .result .edges) (k .keep-forest .last .1 .1 .1 .1 .0) (f .edges-room),
+        f .edges-are,
+        length-within (kept-once g (together roots) (ordered g)) (λ e. kept-subset g (together roots) (ordered g)),
+      )
 
 prepare-distances-requires : tie.Need-prepare-distances-requires
 prepare-distances-requires c κs = search needs
@@ -91,17 +110,29 @@ returns c =
     let p = c .before .before .before .before in
     let k = (let d = p .before .before .before .before in let e = d .before .before .before .before in e .before .before .before .before) in
     let kept = k .keep-forest .ensures in
-    let tabled = t k .prepare-distances .ensures in
+    let distances = t k .prepare-distances .ensures in
+    let tabled = distances .tabled in
+    let around = p .put-arcs .ensures in
+    let twice : ℕ = 2 * edgeCount (g k) in
     record {
       edges-room = kept .edges-room;
       forest-room = kept .forest-room;
       prepared =
           record {
             decidable = record { given = s k .pre .given; forest = kept .forest; distances = tabled .distances };
-            around = rw (kept .forest) at (p .put-arcs .ensures .around);
+            around = rw (kept .forest) at (around .around);
             in-order = kept .in-order;
             last-edges = tabled .last-edges;
           };
+      order-rest = only-first-on (distances .numbers-rest) (kept .order-rest);
+      kept-rest = kept .kept-rest;
+      bounds-rest = only-first-on (distances .bounds-rest) (around .bounds-only);
+      all-rest = only-first-on (distances .all-rest) (only-first-of-more (kept .keys-rest) twice (omega arith));
+      arcs-rest =
+          only-first-on (only-first-of-more (kept .spare-rest) twice (omega arith))
+          (only-first-of-more (around .arcs-only) twice (omega (arith, rise-length (take (k .keep-forest .result .forest) (k .keep-forest .last .1 .1 .1 .1 .1 .0)), size k, few-kept k)));
+      table-rest = distances .table-rest;
+      lasts-rest = distances .lasts-rest;
     }
 
 pub prepare-rooted-spec : {M : Type 1} → statement M

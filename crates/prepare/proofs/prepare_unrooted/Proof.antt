@@ -44,11 +44,19 @@ returns c =
     let k = let d = m .before .before .before .before .before .before in d .before .before .before .before .before .before in
     let s = let d = k .before .before .before .before .before .before in d .before .before .before .before .before .before .before in
     let f = k .keep-forest .ensures in
+    let recorded = m .record-merges .ensures in
+    let size = length-take-le (k .keep-forest .result .forest) (k .keep-forest .last .1 .1 .1 .1 .1 .0) (f .forest-room) in
     record {
       edges-room = f .edges-room;
       forest-room = f .forest-room;
       in-order = f .in-order;
-      history = record { forest-kept = record { valid = s .pre .for-forest .for-order .valid; forest-is = f .forest }; history = m .record-merges .ensures .history };
+      history = record { forest-kept = record { valid = s .pre .for-forest .for-order .valid; forest-is = f .forest }; history = recorded .history };
+      keys-rest = f .keys-rest;
+      spare-rest = f .spare-rest;
+      order-rest = f .order-rest;
+      kept-rest = f .kept-rest;
+      total-rest = rw size at (recorded .total-rest);
+      until-rest = rw size at (recorded .until-rest);
     }
 
 pub prepare-unrooted-spec : {M : Type 1} → statement M

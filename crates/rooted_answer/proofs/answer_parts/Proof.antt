@@ -1,9 +1,17 @@
 -- `rooted_answer::answer_parts` meets its contract: the arrays have room for the parts, which are placed and then answered.
 -- Assumes nothing.
+use Prim.Native.Nat.{_*_, _≤_}
+use native.Mathlib.Nat.{mul-le-mul-right}
 use native.Mathlib.Omega.{arith}
+use lib.ListN.{length}
 use borrow.Author.Needs.{needs}
+use Rattle.lists.specs.Put.{OnlyFirst}
+use Rattle.lists.proofs.Put.{only-first-length}
+use Rattle.lists.proofs.OnlyFirst.{only-first-of-more}
+use Rattle.graph.specs.Graph.{Graph}
+use Rattle.graph.specs.Bytes.{graphOf}
 use Rattle.rooted_answer.proofs.PartsReady.{parts-asked}
-use Rattle.rooted_answer.proofs.PlacedAnswered.{joined-ready, placed-given}
+use Rattle.rooted_answer.proofs.PlacedAnswered.{joined-ready, placed-few, placed-given}
 use Rattle.rooted_answer.proofs.answer_parts.Statement.{statement}
 use Rattle.rooted_answer.proofs.answer_parts.Tie as tie
 
@@ -22,6 +30,19 @@ placed c =
     let s = o .before .before .before .before in
     let p = s .before .before .before .before in
     p .before .before .before .before .before
+
+-- The rows are no more than there are vertices.
+module _ (p : tie.After-place-parts) where
+  abbrev s : tie.Start
+  s = start (p .before)
+
+  abbrev g : Graph
+  g = graphOf (s .args .b .now)
+
+  rows-only : OnlyFirst (g .vertices * length (s .args .roots .now)) (s .args .rows .now) (p .place-parts .last .1 .1 .1 .1 .1 .1 .1 .1 .1 .1 .1 .0)
+  rows-only =
+      let few : p .place-parts .result .parts ≤ g .vertices = placed-few (s .pre) (p .place-parts .ensures .placed) in
+      only-first-of-more (p .place-parts .ensures .rows-rest) (g .vertices * length (s .args .roots .now)) (omega (arith, mul-le-mul-right (length (s .args .roots .now)) few))
 
 slice-aggregate-place-parts : tie.Need-slice-aggregate-place-parts
 slice-aggregate-place-parts c = search needs
@@ -65,7 +86,7 @@ slice-aggregate-answer-placed-6 c = search needs
 answer-placed-requires : tie.Need-answer-placed-requires
 answer-placed-requires c κs =
     let p = placed c in
-    placed-given (start (p .before) .pre) (p .place-parts .ensures) (omega arith)
+    placed-given (start (p .before) .pre) (p .place-parts .ensures .placed) (omega (arith, only-first-length (p .place-parts .ensures .rows-rest)))
 
 same-length : tie.Need-same-length
 same-length c = search needs
@@ -77,7 +98,11 @@ same-length-3 : tie.Need-same-length-3
 same-length-3 c = search needs
 
 returns : tie.Need-returns
-returns c = search needs
+returns c =
+    let a = c .before .before .before .before in
+    let p = placed (a .before) in
+    let answered = a .answer-placed .ensures in
+    record { answers = answered .answers; rows-rest = rows-only p; edges-rest = answered .edges-rest }
 
 pub answer-parts-spec : {M : Type 1} → statement M
 answer-parts-spec =

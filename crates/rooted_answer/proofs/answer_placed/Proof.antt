@@ -1,5 +1,6 @@
 -- `rooted_answer::answer_placed` meets its contract. Assumes nothing.
 use borrow.Author.Needs.{needs}
+use Rattle.lists.proofs.OnlyFirst.{only-first-none}
 use Rattle.rooted_answer.proofs.PlacedAnswered.{cover-asked, cover-answered, set-given, set-answered}
 use Rattle.rooted_answer.proofs.answer_placed.Statement.{statement}
 use Rattle.rooted_answer.proofs.answer_placed.Tie as tie
@@ -25,7 +26,8 @@ returns : tie.Need-returns
 returns c =
     let w = c .before .before .before .before in
     let t = w .before .before .before in
-    cover-answered (start (t .before) .pre) (t .if1 .taken) (w .write-rooted .ensures)
+    let written = w .write-rooted .ensures in
+    record { answers = cover-answered (start (t .before) .pre) (t .if1 .taken) (written .cover); edges-rest = written .edges-rest }
 
 reply-deficient-requires : tie.Need-reply-deficient-requires
 reply-deficient-requires c κs = let e = c .before in set-given (start (e .before) .pre) (e .if1 .left)
@@ -37,7 +39,7 @@ returns-2 : tie.Need-returns-2
 returns-2 c =
     let w = c .before .before in
     let e = w .before .before in
-    set-answered (start (e .before) .pre) (e .if1 .left) (w .reply-deficient .ensures)
+    record { answers = set-answered (start (e .before) .pre) (e .if1 .left) (w .reply-deficient .ensures); edges-rest = only-first-none _ _ }
 
 pub answer-placed-spec : {M : Type 1} → statement M
 answer-placed-spec =

@@ -30,7 +30,7 @@ module _ (q : tie.After-parts-near) where
   words = q .parts-near .last .1 .1 .1 .1 .1 .0
 
   near : PartsNear (graphOf (s .args .b .now)) (s .args .roots .now) (s .args .limit) words p
-  near = q .parts-near .ensures
+  near = q .parts-near .ensures .near
 
   few : p ≤ length (s .args .roots .now)
   few = omega (arith, near .count, s .pre .few)

@@ -33,7 +33,10 @@ returns : tie.Need-returns
 returns c =
     let p = c .before .before in
     let w = p .before .before .before .before in
-    parts-near (start (w .before) .pre .ready) (w .roots-within .ensures .near) (p .near-parts .ensures)
+    record {
+      near = parts-near (start (w .before) .pre .ready) (w .roots-within .ensures .near) (p .near-parts .ensures);
+      rest = p .near-parts .ensures .rest;
+    }
 
 pub parts-near-spec : {M : Type 1} → statement M
 parts-near-spec =

@@ -66,7 +66,7 @@ returns : tie.Need-returns
 returns c =
     let r = returned c in
     let s = entry (called (r .before)) in
-    split-of (zeros-count (s .args .n) (s .pre .around .few)) (r .split-roots .ensures)
+    split-of (zeros-count (s .args .n) (s .pre .around .few)) (r .split-roots .ensures .split)
 
 pub split-forest-spec : {M : Type 1} → statement M
 split-forest-spec =

@@ -133,7 +133,11 @@ returns c =
     let s = entry (at .before) in
     let a = s .args in
     let q : at .loop .j ≡ length (a .roots .now) = omega (arith, at .loop .inv .within, c .loop-test .left) in
-    all-split (lent (a .starts .now) (a .cuts .now) (a .flat .now) (a .lefts .now)) (rw q at (at .loop .inv))
+    record {
+      split = all-split (lent (a .starts .now) (a .cuts .now) (a .flat .now) (a .lefts .now)) (rw q at (at .loop .inv));
+      marks-scratch = same-length c;
+      stack-scratch = same-length-2 c;
+    }
 
 pub split-roots-spec : {M : Type 1} → statement M
 split-roots-spec =

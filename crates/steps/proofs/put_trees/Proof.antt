@@ -70,7 +70,8 @@ same-length-2 : tie.Need-same-length-2 Inv-loop μ-loop
 same-length-2 c = put-length (c .before .loop .inv .put .put)
 
 returns : tie.Need-returns Inv-loop μ-loop
-returns c = trees-done (c .before .loop .inv) (entry (c .before .before) .pre) (c .loop-test .left)
+returns c =
+    record { walk-put = trees-done (c .before .loop .inv) (entry (c .before .before) .pre) (c .loop-test .left); marks-scratch = same-length c }
 
 pub put-trees-spec : {M : Type 1} → statement M
 put-trees-spec =

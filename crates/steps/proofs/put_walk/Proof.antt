@@ -40,7 +40,7 @@ returns : tie.Need-returns
 returns c =
     let r = returned c in
     let s = entry (r .before .before) in
-    walk-of (zeros-count (s .args .n) (s .pre .around .few)) (r .put-trees .ensures)
+    walk-of (zeros-count (s .args .n) (s .pre .around .few)) (r .put-trees .ensures .walk-put)
 
 pub put-walk-spec : {M : Type 1} → statement M
 put-walk-spec =

@@ -65,7 +65,10 @@ same-length-8 : tie.Need-same-length-8
 same-length-8 c = search needs
 
 returns : tie.Need-returns
-returns c = search needs
+returns c =
+    let a = c .before .before in
+    let p = prepared (let d = a .before .before .before .before .before in d .before .before .before .before) in
+    record { answered = a .answer-asked .ensures; ready = p .prepare-rooted .result; prepared = p .prepare-rooted .ensures }
 
 pub ask-rooted-in-spec : {M : Type 1} → statement M
 ask-rooted-in-spec =

@@ -75,7 +75,11 @@ same-length-4 : tie.Need-same-length-4
 same-length-4 c = search needs
 
 returns : tie.Need-returns
-returns c = search needs
+returns c =
+    let a = c .before .before in
+    let p = prepared (let d = a .before .before .before .before .before in d .before .before .before .before) in
+    let ready = p .prepare-unrooted .ensures in
+    record { answered = a .answer-asked .ensures; keys-rest = ready .keys-rest; spare-rest = ready .spare-rest; order-rest = ready .order-rest }
 
 pub ask-unrooted-in-spec : {M : Type 1} → statement M
 ask-unrooted-in-spec =

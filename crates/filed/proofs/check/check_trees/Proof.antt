@@ -26,7 +26,7 @@ module _ (t : tie.Else1) where
   tested = t .before .before
 
   trees-pass : treesRight (g tested) (decode (s tested .args .c .now)) ≡ true
-  trees-pass = sym (tested .trees-right .ensures) ∙ not-false (tested .trees-right .result) (t .if1 .left)
+  trees-pass = sym (tested .trees-right .ensures .is) ∙ not-false (tested .trees-right .result) (t .if1 .left)
 
 slice-aggregate-trees-right : tie.Need-slice-aggregate-trees-right
 slice-aggregate-trees-right c = search needs
@@ -37,7 +37,7 @@ trees-right-requires c κs = search needs
 returns : tie.Need-returns
 returns c =
     let t = c .before .before in
-    trees-wrong (g t) (s t .args .c .now) (sym (t .trees-right .ensures) ∙ not-true (t .trees-right .result) (c .if1 .taken))
+    trees-wrong (g t) (s t .args .c .now) (sym (t .trees-right .ensures .is) ∙ not-true (t .trees-right .result) (c .if1 .taken))
 
 vertices-covered-requires : tie.Need-vertices-covered-requires
 vertices-covered-requires c κs = search needs

@@ -8,6 +8,7 @@ use Rattle.graph.specs.Bytes.{graphOf}
 use Rattle.graph.proofs.Ranges.{one-end-below}
 use Rattle.rules.specs.CoverBytes.{entryEdge}
 use Rattle.filed.specs.Parents.{Found}
+use Rattle.filed.proofs.JoinedByParents.{short-then}
 use Rattle.filed.proofs.TreeTests.{run-apart, run-together, HeldSoFar, held-none, held-more, held-not}
 use Rattle.filed.proofs.trees.run_joined.Statement.{statement}
 use Rattle.filed.proofs.trees.run_joined.Tie as tie
@@ -90,6 +91,7 @@ returns c =
     let l = turn t .loop in
     run-apart (g b) (b .args .c .now) (b .args .from) (b .args .to) (home (turn t) .stands-for .ensures) (l .i) (l .inv .0) (omega arith)
     (held-not (g b) (b .args .c .now) (b .args .from) (l .inv .1) (found t) (end-below b (e t)) (c .if1 .taken))
+    (short-then (l .inv .1 .short) (found t .short))
 
 add-i : tie.Need-add-i Inv-loop μ-loop
 add-i c = omega arith
@@ -113,7 +115,7 @@ returns-2 c =
     let l = c .before in
     let b = start l in
     run-together (g b) (b .args .c .now) (b .args .from) (b .args .to) (home l .stands-for .ensures)
-    (λ label w k h m. l .loop .inv .1 .held label w k h (omega arith))
+    (λ label w k h m. l .loop .inv .1 .held label w k h (omega arith)) (l .loop .inv .1 .short)
 
 pub run-joined-spec : {M : Type 1} → statement M
 run-joined-spec =

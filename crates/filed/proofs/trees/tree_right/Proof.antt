@@ -43,8 +43,12 @@ returns c =
     let t = c .before .before .before in
     let l = parted t in
     let a = s l .args in
-    tree-loop (g l) (a .c .now) (a .j) (a .from) (a .to) (apart-spells (room l) (l .set-apart .ensures)) (t .run-loop-free .ensures)
-    (not-true (t .run-loop-free .result) (c .if1 .taken))
+    record {
+      is =
+          tree-loop (g l) (a .c .now) (a .j) (a .from) (a .to) (apart-spells (room l) (l .set-apart .ensures)) (t .run-loop-free .ensures)
+          (not-true (t .run-loop-free .result) (c .if1 .taken));
+      parents-scratch = same-length c;
+    }
 
 start-in-requires : tie.Need-start-in-requires
 start-in-requires c κs = search needs
@@ -66,8 +70,12 @@ returns-2 c =
     let t = e .before .before .before in
     let l = parted t in
     let a = s l .args in
-    tree-joined (g l) (a .c .now) (a .j) (a .from) (a .to) (apart-spells (room l) (l .set-apart .ensures)) (t .run-loop-free .ensures)
-    (not-false (t .run-loop-free .result) (e .if1 .left)) (rw (r .before .before .start-in .ensures .is) at (r .run-joined .ensures))
+    record {
+      is =
+          tree-joined (g l) (a .c .now) (a .j) (a .from) (a .to) (apart-spells (room l) (l .set-apart .ensures)) (t .run-loop-free .ensures)
+          (not-false (t .run-loop-free .result) (e .if1 .left)) (rw (r .before .before .start-in .ensures .is) at (r .run-joined .ensures));
+      parents-scratch = same-length-2 c;
+    }
 
 pub tree-right-spec : {M : Type 1} → statement M
 tree-right-spec =

@@ -46,7 +46,7 @@ module _ (t : tie.After-tree-right Inv-loop μ-loop) where
 
   tested : t .tree-right .result ≡ treeRight (g (start turn)) (treeIn (s .args .c .now) (turn .loop .j))
   tested =
-      t .tree-right .ensures
+      t .tree-right .ensures .is
       ∙ ap (λ (x : Tree). treeRight (g (start turn)) x)
       (sym (tree-is-run (s .args .c .now) (edgeCount (g (start turn))) (s .pre .cover .entries) (turn .loop .inv .1) (found .run-end .ensures)))
 
@@ -81,7 +81,10 @@ same-length c = as-long (c .before .before .before)
 returns : tie.Need-returns Inv-loop μ-loop
 returns c =
     let t = c .before .before .before in
-    sym (tree-wrong (g (start (turn t))) (s t .args .c .now) (turn t .loop .j) (omega arith) (sym (tested t) ∙ not-true (t .tree-right .result) (c .if1 .taken)))
+    record {
+      is = sym (tree-wrong (g (start (turn t))) (s t .args .c .now) (turn t .loop .j) (omega arith) (sym (tested t) ∙ not-true (t .tree-right .result) (c .if1 .taken)));
+      parents-scratch = same-length c;
+    }
 
 add-j : tie.Need-add-j Inv-loop μ-loop
 add-j c = omega arith
@@ -104,7 +107,10 @@ same-length-2 c = c .before .loop .inv .0
 returns-2 : tie.Need-returns-2 Inv-loop μ-loop
 returns-2 c =
     let l = c .before in
-    sym (all-trees (g (start l)) (start l .args .c .now) (λ k h. l .loop .inv .2 k (omega arith)))
+    record {
+      is = sym (all-trees (g (start l)) (start l .args .c .now) (λ k h. l .loop .inv .2 k (omega arith)));
+      parents-scratch = same-length-2 c;
+    }
 
 pub trees-right-spec : {M : Type 1} → statement M
 trees-right-spec =

@@ -4,7 +4,7 @@ use Prim.Native.Nat.{_≤_, _<_, _+_, _*_, _-_}
 use mathlib.Core.Path.{_≡_, _∙_, sym}
 use mathlib.Core.Bool.{true, true≢false}
 use native.Mathlib.Omega.{arith}
-use lib.ListN.{getD}
+use lib.ListN.{getD, length-set}
 use borrow.Author.Tests.{not-true, not-false}
 use Rattle.matching.specs.Input.{allowedAt}
 use Rattle.matching.specs.State.{none}
@@ -124,7 +124,15 @@ element-copy-out-k c = omega (arith, new-root c)
 returns : tie.Need-returns Inv-loop μ-loop
 returns c =
     let n = new-root (c .before .before) in
-    search-found (at-loop (c .before .before) .loop .inv) (n .few) (n .turn) (n .below) (n .may) (n .new) (c .if4 .taken)
+    let l = at-loop (c .before .before) in
+    let pre = l .before .before .pre in
+    let queue = l .loop .inv .queue in
+    record {
+      finding = search-found (l .loop .inv) (n .few) (n .turn) (n .below) (n .may) (n .new) (c .if4 .taken);
+      parts-scratch = queue .parts-size ∙ sym (pre .places .0);
+      via-scratch = queue .via-size ∙ sym (pre .places .1);
+      from-scratch = length-set (l .loop .from) (l .loop .j) (l .loop .at) ∙ queue .from-size ∙ sym (pre .roots);
+    }
 
 mul-parts : tie.Need-mul-parts Inv-loop μ-loop
 mul-parts c = omega (arith, room (c .before .before))
@@ -154,7 +162,16 @@ loop-again-4 c =
     search-push (l .loop .inv) (n .few) (n .turn) (n .below) (n .may) (n .new) (l .before .before .pre .owner-below (l .loop .j) (omega arith) (c .if4 .left))
 
 returns-2 : tie.Need-returns-2 Inv-loop μ-loop
-returns-2 c = search-closed (c .before .loop .inv) (c .loop-test .left) (c .before .before .before .pre .few)
+returns-2 c =
+    let l = c .before in
+    let pre = l .before .before .pre in
+    let queue = l .loop .inv .queue in
+    record {
+      finding = search-closed (l .loop .inv) (c .loop-test .left) (pre .few);
+      parts-scratch = queue .parts-size ∙ sym (pre .places .0);
+      via-scratch = queue .via-size ∙ sym (pre .places .1);
+      from-scratch = queue .from-size ∙ sym (pre .roots);
+    }
 
 pub find-spec : {M : Type 1} → statement M
 find-spec =

@@ -11,14 +11,14 @@ use Rattle.graph.specs.Bytes.{graphOf}
 use Rattle.graph.specs.Valid.{Valid}
 use Rattle.rules.specs.Labels.{apart}
 use Rattle.forest_laws.proofs.Loops.{AllKept}
-use Rattle.needs.proofs.HistoryRecorded.{Recorded, Room, Sizes, recorded-none, note-asked, merged-only, recorded-more, recorded-all}
+use Rattle.needs.proofs.HistoryRecorded.{Recorded, Room, Sizes, recorded-none, note-asked, merged-only, merged-made, recorded-more, recorded-all}
 use Rattle.needs.proofs.WholeForest.{all-kept, kept-fewer}
 use Rattle.needs.proofs.history.merge_all.Statement.{statement}
 use Rattle.needs.proofs.history.merge_all.Tie as tie
 
 abbrev Inv-loop : tie.InvT-loop
 Inv-loop b kept label₀ made₀ total₀ until₀ i₀ label made total until i =
-    Recorded (graphOf b) kept i label made total until × Sizes (length kept + 1) label₀ made₀ total₀ until₀ label made total until
+    Recorded (graphOf b) kept i label made total until × Sizes (graphOf b .vertices) (length kept + 1) label₀ made₀ total₀ until₀ label made total until
 
 abbrev μ-loop : tie.MeasureT-loop
 μ-loop b kept label₀ made₀ total₀ until₀ i₀ label made total until i = length kept - i
@@ -65,6 +65,8 @@ loop-holds c =
         mades = refl;
         totals = refl;
         untils = refl;
+        label-only = only-first-none _ (a .label .now);
+        made-only = only-first-none _ (a .made .now);
         total-only = only-first-none _ (a .total .now);
         until-only = only-first-none _ (a .until .now);
       },
@@ -113,6 +115,11 @@ loop-again c =
         mades = omega (arith, same .mades);
         totals = omega (arith, same .totals);
         untils = omega (arith, same .untils);
+        label-only = only-first-on (same .label-only) (m .merge-edge .ensures .label-rest);
+        made-only =
+            only-first-on (same .made-only)
+            (merged-made (valid (turn w)) (edges-kept (turn w)) (edges-few (turn w)) (turn w .loop .i) (omega arith) (room (turn w)) (turn w .loop .inv .0)
+            (w .wide .ensures .is) (m .merge-edge .ensures));
         total-only = only-first-on (same .total-only) (only .0);
         until-only = only-first-on (same .until-only) (only .1);
       },
@@ -134,9 +141,14 @@ returns : tie.Need-returns Inv-loop μ-loop
 returns c =
     let t = c .before in
     record {
-      history = recorded-all (valid t) (edges-kept t) (edges-few t) (room t) (t .loop .inv .0) (omega arith);
-      total-rest = t .loop .inv .1 .total-only;
-      until-rest = t .loop .inv .1 .until-only;
+      written =
+          record {
+            history = recorded-all (valid t) (edges-kept t) (edges-few t) (room t) (t .loop .inv .0) (omega arith);
+            total-rest = t .loop .inv .1 .total-only;
+            until-rest = t .loop .inv .1 .until-only;
+          };
+      label-rest = t .loop .inv .1 .label-only;
+      made-rest = t .loop .inv .1 .made-only;
     }
 
 pub merge-all-spec : {M : Type 1} → statement M

@@ -97,6 +97,7 @@ returns c =
     record {
       noted = noted-of (one-label w) (other-label w) (w .weight .ensures .is) (n .note-merge .ensures);
       joined = j .join-ends .ensures .labels;
+      label-rest = j .join-ends .ensures .rest;
     }
 
 pub merge-edge-spec : {M : Type 1} → statement M

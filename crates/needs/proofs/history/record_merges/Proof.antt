@@ -62,7 +62,7 @@ returns : tie.Need-returns
 returns c =
     let m = c .before .before .before .before .before .before in
     let total = start (m .before .before .before .before .before .before) .args .total .now in
-    let w = m .merge-all .ensures in
+    let w = m .merge-all .ensures .written in
     record {
       history = w .history;
       total-rest = only-first-on (only-first-store (only-first-none _ total) 0 0 (omega arith)) (w .total-rest);

@@ -20,7 +20,7 @@ same-length c = search needs
 returns-2 : tie.Need-returns-2
 returns-2 c =
     let w = c .before .before .before in
-    record { too-small = λ h. absurd (omega (arith, w .before .before .before .if1 .left)); answered = λ h. w .answer-in .ensures }
+    record { too-small = λ h. absurd (omega (arith, w .before .before .before .if1 .left)); answered = λ h. w .answer-in .ensures .answered }
 
 pub answer-spec : {M : Type 1} → statement M
 answer-spec = tie.close (tie.spec returns slice-aggregate-answer-in answer-in-requires same-length returns-2)

@@ -1,7 +1,7 @@
 -- `question::question::answer_in` meets its contract: the refusal of an unknown question, or the text of the planner's reply.
 -- Assumes nothing.
 use Prim.Native.Nat.{_≤_}
-use mathlib.Core.Path.{_≡_, sym, _∙_}
+use mathlib.Core.Path.{_≡_, refl, sym, _∙_}
 use mathlib.Core.Bool.{false}
 use lib.ListN.{length}
 use Rattle.rules.specs.Questions.{unknown}
@@ -34,7 +34,7 @@ returns : tie.Need-returns
 returns c =
     let w = c .before .before in
     let t = w .before .before in
-    unknown-answered (sym (t .before .unknown .ensures) ∙ t .if1 .taken) (w .write-refused .ensures)
+    record { answered = unknown-answered (sym (t .before .unknown .ensures) ∙ t .if1 .taken) (w .write-refused .ensures); buf-scratch = refl }
 
 u16-at-requires : tie.Need-u16-at-requires
 u16-at-requires c κs = search needs
@@ -73,8 +73,12 @@ returns-2 c =
     let p = k .before .before in
     let e = p .before .before .before in
     let n = e .before .before .before in
-    known-answered (known n) (start n .pre .buffer) (e .before .before .u16-at .ensures .is) (e .before .u16-at2 .ensures .is) (e .u32-at .ensures .is)
-    (sheet-is (start n .args .input .now)) (p .reply-to .ensures) (w .write-reply .ensures)
+    record {
+      answered =
+          known-answered (known n) (start n .pre .buffer) (e .before .before .u16-at .ensures .is) (e .before .u16-at2 .ensures .is) (e .u32-at .ensures .is)
+          (sheet-is (start n .args .input .now)) (p .reply-to .ensures) (w .write-reply .ensures);
+      buf-scratch = same-length-2 c;
+    }
 
 pub answer-in-spec : {M : Type 1} → statement M
 answer-in-spec =

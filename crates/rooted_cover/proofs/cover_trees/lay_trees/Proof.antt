@@ -7,7 +7,9 @@ use native.Mathlib.Omega.{arith}
 use lib.ListN.{length, length-set}
 use lib.Seq.{getD-set-same}
 use borrow.Author.Needs.{needs}
+use Rattle.lists.specs.Put.{OnlyFirst}
 use Rattle.lists.proofs.Put.{put-length}
+use Rattle.lists.proofs.OnlyFirst.{only-first-none, only-first-store, only-first-on, only-first-put}
 use Rattle.graph.specs.Bytes.{graphOf}
 use Rattle.distance_table.proofs.RowPlaces.{row-room, row-behind}
 use Rattle.rooted_state.specs.Placed.{arraysOf}
@@ -24,6 +26,8 @@ Inv-loop b order table lasts roots starts cuts flat lefts places out bounds₀ e
       laid : TreesLaid (graphOf b) table lasts roots (arraysOf starts cuts flat lefts places) out j at bounds edges;
       bounds-size : length bounds ≡ length bounds₀;
       edges-size : length edges ≡ length edges₀;
+      bounds-rest : OnlyFirst (length roots + 1) bounds₀ bounds;
+      edges-rest : OnlyFirst (length roots * graphOf b .vertices) edges₀ edges;
     }
 
 abbrev μ-loop : tie.MeasureT-loop
@@ -62,6 +66,8 @@ loop-holds c =
       laid = trees-none _ _ (getD-set-same (s .args .bounds .now) 0 0 0 (omega (arith, s .pre .bounds-fit)));
       bounds-size = refl;
       edges-size = refl;
+      bounds-rest = only-first-none _ _;
+      edges-rest = only-first-none _ _;
     }
 
 put-tree-requires : tie.Need-put-tree-requires Inv-loop μ-loop
@@ -98,6 +104,11 @@ loop-again c =
       laid = trees-more (v .laid) (room t) put;
       bounds-size = length-set (l .loop .bounds) (l .loop .j + 1) _ ∙ v .bounds-size;
       edges-size = put-length (put .put .put) ∙ v .edges-size;
+      bounds-rest = only-first-store (v .bounds-rest) (l .loop .j + 1) _ (omega (arith, t .loop-test .taken));
+      edges-rest =
+          only-first-on (v .edges-rest)
+          (only-first-put (put .put .put) (length (s t .args .roots .now) * n t)
+          (omega (arith, put .put .behind, put .fewer, fits t (length (s t .args .roots .now) * n t) (omega arith))));
     }
 
 same-length : tie.Need-same-length Inv-loop μ-loop
@@ -113,7 +124,11 @@ returns c =
     let l = c .before in
     let all : l .loop .j ≡ length (came l .args .roots .now) = omega (arith, l .loop .inv .within, c .loop-test .left) in
     let laid = rw all at (l .loop .inv .laid) in
-    rw (laid .bounded .last) laid
+    record {
+      laid = rw (laid .bounded .last) laid;
+      bounds-rest = only-first-on (only-first-store (only-first-none _ (came l .args .bounds .now)) 0 0 (omega arith)) (l .loop .inv .bounds-rest);
+      edges-rest = l .loop .inv .edges-rest;
+    }
 
 pub lay-trees-spec : {M : Type 1} → statement M
 lay-trees-spec =

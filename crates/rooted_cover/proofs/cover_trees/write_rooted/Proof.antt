@@ -71,7 +71,7 @@ slice-aggregate-heaviest-chosen-2 c = count (c .before .before .before .before)
 heaviest-chosen-requires : tie.Need-heaviest-chosen-requires
 heaviest-chosen-requires c κs =
     let u = c .before .before .before .before in
-    rw (numbers-are u) (trees-held (s u .pre) (laid u .lay-trees .ensures))
+    rw (numbers-are u) (trees-held (s u .pre) (laid u .lay-trees .ensures .laid))
 
 slice-aggregate-write-cover : tie.Need-slice-aggregate-write-cover
 slice-aggregate-write-cover c = search needs
@@ -89,7 +89,7 @@ slice-aggregate-write-cover-2 c = count (numbered (c .before .before .before .be
 write-cover-requires : tie.Need-write-cover-requires
 write-cover-requires c κs =
     let u = numbered (c .before .before .before .before) in
-    rw (numbers-are u) (trees-writable (s u .pre) (laid u .lay-trees .ensures))
+    rw (numbers-are u) (trees-writable (s u .pre) (laid u .lay-trees .ensures .laid))
 
 same-length : tie.Need-same-length
 same-length c = search needs
@@ -102,7 +102,11 @@ returns c =
     let w = c .before .before in
     let h = w .before .before .before .before .before in
     let u = numbered h in
-    cover-written (s u .pre) (laid u .lay-trees .ensures) (rw (numbers-are u) at (w .write-cover .ensures)) (rw (numbers-are u) at (h .heaviest-chosen .ensures))
+    let trees = laid u .lay-trees .ensures in
+    record {
+      cover = cover-written (s u .pre) (trees .laid) (rw (numbers-are u) at (w .write-cover .ensures)) (rw (numbers-are u) at (h .heaviest-chosen .ensures));
+      edges-rest = trees .edges-rest;
+    }
 
 pub write-rooted-spec : {M : Type 1} → statement M
 write-rooted-spec =

@@ -37,7 +37,7 @@ module _ (q : tie.After-pieces-near) where
   words = q .pieces-near .last .1 .1 .1 .1 .1 .1 .1 .1 .1 .0
 
   near : PartsNear g (s .args .roots .now) (s .args .limit) words p
-  near = q .pieces-near .ensures
+  near = q .pieces-near .ensures .near
 
   many : length (take p words) ≡ p
   many = length-take-le p words (near .within)
@@ -95,7 +95,11 @@ returns : tie.Need-returns
 returns c =
     let i = c .before .before in
     let w = i .before .before .before .before .before in
-    rows-assigned (near (q w)) (put w) (s (q w) .pre .rows-room) (i .assign-roots .ensures)
+    record {
+      placed = rows-assigned (near (q w)) (put w) (s (q w) .pre .rows-room) (i .assign-roots .ensures);
+      rows-rest = rw (many (q w)) at (put w .rest);
+      out-rest = i .assign-roots .ensures .rest;
+    }
 
 pub assign-parts-spec : {M : Type 1} → statement M
 assign-parts-spec =

@@ -38,7 +38,11 @@ returns : tie.Need-returns
 returns c =
     let p = c .before .before in
     let w = p .before .before .before .before .before in
-    pieces-near (start (w .before) .pre) (w .roots-within .ensures .near) (p .near-pieces .ensures)
+    let asked = start (w .before) .pre in
+    record {
+      near = pieces-near asked (w .roots-within .ensures .near) (p .near-pieces .ensures);
+      rest = rw (many (asked .held)) at (p .near-pieces .ensures .rest);
+    }
 
 pub pieces-near-spec : {M : Type 1} → statement M
 pieces-near-spec =

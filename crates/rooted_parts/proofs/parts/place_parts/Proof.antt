@@ -27,7 +27,7 @@ assign-parts-requires : tie.Need-assign-parts-requires
 assign-parts-requires c κs =
     let q = placed c in
     let p = start q .pre in
-    let held = asked-held p (q .place-pieces .ensures) in
+    let held = asked-held p (q .place-pieces .ensures .placed) in
     record { held = held; rows-room = rows-enough held (p .rows-room); out-room = out-enough held (p .out-room) }
 
 same-length : tie.Need-same-length
@@ -55,7 +55,14 @@ returns : tie.Need-returns
 returns c =
     let r = c .before .before .before .before in
     let q = placed (r .before) in
-    record { pieces = q .place-pieces .ensures; rows = r .assign-parts .ensures }
+    let pieces = q .place-pieces .ensures in
+    let rows = r .assign-parts .ensures in
+    record {
+      placed = record { pieces = pieces .placed; rows = rows .placed };
+      pieces-rest = pieces .rest;
+      rows-rest = rows .rows-rest;
+      out-rest = rows .out-rest;
+    }
 
 pub place-parts-spec : {M : Type 1} → statement M
 place-parts-spec =

@@ -6,7 +6,7 @@ use lib.Seq.{length-take-le}
 use borrow.Author.Needs.{needs}
 use Rattle.lists.proofs.Put.{only-first-length}
 use Rattle.graph.specs.Bytes.{graphOf}
-use Rattle.rooted_parts.proofs.PiecesByNumber.{can-split, places-fit, pieces-placed}
+use Rattle.rooted_parts.proofs.PiecesByNumber.{can-split, places-fit, pieces-placed, pieces-rest}
 use Rattle.rooted_parts.proofs.parts.place_pieces.Statement.{statement}
 use Rattle.rooted_parts.proofs.parts.place_pieces.Tie as tie
 
@@ -68,7 +68,10 @@ returns c =
     let q = c .before .before in
     let f = split-done (q .before .before) in
     let v = counted f in
-    pieces-placed (s₀ v .pre) (n-is v) (f .split-forest .ensures) (q .part-places .ensures)
+    record {
+      placed = pieces-placed (s₀ v .pre) (n-is v) (f .split-forest .ensures) (q .part-places .ensures);
+      rest = pieces-rest (s₀ v .pre) (n-is v) (f .split-forest .ensures) (q .part-places .ensures);
+    }
 
 pub place-pieces-spec : {M : Type 1} → statement M
 place-pieces-spec =

@@ -1,6 +1,8 @@
 -- `search::limit::write_walk` meets its contract: the kind decides whether there is a walk to write. Assumes nothing.
 use mathlib.Core.Path.{_≡_}
 use native.Mathlib.Omega.{arith}
+use Rattle.lists.proofs.Put.{put-only-first}
+use Rattle.lists.proofs.OnlyFirst.{only-first-none}
 use Rattle.graph.specs.Bytes.{graphOf}
 use Rattle.rooted_state.specs.Prepared.{RootsGiven, WholeAround}
 use borrow.Author.Needs.{needs}
@@ -42,10 +44,14 @@ returns : tie.Need-returns
 returns c =
     let p = c .before .before in
     let v = p .before .before in
-    record { fits = walk-fits (p .put-walk .ensures); walked = λ _. walk-written (given v) (around v) (n-is v) (p .put-walk .ensures) }
+    record {
+      fits = walk-fits (p .put-walk .ensures);
+      walked = λ _. walk-written (given v) (around v) (n-is v) (p .put-walk .ensures);
+      rest = put-only-first (p .put-walk .ensures .put);
+    }
 
 returns-2 : tie.Need-returns-2
-returns-2 c = record { fits = omega arith; walked = λ q. absurd (one-kind q (c .enum-told2 .given .1)) }
+returns-2 c = record { fits = omega arith; walked = λ q. absurd (one-kind q (c .enum-told2 .given .1)); rest = only-first-none 0 _ }
 
 pub write-walk-spec : {M : Type 1} → statement M
 write-walk-spec =

@@ -1,7 +1,7 @@
 -- `waiting::wait::put_key` meets its contract: the lower of the block's least and the key is the block's least now. Assumes nothing.
 use mathlib.Core.Path.{refl}
 use borrow.Author.Needs.{needs}
-use Rattle.waiting.proofs.KeyBlocks.{blocks-put}
+use Rattle.waiting.proofs.KeyBlocks.{blocks-put, low-set}
 use Rattle.waiting.proofs.wait.put_key.Statement.{statement}
 use Rattle.waiting.proofs.wait.put_key.Tie as tie
 
@@ -35,7 +35,11 @@ same-length-2 c = search needs
 returns : tie.Need-returns
 returns c =
     let s = c .before .before .before .before in
-    record { stored = refl; blocks = blocks-put (s .pre .blocks) (s .pre .vertex) (s .args .key) (s .pre .no-higher) (c .lower .ensures) }
+    record {
+      stored = refl;
+      blocks = blocks-put (s .pre .blocks) (s .pre .vertex) (s .args .key) (s .pre .no-higher) (c .lower .ensures);
+      low-stored = low-set (s .pre .blocks) (s .pre .vertex) (c .lower .result);
+    }
 
 pub put-key-spec : {M : Type 1} → statement M
 put-key-spec = tie.close (tie.spec mul-wait slice-write-wait mul-lower slice-read-lower lower-requires mul-low slice-write-low same-length same-length-2 returns)

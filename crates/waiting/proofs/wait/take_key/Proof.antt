@@ -4,7 +4,7 @@ use native.Mathlib.Omega.{arith}
 use lib.ListN.{length-set}
 use borrow.Author.Needs.{needs}
 use Rattle.waiting.specs.Waiting.{nobody}
-use Rattle.waiting.proofs.KeyBlocks.{blocks-sought}
+use Rattle.waiting.proofs.KeyBlocks.{blocks-sought, low-set}
 use Rattle.waiting.proofs.wait.take_key.Statement.{statement}
 use Rattle.waiting.proofs.wait.take_key.Tie as tie
 
@@ -37,7 +37,11 @@ same-length-2 c = search needs
 returns : tie.Need-returns
 returns c =
     let s = c .before .before .before .before in
-    record { stored = refl; blocks = blocks-sought (s .pre .1) (s .pre .0) nobody (c .least-from .ensures) }
+    record {
+      stored = refl;
+      blocks = blocks-sought (s .pre .1) (s .pre .0) nobody (c .least-from .ensures);
+      low-stored = low-set (s .pre .1) (s .pre .0) (c .least-from .result);
+    }
 
 pub take-key-spec : {M : Type 1} → statement M
 take-key-spec = tie.close (tie.spec mul-wait slice-write-wait mul-least-from least-from-requires mul-low slice-write-low same-length same-length-2 returns)
