@@ -5,6 +5,7 @@ use mathlib.Core.Path.{_≡_}
 use mathlib.Core.List.{List}
 use Rattle.graph.specs.Graph.{Graph}
 use Rattle.rules.specs.Order.{ordered}
+use Rattle.rules.specs.Questions.{leastRoom, mostLimit}
 use Rattle.admit.specs.declared.crews.Kind.{Kind}
 use Rattle.admit.specs.declared.crews.Kind.the-variants.{Rooted, Unrooted}
 use Rattle.distance_table.specs.Tabled.{LastsTabled}
@@ -25,9 +26,9 @@ pub record AnswerAsked (kind : Kind) (k : ℕ) (g : Graph) (roots order kept bou
   pub in-order : order ≡ ordered g
   pub last-edges : kind ≡ Rooted → LastsTabled g roots table lasts
   pub crews-few : k ≤ 32
-  pub room-most : 32708 ≤ room
+  pub room-most : leastRoom ≤ room
 
 -- The same at a limit.
 pub record LimitAsked (kind : Kind) (k : ℕ) (g : Graph) (roots : List ℕ) (limit : ℕ) (order kept bounds arcs table lasts total until : List ℕ) (room : ℕ) : Type 0 where
   pub answer : AnswerAsked kind k g roots order kept bounds arcs table lasts total until room
-  pub limit-most : limit ≤ 2048000000
+  pub limit-most : limit ≤ mostLimit

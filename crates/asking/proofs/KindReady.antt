@@ -5,6 +5,7 @@ use mathlib.Core.Path.{_≡_, refl}
 use mathlib.Core.List.{List, []}
 use Rattle.graph.specs.Graph.{Graph}
 use Rattle.rules.specs.Order.{ordered}
+use Rattle.rules.specs.Questions.{leastRoom}
 use Rattle.admit.specs.declared.crews.Kind.the-variants.{Rooted, Unrooted}
 use Rattle.rooted_state.specs.Prepared.{Prepared}
 use Rattle.unrooted.specs.Answer as unrooted
@@ -13,7 +14,7 @@ use Rattle.answers.specs.Answers.{AnswerAsked}
 
 -- Everything is ready, for crews with roots,
 pub rooted-ready : {k room : ℕ} {g : Graph} {roots order kept bounds arcs table lasts : List ℕ} → Prepared g roots order kept bounds arcs table lasts
-    → k ≤ 32 → 32708 ≤ room → AnswerAsked Rooted k g roots order kept bounds arcs table lasts [] [] room
+    → k ≤ 32 → leastRoom ≤ room → AnswerAsked Rooted k g roots order kept bounds arcs table lasts [] [] room
 rooted-ready p few most =
     record {
       ready = record { valid = p .decidable .given .valid; decidable = λ _. p .decidable; history = λ q. absurd (one-kind refl q) };
@@ -25,7 +26,7 @@ rooted-ready p few most =
     }
 
 -- and for crews without.
-pub unrooted-ready : {k room : ℕ} {g : Graph} {order kept total until : List ℕ} → order ≡ ordered g → unrooted.HistoryReady g kept total until → k ≤ 32 → 32708 ≤ room
+pub unrooted-ready : {k room : ℕ} {g : Graph} {order kept total until : List ℕ} → order ≡ ordered g → unrooted.HistoryReady g kept total until → k ≤ 32 → leastRoom ≤ room
     → AnswerAsked Unrooted k g [] order kept [] [] [] [] total until room
 unrooted-ready in-order h few most =
     record {

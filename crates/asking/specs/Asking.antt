@@ -13,7 +13,7 @@ use Rattle.rules.specs.Reply as rules
 use Rattle.rules.specs.RootedTrial.{Choices}
 use Rattle.rules.specs.Search.{trial, bestLimit, best}
 use Rattle.rules.specs.Fit.{GoodFor}
-use Rattle.rules.specs.Questions.{crewFault}
+use Rattle.rules.specs.Questions.{mostLimit, leastRoom, crewFault}
 use Rattle.admit.specs.Crews.{crewsOf}
 use Rattle.admit.specs.declared.crews.Kind.{Kind}
 use Rattle.replies.specs.declared.Reply.{Reply}
@@ -38,7 +38,7 @@ replyTo Best g crews c = best g crews c
 
 -- A limit that is given is within document 01's range.
 abbrev pub LimitFits : Asked → Type 0
-LimitFits (At limit) = limit ≤ 2048000000
+LimitFits (At limit) = limit ≤ mostLimit
 LimitFits Best = Unit {0}
 
 -- The question is answered as the rules have it, by good choices.
@@ -56,7 +56,7 @@ pub record AskedReady (kind : Kind) (k : ℕ) (g : Graph) (roots : List ℕ) (as
 pub record RootedAsked (g : Graph) (roots : List ℕ) (asked : Asked) (room : ℕ) : Type 0 where
   pub given : RootsGiven g roots
   pub limit-fits : LimitFits asked
-  pub room-most : 32708 ≤ room
+  pub room-most : leastRoom ≤ room
 
 -- The same, with the arrays that it is answered in.
 pub record RootedLent (g : Graph) (roots : List ℕ) (asked : Asked) (order kept bounds all arcs table lasts : List ℕ) (room : ℕ) : Type 0 where
@@ -81,7 +81,7 @@ pub record UnrootedAsked (k : ℕ) (g : Graph) (asked : Asked) (room : ℕ) : Ty
   pub valid : Valid g
   pub crews-few : k ≤ 32
   pub limit-fits : LimitFits asked
-  pub room-most : 32708 ≤ room
+  pub room-most : leastRoom ≤ room
 
 -- The same, with the arrays that its edges are put in order in.
 pub record UnrootedLent (k : ℕ) (g : Graph) (asked : Asked) (keys spare order room : ℕ) : Type 0 where
@@ -105,4 +105,4 @@ pub record CrewsAsked (kind : Kind) (k : ℕ) (g : Graph) (asked : Asked) (room 
   pub valid : Valid g
   pub crews-right : crewFault (crewsOf kind k) (g .vertices) ≡ none
   pub limit-fits : LimitFits asked
-  pub room-most : 32708 ≤ room
+  pub room-most : leastRoom ≤ room

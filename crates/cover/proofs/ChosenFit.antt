@@ -17,6 +17,7 @@ use Rattle.graph.specs.Valid.{Valid}
 use Rattle.rules.specs.Cover.{Tree, IsTree}
 use Rattle.rules.specs.CoverBytes.{entryEdges}
 use Rattle.rules.specs.Held.{treesAt}
+use Rattle.rules.specs.Questions.{leastRoom}
 use Rattle.cover_laws.proofs.CoverSize.{trees-length}
 use Rattle.cover.specs.Chosen.{AllHeld, Writable}
 use Rattle.cover.proofs.ChosenBytes.{chosen-trees, chosen-edges}
@@ -27,7 +28,7 @@ module _ (starts bounds edges chosen : List ℕ) where
   chosen-entries = ap length (chosen-edges starts bounds edges chosen) ∙ length-flat-map (segment bounds edges) chosen
 
   -- At most 32 of them, each a tree of the graph.
-  pub trees-writable : (g : Graph) → Valid g → {room : ℕ} → 32708 ≤ room → AllHeld bounds edges chosen → length chosen ≤ 32
+  pub trees-writable : (g : Graph) → Valid g → {room : ℕ} → leastRoom ≤ room → AllHeld bounds edges chosen → length chosen ≤ 32
       → ((t : Tree) → t ∈ treesAt starts bounds edges chosen → IsTree g t) → Writable starts bounds edges chosen room
   trees-writable g valid most held few are =
       let trees = treesAt starts bounds edges chosen in

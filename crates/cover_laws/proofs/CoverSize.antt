@@ -15,7 +15,7 @@ use Rattle.graph.specs.Graph.{Graph}
 use Rattle.graph.specs.Valid.{Valid}
 use Rattle.rules.specs.Cover.{Tree, IsTree, Crews, rooted, unrooted, Starts, IsCover}
 use Rattle.rules.specs.CoverBytes.{entryEdges, encode}
-use Rattle.rules.specs.Questions.{crewCount, crewFault}
+use Rattle.rules.specs.Questions.{leastRoom, crewCount, crewFault}
 use Rattle.rules.proofs.CrewsRight.{quiet-crews}
 use Rattle.forest_laws.proofs.FewForest.{loopless-few}
 use Rattle.cover_laws.proofs.Writing.{Fits, length-encode}
@@ -32,7 +32,7 @@ unfolding entryEdges
 entries-few trees each = omega (arith, length-flat-map (λ (t : Tree). t .edges) trees, sum-most (λ (t : Tree). length (t .edges)) 255 trees each)
 
 -- and the bytes of at most 32 of them are at most 32,708.
-pub bytes-few : (trees : List Tree) → length trees ≤ 32 → ((t : Tree) → t ∈ trees → length (t .edges) ≤ 255) → length (encode trees) ≤ 32708
+pub bytes-few : (trees : List Tree) → length trees ≤ 32 → ((t : Tree) → t ∈ trees → length (t .edges) ≤ 255) → length (encode trees) ≤ leastRoom
 bytes-few trees few each = omega (arith, length-encode trees, entries-few trees each)
 
 module _ (g : Graph) (valid : Valid g) where
@@ -54,7 +54,7 @@ module _ (g : Graph) (valid : Valid g) where
           edges = λ t m e k. omega (arith, are t m .edges-inside e k, valid .edges-most);
         }
 
-    pub trees-length : length (encode trees) ≤ 32708
+    pub trees-length : length (encode trees) ≤ leastRoom
     trees-length = bytes-few trees few each-few
 
   -- So for a cover.

@@ -27,6 +27,7 @@ use Rattle.cover.proofs.ChosenFit.{bounded-held, bounded-entries}
 use Rattle.pieces.specs.Chosen.{byKey}
 use Rattle.pieces.specs.Pieces.{Laid}
 use Rattle.rules.specs.RootedTrial.{bySmallest}
+use Rattle.rules.specs.Questions.{leastRoom}
 use Rattle.deficient.specs.TooLowParts.{Keyed}
 use Rattle.pieces.proofs.SortedImages.{sorted-by-keys}
 
@@ -64,7 +65,7 @@ module _ (starts cuts flat chosen : List ℕ) {before laid bounds edges keys : L
   below-count : (c : ℕ) → c ∈ order → c < length chosen
   below-count c m = of-below (length chosen) (of-sort (byKey keys) (below (length chosen)) m)
 
-  pub laid-writable : {room : ℕ} → length chosen < 256 → length edges ≤ 256 → 32708 ≤ room → Writable laid bounds edges order room
+  pub laid-writable : {room : ℕ} → length chosen < 256 → length edges ≤ 256 → leastRoom ≤ room → Writable laid bounds edges order room
   laid-writable few light most =
       let trees = treesAt laid bounds edges order in
       let entries = bounded-entries laid bounds edges order (w .bounded) (w .inside) below-count (sort-once (byKey keys) (rising-once (below-rising (length chosen)))) in

@@ -20,6 +20,7 @@ use Rattle.matching.specs.Assignment.{marked}
 use Rattle.rules.specs.Held.{treeAt, treesAt, risen}
 use Rattle.rules.specs.Cover.{Tree}
 use Rattle.rules.specs.RootedTrial.{partOf, bySmallest, chosenParts}
+use Rattle.rules.specs.Questions.{leastRoom}
 use Rattle.cover.specs.Chosen.{AllHeld}
 use Rattle.unions.specs.Deficient.{placesMarked}
 use Rattle.deficient.specs.TooLowParts.{edgesOf, ChosenGiven}
@@ -46,7 +47,7 @@ module _ (starts cuts flat places marks : List ℕ) where
       sym (sum-of-map (λ x. x) at (below (length places))) ∙ ap (sumOf (λ x. x)) (map-at-places f 0 places) ∙ sum-of-map (λ x. x) f places in
       omega (arith, sum-of-map f (λ i. getD places i 0) numbers, sum-split at (marked marks) (below (length places)), all)
 
-  pub marked-given : {room : ℕ} → AllHeld cuts flat places → length places < 256 → edgesOf cuts flat places < 256 → 32708 ≤ room
+  pub marked-given : {room : ℕ} → AllHeld cuts flat places → length places < 256 → edgesOf cuts flat places < 256 → leastRoom ≤ room
       → ChosenGiven cuts flat (placesMarked places marks) room
   marked-given held few light most =
       record {

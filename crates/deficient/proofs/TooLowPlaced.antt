@@ -20,6 +20,7 @@ use Rattle.rules.specs.Cover.{Tree}
 use Rattle.rules.specs.CoverBytes.{entryEdges}
 use Rattle.rules.specs.Held.{treeAt, treesAt, risen}
 use Rattle.rules.specs.RootedTrial.{mayGo}
+use Rattle.rules.specs.Questions.{leastRoom}
 use Rattle.planner_laws.proofs.RootedSize.{parts-edges-few, rooted-parts-few}
 use Rattle.deficient.specs.declared.Deficient.{Deficient}
 use Rattle.rooted_state.specs.Placed.{TrialArrays, PartsPlaced}
@@ -37,7 +38,7 @@ risen-edges starts cuts flat chosen =
     ∙ sum-same (λ c. length (risen (treeAt starts cuts flat c) .edges)) (λ c. length (segment cuts flat c)) chosen (λ c m. rise-length (segment cuts flat c))
 
 module _ {g : Graph} {roots : List ℕ} {limit : ℕ} {a : TrialArrays} {parts : ℕ} (p : PartsPlaced g roots limit a parts false) where
-  pub too-low-given : Valid g → {room : ℕ} → parts * length roots ≤ length (a .rows) → 32708 ≤ room
+  pub too-low-given : Valid g → {room : ℕ} → parts * length roots ≤ length (a .rows) → leastRoom ≤ room
       → SetGiven (a .pieces .cuts) (a .pieces .flat) (a .pieces .places) parts (a .rows) (a .out) (length roots) room
   too-low-given valid rows most =
       let few = rooted-parts-few g roots limit valid in

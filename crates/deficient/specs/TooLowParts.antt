@@ -14,6 +14,7 @@ use Rattle.matching.specs.Input.{allowedAt}
 use Rattle.rules.specs.CoverBytes.{encode}
 use Rattle.rules.specs.Held.{treesAt, risen}
 use Rattle.rules.specs.RootedTrial.{rootedParts, mayGo, chosenParts}
+use Rattle.rules.specs.Questions.{leastRoom}
 use Rattle.cover.specs.Chosen.{IsHeld, AllHeld}
 use Rattle.pieces.specs.Pieces.{Laid}
 use Rattle.replies.specs.declared.Reply.{Reply}
@@ -56,7 +57,7 @@ pub record ChosenGiven (cuts flat chosen : List ℕ) (room : ℕ) : Type 0 where
   pub held : AllHeld cuts flat chosen
   pub few : length chosen < 256
   pub light : edgesOf cuts flat chosen < 256
-  pub most : 32708 ≤ room
+  pub most : leastRoom ≤ room
 
 -- What writing the parts of a set asks: a place, a mark and a row for each part; pieces that are held, few and light; and a large buffer.
 pub record SetGiven (cuts flat places : List ℕ) (parts : ℕ) (rows marks : List ℕ) (k room : ℕ) : Type 0 where
@@ -66,7 +67,7 @@ pub record SetGiven (cuts flat places : List ℕ) (parts : ℕ) (rows marks : Li
   pub held : AllHeld cuts flat (take parts places)
   pub few : parts < 256
   pub light : edgesOf cuts flat (take parts places) < 256
-  pub most : 32708 ≤ room
+  pub most : leastRoom ≤ room
 
 -- The parts of the set were written, and the answer says how many there are and how many roots are allowed to them.
 pub record SetWritten (starts cuts flat places : List ℕ) (parts : ℕ) (rows marks : List ℕ) (k : ℕ) (before after : List ℕ) (r : Deficient) : Type 0 where

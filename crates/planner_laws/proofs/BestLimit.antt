@@ -25,6 +25,7 @@ use Rattle.rules.specs.Search.{accepts, Bounds, searched, bestLimit}
 use Rattle.forest_laws.proofs.Ordering.{in-ordered}
 use Rattle.planner_laws.proofs.SearchSteps.{width, Found, search-found, search-any, steps-enough}
 use Rattle.rules.specs.Fit.{GoodFor}
+use Rattle.rules.specs.Questions.{mostLimit}
 use Rattle.planner_laws.proofs.TrialBounds.{trialTrees, CoverWithin, TrialBounds}
 
 -- the sum of all weights, and the bounds at which the search begins
@@ -44,7 +45,7 @@ unfolding heaviest
 cover-within-sum {g} {trees = trees} cover = largest-most (treeWeight g) (allWeights g) trees (λ t m. tree-within-sum (cover .all-covered .are-trees t m))
 
 -- A valid graph's edges weigh at most 2,048,000,000 together, below 2 to the 31st.
-pub sum-bounded : {g : Graph} → Valid g → allWeights g ≤ 2048000000
+pub sum-bounded : {g : Graph} → Valid g → allWeights g ≤ mostLimit
 unfolding totalWeight ordered
 sum-bounded {g} valid =
     omega (

@@ -8,6 +8,7 @@ use Rattle.graph.specs.Graph.{Graph}
 use Rattle.graph.specs.Valid.{Valid}
 use Rattle.rules.specs.Cover.{Crews}
 use Rattle.rules.specs.Search.{accepts, Bounds, narrowed, searched, bestLimit}
+use Rattle.rules.specs.Questions.{mostLimit}
 use Rattle.planner_laws.proofs.BestLimit.{allWeights, firstBounds, best-limit-31, sum-bounded}
 
 -- The search does not leave its bounds,
@@ -32,12 +33,12 @@ search-within accepted (suc trials) low high h =
     go false accept lower upper rest = omega arith
 
 -- so that the best limit is at most the sum of all weights.
-pub best-limit-most : {g : Graph} → Valid g → (crews : Crews) → bestLimit g crews ≤ 2048000000
+pub best-limit-most : {g : Graph} → Valid g → (crews : Crews) → bestLimit g crews ≤ mostLimit
 best-limit-most {g} valid crews =
     let within = search-within (accepts g crews) 31 0 (allWeights g) (omega arith) in
     rw (best-limit-31 valid crews) (go (accepts g crews 0) (omega (arith, within, sum-bounded valid)))
   where
-    go : (zero-accepted : Bool) → searched (accepts g crews) 31 (firstBounds g) .high ≤ 2048000000
-        → cond zero-accepted 0 (searched (accepts g crews) 31 (firstBounds g) .high) ≤ 2048000000
+    go : (zero-accepted : Bool) → searched (accepts g crews) 31 (firstBounds g) .high ≤ mostLimit
+        → cond zero-accepted 0 (searched (accepts g crews) 31 (firstBounds g) .high) ≤ mostLimit
     go true h = omega arith
     go false h = h

@@ -13,6 +13,7 @@ use Rattle.rules.specs.Order.{ordered}
 use Rattle.rules.specs.Labels.{together}
 use Rattle.rules.specs.Forest.{keep}
 use Rattle.rules.specs.RootedTrial.{unjoinedAt}
+use Rattle.rules.specs.Questions.{leastRoom, mostLimit}
 use Rattle.replies.specs.declared.Reply.{Reply}
 use Rattle.replies.specs.Replies.{Answers}
 use Rattle.rooted_state.specs.Placed.{TrialArrays, PartsPlaced, CoverReady}
@@ -21,8 +22,8 @@ use Rattle.rooted_state.specs.Prepared.{Prepared}
 -- What the answer at a limit asks: what is prepared, a limit no larger than document 01 has it, and a large buffer.
 pub record RootedAnswerAsked (g : Graph) (roots : List ℕ) (limit : ℕ) (order kept bounds arcs table lasts : List ℕ) (room : ℕ) : Type 0 where
   pub prepared : Prepared g roots order kept bounds arcs table lasts
-  pub limit-most : limit ≤ 2048000000
-  pub most : 32708 ≤ room
+  pub limit-most : limit ≤ mostLimit
+  pub most : leastRoom ≤ room
 
 -- What is asked for the parts: the edges within the limit join every vertex to a root.
 pub record JoinedAsked (g : Graph) (roots : List ℕ) (limit : ℕ) (order bounds arcs table lasts : List ℕ) (room : ℕ) : Type 0 where

@@ -22,6 +22,7 @@ use Rattle.rules.specs.Cover.{Tree, heaviest}
 use Rattle.rules.specs.CoverBytes.{encode}
 use Rattle.rules.specs.Held.{treeAt, treesAt}
 use Rattle.rules.specs.RootedTrial.{Choices, GoodChoices, unionTree, rootedParts, rootedCover}
+use Rattle.rules.specs.Questions.{mostLimit}
 use Rattle.cover_laws.proofs.CoverSize.{bytes-few}
 use Rattle.planner_laws.proofs.RootedSize.{cover-tree-few}
 use Rattle.cover.specs.Chosen.{AllHeld, HeaviestChosen, Writable}
@@ -73,7 +74,7 @@ module _ {g : Graph} {order table lasts roots : List ℕ} {a : PieceArrays} {par
   abbrev trees : List Tree
   trees = treesAt roots bounds edges (below (length roots))
 
-  module _ (limit : ℕ) (rows : List ℕ) (small : limit ≤ 2048000000) (p : PartsPlaced g roots limit (record { pieces = a; rows = rows; out = out }) parts true) where
+  module _ (limit : ℕ) (rows : List ℕ) (small : limit ≤ mostLimit) (p : PartsPlaced g roots limit (record { pieces = a; rows = rows; out = out }) parts true) where
     -- They are the cover of some good choices.
     cover-is : (c : Choices) × GoodChoices g roots limit c × (trees ≡ rootedCover g roots limit c)
     unfolding treesAt treeAt rootedCover rootedParts unionTree

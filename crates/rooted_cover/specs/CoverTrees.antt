@@ -12,6 +12,7 @@ use Rattle.graph.specs.Valid.{Valid}
 use Rattle.rules.specs.Cover.{heaviest}
 use Rattle.rules.specs.CoverBytes.{encode}
 use Rattle.rules.specs.RootedTrial.{Choices, GoodChoices, unionTree, rootedCover}
+use Rattle.rules.specs.Questions.{mostLimit}
 use Rattle.distance_table.specs.Tabled.{rowOf}
 use Rattle.rooted_state.specs.Placed.{PieceArrays, arraysOf, PartsPlaced, CoverReady}
 use Rattle.rooted_cover.specs.Tree.{AssignedAre, RootGiven}
@@ -85,7 +86,7 @@ pub record CoverWritten (g : Graph) (roots : List ℕ) (limit : ℕ) (before aft
 
 -- So at every limit at which the parts are placed as they are.
 pub record CoverAtLimits (g : Graph) (roots : List ℕ) (a : PieceArrays) (parts : ℕ) (out before after : List ℕ) (r : ℕ) : Type 0 where
-  pub at-limit : (limit : ℕ) (rows : List ℕ) → limit ≤ 2048000000
+  pub at-limit : (limit : ℕ) (rows : List ℕ) → limit ≤ mostLimit
       → PartsPlaced g roots limit (record { pieces = a; rows = rows; out = out }) parts true → CoverWritten g roots limit before after r
 
 -- The same, with the array that the trees' edges were laid in: behind one element for each vertex and each root it is as it came.

@@ -15,6 +15,7 @@ use Rattle.matching.specs.Input.{allowedAt}
 use Rattle.rules.specs.Held.{treesAt, risen}
 use Rattle.rules.specs.Order.{ordered}
 use Rattle.rules.specs.RootedTrial.{rootedPieces, rootedParts, leftAt, mayGo, isAssignable}
+use Rattle.rules.specs.Questions.{leastRoom}
 use Rattle.cover.specs.Chosen.{IsHeld, AllHeld}
 use Rattle.distance_table.specs.Tabled.{LastsTabled}
 use Rattle.rooted_state.specs.Prepared.{LimitReady}
@@ -69,4 +70,4 @@ pub record CoverReady (g : Graph) (roots : List ℕ) (limit : ℕ) (order table 
   pub in-order : order ≡ ordered g
   pub last-edges : LastsTabled g roots table lasts
   pub edges-fit : length roots * g .vertices ≤ edges-room
-  pub most : 32708 ≤ room
+  pub most : leastRoom ≤ room

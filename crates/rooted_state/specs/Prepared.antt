@@ -13,6 +13,7 @@ use Rattle.rules.specs.Order.{ordered}
 use Rattle.rules.specs.Labels.{together}
 use Rattle.rules.specs.Forest.{keep}
 use Rattle.rules.specs.RootedTrial.{unjoinedAt}
+use Rattle.rules.specs.Questions.{mostLimit}
 use Rattle.edges.specs.Around.{Around}
 use Rattle.steps.specs.WalkPut.{TreeSteps}
 use Rattle.distance_table.specs.Tabled.{DistancesTabled, LastsTabled}
@@ -49,12 +50,12 @@ pub record Prepared (g : Graph) (roots order kept bounds arcs table lasts : List
 pub record LimitReady (g : Graph) (roots : List ℕ) (limit : ℕ) (table : List ℕ) : Type 0 where
   pub given : RootsGiven g roots
   pub distances : DistancesTabled g roots table
-  pub limit-most : limit ≤ 2048000000
+  pub limit-most : limit ≤ mostLimit
 
 -- What a trial at a limit asks: what is prepared, and a limit no larger than document 01 has it.
 pub record TrialAsked (g : Graph) (roots : List ℕ) (limit : ℕ) (kept table : List ℕ) : Type 0 where
   pub decidable : Decidable g roots kept table
-  pub limit-most : limit ≤ 2048000000
+  pub limit-most : limit ≤ mostLimit
 
 -- What a trial asks for its parts: the edges within the limit join every vertex to a root.
 pub record PartsReady (g : Graph) (roots : List ℕ) (limit : ℕ) (table : List ℕ) : Type 0 where

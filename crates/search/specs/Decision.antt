@@ -6,6 +6,7 @@ use mathlib.Core.Bool.{false}
 use mathlib.Core.List.{List}
 use Rattle.graph.specs.Graph.{Graph}
 use Rattle.rules.specs.Search.{noCover}
+use Rattle.rules.specs.Questions.{mostLimit}
 use Rattle.admit.specs.declared.crews.Kind.{Kind}
 use Rattle.admit.specs.declared.crews.Kind.the-variants.{Rooted}
 use Rattle.rooted_state.specs.Prepared.{WholeWalked}
@@ -20,4 +21,4 @@ pub record CrewsPrepared (kind : Kind) (k : ℕ) (g : Graph) (roots kept table t
 pub record DecisionAsked (kind : Kind) (k : ℕ) (g : Graph) (roots : List ℕ) (limit : ℕ) (kept table total until walk : List ℕ) : Type 0 where
   pub crews : CrewsPrepared kind k g roots kept table total until
   pub walked : kind ≡ Rooted → WholeWalked g roots walk
-  pub limit-most : limit ≤ 2048000000
+  pub limit-most : limit ≤ mostLimit

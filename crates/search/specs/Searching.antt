@@ -9,6 +9,7 @@ use Rattle.graph.specs.Graph.{Graph}
 use Rattle.rules.specs.Cover as cover
 use Rattle.rules.specs.Order.{ordered}
 use Rattle.rules.specs.Search.{accepts, Bounds, searched}
+use Rattle.rules.specs.Questions.{mostLimit}
 use Rattle.admit.specs.declared.crews.Kind.{Kind}
 use Rattle.admit.specs.declared.crews.Kind.the-variants.{Rooted}
 use Rattle.rooted_state.specs.Prepared.{RootsGiven, WholeAround, WholeWalked}
@@ -26,7 +27,7 @@ searchEnd g crews sum budget = searched (accepts g crews) budget (between 0 sum)
 pub record SearchAsked (kind : Kind) (k : ℕ) (g : Graph) (roots kept table total until walk : List ℕ) (sum : ℕ) : Type 0 where
   pub crews : CrewsPrepared kind k g roots kept table total until
   pub walked : kind ≡ Rooted → WholeWalked g roots walk
-  pub sum-most : sum ≤ 2048000000
+  pub sum-most : sum ≤ mostLimit
 
 -- What the best limit by the walk asks: the edges in order, by which the sum is taken.
 pub record WalkedAsked (kind : Kind) (k : ℕ) (g : Graph) (roots order kept table total until walk : List ℕ) : Type 0 where

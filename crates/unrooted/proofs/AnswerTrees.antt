@@ -28,6 +28,7 @@ use Rattle.rules.specs.Grow.{Rooted}
 use Rattle.rules.specs.Held.{treeAt, treesAt, risen}
 use Rattle.rules.specs.Split as rules
 use Rattle.rules.specs.UnrootedTrial.{components, needed, fromLowest, componentTrees, startsBefore, unrootedTrees}
+use Rattle.rules.specs.Questions.{leastRoom}
 use Rattle.split_laws.proofs.Whole.{valid-ends}
 use Rattle.planner_laws.proofs.UnrootedNumber.{unrooted-few}
 use Rattle.planner_laws.proofs.UnrootedTrees.{unrooted-is-tree}
@@ -184,7 +185,7 @@ module _ {g : Graph} {limit : ℕ} {starts₀ starts cuts₀ cuts edges₀ edges
     answer-count = o .count ∙ places-count
 
     -- They may be written where there is room for 32 trees.
-    pub answer-writable : {room : ℕ} → 32708 ≤ room → needed g limit ≤ 32 → Writable starts′ cuts edges′ (take t chosen) room
+    pub answer-writable : {room : ℕ} → leastRoom ≤ room → needed g limit ≤ 32 → Writable starts′ cuts edges′ (take t chosen) room
     answer-writable most few =
         trees-writable starts′ cuts edges′ (take t chosen) g valid most answer-held
         (omega (arith, length-take-le t chosen (o .room), answer-count, unrooted-few g limit))

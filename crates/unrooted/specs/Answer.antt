@@ -9,6 +9,7 @@ use Rattle.graph.specs.Graph.{Graph}
 use Rattle.rules.specs.Labels.{apart}
 use Rattle.rules.specs.Forest.{forest}
 use Rattle.rules.specs.UnrootedTrial.{needed}
+use Rattle.rules.specs.Questions.{leastRoom, mostLimit}
 use Rattle.needs.specs.Given.{ForestKept}
 use Rattle.needs.specs.History.{HistoryKept}
 use Rattle.unrooted.specs.declared.answer.AtLimit.{AtLimit}
@@ -28,5 +29,5 @@ pub record LimitKnown (g : Graph) (kept : List ℕ) (limit : ℕ) (r : AtLimit) 
 pub record UnrootedAnswerAsked (g : Graph) (k limit : ℕ) (kept total until : List ℕ) (room : ℕ) : Type 0 where
   pub ready : HistoryReady g kept total until
   pub crews-few : k ≤ 32
-  pub limit-most : limit ≤ 2048000000
-  pub enough : 32708 ≤ room
+  pub limit-most : limit ≤ mostLimit
+  pub enough : leastRoom ≤ room

@@ -15,6 +15,7 @@ use Rattle.rules.specs.Labels.{apart}
 use Rattle.rules.specs.Forest.{forest, labelsAt, lowest}
 use Rattle.rules.specs.Split as rules
 use Rattle.rules.specs.UnrootedTrial.{components, needed, unrootedTrees}
+use Rattle.rules.specs.Questions.{leastRoom, mostLimit}
 use Rattle.split.specs.Pieces.{piecesOf, leftPlaces}
 use Rattle.needs.specs.Given.{ForestGiven}
 use Rattle.pieces.specs.Chosen.{byKey}
@@ -26,7 +27,7 @@ use Rattle.unrooted.specs.declared.unrooted.Written.{Written}
 -- The forest at the limit, and room for the pieces of any.
 pub record SplitAsked (g : Graph) (edges : List ℕ) (limit : ℕ) (starts cuts flat lefts : List ℕ) : Type 0 where
   pub forest-given : ForestGiven g edges limit
-  pub limit-most : limit ≤ 2048000000
+  pub limit-most : limit ≤ mostLimit
   pub starts-room : 512 ≤ length starts
   pub cuts-room : 512 < length cuts
   pub flat-room : 256 ≤ length flat
@@ -66,8 +67,8 @@ pub record TreesOrdered (g : Graph) (pieces : ℕ) (lefts starts₀ starts₁ cu
 pub record UnrootedTreesAsked (g : Graph) (edges : List ℕ) (limit : ℕ) (buf : List ℕ) : Type 0 where
   pub forest-given : ForestGiven g edges limit
   pub needs-few : needed g limit ≤ 32
-  pub limit-most : limit ≤ 2048000000
-  pub room : 32708 ≤ length buf
+  pub limit-most : limit ≤ mostLimit
+  pub room : leastRoom ≤ length buf
 
 -- The bytes of the answer's trees were written, with everything behind them as it came; r says the weight of the heaviest and how many.
 pub record TreesWritten (g : Graph) (limit : ℕ) (before after : List ℕ) (r : Written) : Type 0 where
