@@ -12,7 +12,7 @@ use Rattle.prepare.specs.Crews.{CrewsReady}
 use Rattle.answers.specs.Answers.{ForestReady, LimitAsked}
 
 -- Whether no cover exists.
-pub forest-ready : {kind : Kind} {g : Graph} {roots kept table total until : List ℕ} → CrewsReady kind g roots kept table total until
+pub forest-ready : {kind : Kind} {g : Graph} {roots kept distances total until : List ℕ} → CrewsReady kind g roots kept distances total until
     → ForestReady kind g roots kept
 forest-ready r =
     record {
@@ -21,9 +21,9 @@ forest-ready r =
     }
 
 -- An answer at a limit.
-module _ {kind : Kind} {k limit room : ℕ} {g : Graph} {roots order kept bounds arcs table lasts total until : List ℕ}
-    (a : LimitAsked kind k g roots limit order kept bounds arcs table lasts total until room) where
-  pub rooted-answer-asked : kind ≡ Rooted → RootedAnswerAsked g roots limit order kept bounds arcs table lasts room
+module _ {kind : Kind} {k limit room : ℕ} {g : Graph} {roots order kept bounds arcs distances lasts total until : List ℕ}
+    (a : LimitAsked kind k g roots limit order kept bounds arcs distances lasts total until room) where
+  pub rooted-answer-asked : kind ≡ Rooted → RootedAnswerAsked g roots limit order kept bounds arcs distances lasts room
   rooted-answer-asked q =
       record {
         prepared =

@@ -20,15 +20,15 @@ pub record ForestReady (kind : Kind) (g : Graph) (roots kept : List ℕ) : Type 
   pub without : kind ≡ Unrooted → ForestKept g kept
 
 -- Everything that the crews read, at most 32 of them, and a buffer that is large enough.
-pub record AnswerAsked (kind : Kind) (k : ℕ) (g : Graph) (roots order kept bounds arcs table lasts total until : List ℕ) (room : ℕ) : Type 0 where
-  pub ready : CrewsReady kind g roots kept table total until
+pub record AnswerAsked (kind : Kind) (k : ℕ) (g : Graph) (roots order kept bounds arcs distances lasts total until : List ℕ) (room : ℕ) : Type 0 where
+  pub ready : CrewsReady kind g roots kept distances total until
   pub around : kind ≡ Rooted → WholeAround g roots bounds arcs
   pub in-order : order ≡ ordered g
-  pub last-edges : kind ≡ Rooted → LastsTabled g roots table lasts
+  pub last-edges : kind ≡ Rooted → LastsTabled g roots distances lasts
   pub crews-few : k ≤ 32
   pub room-most : leastRoom ≤ room
 
 -- The same at a limit.
-pub record LimitAsked (kind : Kind) (k : ℕ) (g : Graph) (roots : List ℕ) (limit : ℕ) (order kept bounds arcs table lasts total until : List ℕ) (room : ℕ) : Type 0 where
-  pub answer : AnswerAsked kind k g roots order kept bounds arcs table lasts total until room
+pub record LimitAsked (kind : Kind) (k : ℕ) (g : Graph) (roots : List ℕ) (limit : ℕ) (order kept bounds arcs distances lasts total until : List ℕ) (room : ℕ) : Type 0 where
+  pub answer : AnswerAsked kind k g roots order kept bounds arcs distances lasts total until room
   pub limit-most : limit ≤ mostLimit

@@ -35,13 +35,13 @@ pub fn answer_at(
     kept: &[u16],
     bounds: &[u16],
     arcs: &[u64],
-    table: &[u32],
+    distances: &[u32],
     lasts: &[u32],
     total: &[u64],
     until: &[u16],
     buf: &mut [u8],
 ) -> Reply
-    requires { ⌜ LimitAsked kind k (graphOf (now b)) (now roots) limit (now order) (now kept) (now bounds) (now arcs) (now table) (now lasts) (now total) (now until) (length (now buf)) ⌝ }
+    requires { ⌜ LimitAsked kind k (graphOf (now b)) (now roots) limit (now order) (now kept) (now bounds) (now arcs) (now distances) (now lasts) (now total) (now until) (length (now buf)) ⌝ }
     ensures { λ r. ⌜ Answers (graphOf (now (b .entry))) (crewsWith kind k (now (roots .entry))) limit (now (buf .entry)) (now (buf .exit)) r ⌝ }
 {
     match kind {
@@ -53,7 +53,7 @@ pub fn answer_at(
             kept,
             bounds,
             arcs,
-            table,
+            distances,
             lasts,
             buf,
         ),

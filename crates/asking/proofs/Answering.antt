@@ -36,7 +36,7 @@ use Rattle.prepare.specs.Crews.{crewsWith, CrewsReady}
 use Rattle.asking.specs.Asking.{Answered, RootedAsked, UnrootedAsked, CrewsAsked}
 
 -- Good choices exist for crews of either kind.
-pub choices-for : (kind : Kind) (k : ℕ) {g : Graph} {roots kept table total until : List ℕ} → CrewsReady kind g roots kept table total until
+pub choices-for : (kind : Kind) (k : ℕ) {g : Graph} {roots kept distances total until : List ℕ} → CrewsReady kind g roots kept distances total until
     → (limit : ℕ) → (c : Choices) × GoodFor g (crewsWith kind k roots) limit c
 choices-for Rooted k {roots = roots} ready limit = some-choices (ready .valid) roots (roots-inside (ready .decidable refl .given)) limit
 choices-for Unrooted k ready limit = (record { assignment = []; paths = []; marks = [] }, tt)

@@ -13,8 +13,8 @@ use Rattle.search.proofs.KindDecides.{one-kind}
 use Rattle.answers.specs.Answers.{AnswerAsked}
 
 -- Everything is ready, for crews with roots,
-pub rooted-ready : {k room : ℕ} {g : Graph} {roots order kept bounds arcs table lasts : List ℕ} → Prepared g roots order kept bounds arcs table lasts
-    → k ≤ 32 → leastRoom ≤ room → AnswerAsked Rooted k g roots order kept bounds arcs table lasts [] [] room
+pub rooted-ready : {k room : ℕ} {g : Graph} {roots order kept bounds arcs distances lasts : List ℕ} → Prepared g roots order kept bounds arcs distances lasts
+    → k ≤ 32 → leastRoom ≤ room → AnswerAsked Rooted k g roots order kept bounds arcs distances lasts [] [] room
 rooted-ready p few most =
     record {
       ready = record { valid = p .decidable .given .valid; decidable = λ _. p .decidable; history = λ q. absurd (one-kind refl q) };

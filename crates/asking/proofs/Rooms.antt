@@ -10,8 +10,8 @@ use borrow.Author.Tests.{leb-true}
 use Rattle.graph.specs.Graph.{Graph, edgeCount}
 use Rattle.prepare.specs.Preparing.{SizeTold, RootedRoom}
 
-pub room-for-fewer : {n m k N M K order kept bounds all arcs table lasts : ℕ} → n ≤ N → m ≤ M → k ≤ K → RootedRoom N M K order kept bounds all arcs table lasts
-    → RootedRoom n m k order kept bounds all arcs table lasts
+pub room-for-fewer : {n m k N M K order kept bounds all arcs distances lasts : ℕ} → n ≤ N → m ≤ M → k ≤ K → RootedRoom N M K order kept bounds all arcs distances lasts
+    → RootedRoom n m k order kept bounds all arcs distances lasts
 room-for-fewer v e c r =
     record {
       order-room = omega (arith, r .order-room);
@@ -20,7 +20,7 @@ room-for-fewer v e c r =
       all-room = omega (arith, r .all-room);
       arcs-room = omega (arith, r .arcs-room);
       spare-room = omega (arith, r .spare-room);
-      table-room = omega (arith, r .table-room, mul-le-mul c v);
+      distances-room = omega (arith, r .distances-room, mul-le-mul c v);
       lasts-room = omega (arith, r .lasts-room, mul-le-mul c v);
     }
 

@@ -48,8 +48,8 @@ pub record Answered (asked : Asked) (g : Graph) (crews : cover.Crews) (before af
   pub replied : Replied (replyTo asked g crews choices) before after r
 
 -- Everything that the crews read, for what is asked: a limit that is given is within document 01's range.
-pub record AskedReady (kind : Kind) (k : ℕ) (g : Graph) (roots : List ℕ) (asked : Asked) (order kept bounds arcs table lasts total until : List ℕ) (room : ℕ) : Type 0 where
-  pub answer : AnswerAsked kind k g roots order kept bounds arcs table lasts total until room
+pub record AskedReady (kind : Kind) (k : ℕ) (g : Graph) (roots : List ℕ) (asked : Asked) (order kept bounds arcs distances lasts total until : List ℕ) (room : ℕ) : Type 0 where
+  pub answer : AnswerAsked kind k g roots order kept bounds arcs distances lasts total until room
   pub limit-fits : LimitFits asked
 
 -- A question by crews with roots of which nothing is prepared yet.
@@ -59,17 +59,17 @@ pub record RootedAsked (g : Graph) (roots : List ℕ) (asked : Asked) (room : �
   pub room-most : leastRoom ≤ room
 
 -- The same, with the arrays that it is answered in.
-pub record RootedLent (g : Graph) (roots : List ℕ) (asked : Asked) (order kept bounds all arcs table lasts : List ℕ) (room : ℕ) : Type 0 where
+pub record RootedLent (g : Graph) (roots : List ℕ) (asked : Asked) (order kept bounds all arcs distances lasts : List ℕ) (room : ℕ) : Type 0 where
   pub question : RootedAsked g roots asked room
   pub arrays : RootedRoom (g .vertices) (edgeCount g) (length roots) (length order) (length kept) (length bounds) (length all) (length arcs)
-      (length table) (length lasts)
+      (length distances) (length lasts)
 
 -- It is answered, and the arrays hold what was prepared for it.
-pub record RootedAnswered (asked : Asked) (g : Graph) (roots order₀ order kept₀ kept bounds₀ bounds all₀ all arcs₀ arcs table₀ table lasts₀ lasts before after : List ℕ)
+pub record RootedAnswered (asked : Asked) (g : Graph) (roots order₀ order kept₀ kept bounds₀ bounds all₀ all arcs₀ arcs distances₀ distances lasts₀ lasts before after : List ℕ)
     (r : Reply) : Type 0 where
   pub answered : Answered asked g (cover.rooted roots) before after r
   pub ready : Ready
-  pub prepared : RootedPrepared g roots order₀ order kept₀ kept bounds₀ bounds all₀ all arcs₀ arcs table₀ table lasts₀ lasts ready
+  pub prepared : RootedPrepared g roots order₀ order kept₀ kept bounds₀ bounds all₀ all arcs₀ arcs distances₀ distances lasts₀ lasts ready
 
 -- A question by crews with roots of which nothing is prepared yet, about a small graph.
 pub record RootedSmall (g : Graph) (roots : List ℕ) (asked : Asked) (room : ℕ) : Type 0 where

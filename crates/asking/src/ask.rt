@@ -33,13 +33,13 @@ fn answer_best(
     kept: &[u16],
     bounds: &[u16],
     arcs: &[u64],
-    table: &[u32],
+    distances: &[u32],
     lasts: &[u32],
     total: &[u64],
     until: &[u16],
     buf: &mut [u8],
 ) -> Reply
-    requires { ⌜ AnswerAsked kind k (graphOf (now b)) (now roots) (now order) (now kept) (now bounds) (now arcs) (now table) (now lasts) (now total) (now until) (length (now buf)) ⌝ }
+    requires { ⌜ AnswerAsked kind k (graphOf (now b)) (now roots) (now order) (now kept) (now bounds) (now arcs) (now distances) (now lasts) (now total) (now until) (length (now buf)) ⌝ }
     ensures { λ r. ⌜ Answered Best (graphOf (now (b .entry))) (crewsWith kind k (now (roots .entry))) (now (buf .entry)) (now (buf .exit)) r ⌝ }
 {
     if no_cover(kind, k, b, roots, kept) {
@@ -54,7 +54,7 @@ fn answer_best(
         kept,
         bounds,
         arcs,
-        table,
+        distances,
         total,
         until,
     );
@@ -68,7 +68,7 @@ fn answer_best(
         kept,
         bounds,
         arcs,
-        table,
+        distances,
         lasts,
         total,
         until,
@@ -87,13 +87,13 @@ pub(crate) fn answer_asked(
     kept: &[u16],
     bounds: &[u16],
     arcs: &[u64],
-    table: &[u32],
+    distances: &[u32],
     lasts: &[u32],
     total: &[u64],
     until: &[u16],
     buf: &mut [u8],
 ) -> Reply
-    requires { ⌜ AskedReady kind k (graphOf (now b)) (now roots) asked (now order) (now kept) (now bounds) (now arcs) (now table) (now lasts) (now total) (now until) (length (now buf)) ⌝ }
+    requires { ⌜ AskedReady kind k (graphOf (now b)) (now roots) asked (now order) (now kept) (now bounds) (now arcs) (now distances) (now lasts) (now total) (now until) (length (now buf)) ⌝ }
     ensures { λ r. ⌜ Answered asked (graphOf (now (b .entry))) (crewsWith kind k (now (roots .entry))) (now (buf .entry)) (now (buf .exit)) r ⌝ }
 {
     match asked {
@@ -107,7 +107,7 @@ pub(crate) fn answer_asked(
             kept,
             bounds,
             arcs,
-            table,
+            distances,
             lasts,
             total,
             until,
@@ -122,7 +122,7 @@ pub(crate) fn answer_asked(
             kept,
             bounds,
             arcs,
-            table,
+            distances,
             lasts,
             total,
             until,

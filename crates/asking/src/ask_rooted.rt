@@ -21,17 +21,17 @@ fn ask_rooted_in(
     bounds: &mut [u16],
     all: &mut [u64],
     arcs: &mut [u64],
-    table: &mut [u32],
+    distances: &mut [u32],
     lasts: &mut [u32],
     buf: &mut [u8],
 ) -> Reply
-    requires { ⌜ RootedLent (graphOf (now b)) (now roots) asked (now order) (now kept) (now bounds) (now all) (now arcs) (now table) (now lasts) (length (now buf)) ⌝ }
+    requires { ⌜ RootedLent (graphOf (now b)) (now roots) asked (now order) (now kept) (now bounds) (now all) (now arcs) (now distances) (now lasts) (length (now buf)) ⌝ }
     ensures { λ r. ⌜ RootedAnswered asked (graphOf (now (b .entry))) (now (roots .entry)) (now (order .entry)) (now (order .exit)) (now (kept .entry)) (now (kept .exit))
         (now (bounds .entry)) (now (bounds .exit)) (now (all .entry)) (now (all .exit)) (now (arcs .entry)) (now (arcs .exit))
-        (now (table .entry)) (now (table .exit)) (now (lasts .entry)) (now (lasts .exit))
+        (now (distances .entry)) (now (distances .exit)) (now (lasts .entry)) (now (lasts .exit))
         (now (buf .entry)) (now (buf .exit)) r ⌝ }
 {
-    let ready = prepare_rooted(b, roots, order, kept, bounds, all, arcs, table, lasts);
+    let ready = prepare_rooted(b, roots, order, kept, bounds, all, arcs, distances, lasts);
     answer_asked(
         Kind::Rooted,
         roots.len(),
@@ -42,7 +42,7 @@ fn ask_rooted_in(
         &kept[..ready.forest],
         bounds,
         arcs,
-        table,
+        distances,
         lasts,
         &[],
         &[],
@@ -60,7 +60,7 @@ fn ask_rooted_small(b: &[u8], roots: &[u16], asked: Asked, buf: &mut [u8]) -> Re
     let mut bounds = [0u16; 65];
     let mut all = [0u64; 1024];
     let mut arcs = [0u64; 512];
-    let mut table = [0u32; 512];
+    let mut distances = [0u32; 512];
     let mut lasts = [0u32; 512];
     ask_rooted_in(
         b,
@@ -71,7 +71,7 @@ fn ask_rooted_small(b: &[u8], roots: &[u16], asked: Asked, buf: &mut [u8]) -> Re
         &mut bounds,
         &mut all,
         &mut arcs,
-        &mut table,
+        &mut distances,
         &mut lasts,
         buf,
     )
@@ -87,7 +87,7 @@ fn ask_rooted_full(b: &[u8], roots: &[u16], asked: Asked, buf: &mut [u8]) -> Rep
     let mut bounds = [0u16; 257];
     let mut all = [0u64; 4096];
     let mut arcs = [0u64; 2048];
-    let mut table = [0u32; 8192];
+    let mut distances = [0u32; 8192];
     let mut lasts = [0u32; 8192];
     ask_rooted_in(
         b,
@@ -98,7 +98,7 @@ fn ask_rooted_full(b: &[u8], roots: &[u16], asked: Asked, buf: &mut [u8]) -> Rep
         &mut bounds,
         &mut all,
         &mut arcs,
-        &mut table,
+        &mut distances,
         &mut lasts,
         buf,
     )

@@ -30,7 +30,7 @@ added-none {s = s} h =
       used-more = omega arith;
       starts-rest = only-first-none (s .pieces) (s .starts);
       cuts-rest = only-first-none (s .pieces + 1) (s .cuts);
-      flat-rest = only-first-none (s .used) (s .flat);
+      members-rest = only-first-none (s .used) (s .members);
     }
 
 -- Some trees are added, then others.
@@ -43,14 +43,14 @@ added-on {xs = xs} {ys = ys} {s = s} a b =
       used-more = omega (arith, a .used-more, b .used-more);
       starts-rest = only-first-then (a .starts-rest) (b .starts-rest) (omega (arith, b .pieces-more));
       cuts-rest = only-first-then (a .cuts-rest) (b .cuts-rest) (omega (arith, b .pieces-more));
-      flat-rest = only-first-then (a .flat-rest) (b .flat-rest) (b .used-more);
+      members-rest = only-first-then (a .members-rest) (b .members-rest) (b .used-more);
     }
 
 -- One piece is added, for which there is room.
 module _ {n : ℕ} {s : Store} (h : Sound n s) (v : ℕ) (inside : v < n) (edges : List ℕ) (room : s .used + length edges ≤ n)
     (starts-room : s .pieces + 1 + n ≤ s .used + length edges + length (s .starts))
     (cuts-room : s .pieces + 1 + n < s .used + length edges + length (s .cuts))
-    {flat : List ℕ} (put : Put (s .used) edges (s .flat) flat) where
+    {members : List ℕ} (put : Put (s .used) edges (s .members) members) where
   -- the bound behind it
   abbrev next : ℕ
   next = s .used + length edges
@@ -61,7 +61,7 @@ module _ {n : ℕ} {s : Store} (h : Sound n s) (v : ℕ) (inside : v < n) (edges
       record {
         starts = set (s .starts) (s .pieces) v;
         cuts = set (s .cuts) (s .pieces + 1) next;
-        flat = flat;
+        members = members;
         pieces = s .pieces + 1;
         used = next;
       }
@@ -75,15 +75,15 @@ module _ {n : ℕ} {s : Store} (h : Sound n s) (v : ℕ) (inside : v < n) (edges
 
   -- the trees before, and with the piece stored
   abbrev old : ℕ → Tree
-  old i = risen (treeAt (s .starts) (s .cuts) (s .flat) i)
+  old i = risen (treeAt (s .starts) (s .cuts) (s .members) i)
 
   abbrev new : ℕ → Tree
-  new i = risen (treeAt (withPiece .starts) (withPiece .cuts) flat i)
+  new i = risen (treeAt (withPiece .starts) (withPiece .cuts) members i)
 
   -- the pieces that were held are as they were
   piece-kept : (i : ℕ) → i < s .pieces → new i ≡ old i
   unfolding treeAt
-  piece-kept i l = rw (getD-set-other (s .starts) (s .pieces) i v 0 (omega arith), segment-kept (h .bounded) next (s .flat) flat (put-before put) i l)
+  piece-kept i l = rw (getD-set-other (s .starts) (s .pieces) i v 0 (omega arith), segment-kept (h .bounded) next (s .members) members (put-before put) i l)
 
   -- the new piece is the one stored
   piece-new : new (s .pieces) ≡ partAt v edges
@@ -91,7 +91,7 @@ module _ {n : ℕ} {s : Store} (h : Sound n s) (v : ℕ) (inside : v < n) (edges
   piece-new =
       rw (
         getD-set-same (s .starts) (s .pieces) v 0 start-fits,
-        segment-new (h .bounded) next cut-fits flat,
+        segment-new (h .bounded) next cut-fits members,
         put-slice put,
       )
 
@@ -99,9 +99,9 @@ module _ {n : ℕ} {s : Store} (h : Sound n s) (v : ℕ) (inside : v < n) (edges
   held-more : heldIn withPiece ≡ heldIn s ++ (partAt v edges ∷ [])
   unfolding heldIn treesAt
   held-more =
-      map-map risen (treeAt (withPiece .starts) (withPiece .cuts) flat) (below (s .pieces + 1))
+      map-map risen (treeAt (withPiece .starts) (withPiece .cuts) members) (below (s .pieces + 1))
       ∙ map-below-more old new (s .pieces) (partAt v edges) piece-kept piece-new
-      ∙ ap (λ (l : List Tree). l ++ (partAt v edges ∷ [])) (sym (map-map risen (treeAt (s .starts) (s .cuts) (s .flat)) (below (s .pieces))))
+      ∙ ap (λ (l : List Tree). l ++ (partAt v edges ∷ [])) (sym (map-map risen (treeAt (s .starts) (s .cuts) (s .members)) (below (s .pieces))))
 
   -- so the piece is added, and nothing else changes
   pub piece-added : Added n (partAt v edges ∷ []) s withPiece
@@ -112,7 +112,7 @@ module _ {n : ℕ} {s : Store} (h : Sound n s) (v : ℕ) (inside : v < n) (edges
               few = h .few;
               starts-room = rw length-set (omega arith);
               cuts-room = rw length-set (omega arith);
-              flat-room = rw (put-length put) (h .flat-room);
+              members-room = rw (put-length put) (h .members-room);
               used-few = room;
               starts-inside =
                   λ i l.
@@ -127,5 +127,5 @@ module _ {n : ℕ} {s : Store} (h : Sound n s) (v : ℕ) (inside : v < n) (edges
         used-more = omega arith;
         starts-rest = only-first-store (only-first-none (s .pieces + 1) (s .starts)) (s .pieces) v (omega arith);
         cuts-rest = only-first-store (only-first-none (s .pieces + 1 + 1) (s .cuts)) (s .pieces + 1) next (omega arith);
-        flat-rest = only-first-put put next (omega arith);
+        members-rest = only-first-put put next (omega arith);
       }

@@ -15,17 +15,17 @@ use Rattle.bunches.specs.declared.Progress.{Progress}
 pub record Store : Type 0 where
   pub starts : List ℕ
   pub cuts : List ℕ
-  pub flat : List ℕ
+  pub members : List ℕ
   pub pieces : ℕ
   pub used : ℕ
 
 -- The arrays, with the numbers of the code's progress.
 abbrev pub storeOf : List ℕ → List ℕ → List ℕ → Progress → Store
-storeOf starts cuts flat p = record { starts = starts; cuts = cuts; flat = flat; pieces = p .pieces; used = p .used }
+storeOf starts cuts members p = record { starts = starts; cuts = cuts; members = members; pieces = p .pieces; used = p .used }
 
 -- The pieces held, each as a tree with its edges by rising number.
 unfoldable pub heldIn : Store → List Tree
-heldIn s = map risen (treesAt (s .starts) (s .cuts) (s .flat) (below (s .pieces)))
+heldIn s = map risen (treesAt (s .starts) (s .cuts) (s .members) (below (s .pieces)))
 
 -- Of n vertices: the starts are vertices, the bounds are those of the pieces, there is room for n edges,
 -- and for a piece of each of the edges that may still come.
@@ -33,7 +33,7 @@ pub record Sound (n : ℕ) (s : Store) : Type 0 where
   pub few : n ≤ 256
   pub starts-room : s .pieces + n ≤ s .used + length (s .starts)
   pub cuts-room : s .pieces + n < s .used + length (s .cuts)
-  pub flat-room : n ≤ length (s .flat)
+  pub members-room : n ≤ length (s .members)
   pub used-few : s .used ≤ n
   pub starts-inside : (i : ℕ) → i < s .pieces → getD (s .starts) i 0 < n
   pub first : getD (s .cuts) 0 0 ≡ 0
@@ -51,4 +51,4 @@ pub record Added (n : ℕ) (trees : List Tree) (s t : Store) : Type 0 where
   pub used-more : s .used ≤ t .used
   pub starts-rest : OnlyFirst (t .pieces) (s .starts) (t .starts)
   pub cuts-rest : OnlyFirst (t .pieces + 1) (s .cuts) (t .cuts)
-  pub flat-rest : OnlyFirst (t .used) (s .flat) (t .flat)
+  pub members-rest : OnlyFirst (t .used) (s .members) (t .members)

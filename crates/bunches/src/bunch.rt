@@ -33,19 +33,19 @@ pub fn settle(
     stack: &[u16],
     starts: &mut [u16],
     cuts: &mut [u16],
-    flat: &mut [u16],
+    members: &mut [u16],
 ) -> Progress
-    requires { ⌜ Settleable v bunch (now stack) (storeOf (now starts) (now cuts) (now flat) s) s ⌝ }
+    requires { ⌜ Settleable v bunch (now stack) (storeOf (now starts) (now cuts) (now members) s) s ⌝ }
     ensures { λ r. ⌜ ChildSettled h v bunch (now (stack .entry))
-        (storeOf (now (starts .entry)) (now (cuts .entry)) (now (flat .entry)) s)
-        (storeOf (now (starts .exit)) (now (cuts .exit)) (now (flat .exit)) r) s r ⌝ }
+        (storeOf (now (starts .entry)) (now (cuts .entry)) (now (members .entry)) s)
+        (storeOf (now (starts .exit)) (now (cuts .exit)) (now (members .exit)) r) s r ⌝ }
 {
     if reaches(h, s.weight) {
-        return put_piece(v, bunch.end, bunch.weight, s, stack, starts, cuts, flat);
+        return put_piece(v, bunch.end, bunch.weight, s, stack, starts, cuts, members);
     }
     let sum = bunch.weight + s.weight;
     if reaches(h, sum) {
-        return put_piece(v, bunch.base, 0, s, stack, starts, cuts, flat);
+        return put_piece(v, bunch.base, 0, s, stack, starts, cuts, members);
     }
     Progress {
         pieces: s.pieces,

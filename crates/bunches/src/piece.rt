@@ -8,14 +8,14 @@ ghost use Rattle.bunches.specs.Store.{storeOf};
 ghost use Rattle.bunches.specs.PiecePut.{Puttable, PiecePut};
 
 // Copies the edges of the stack between two places behind the edges of the pieces.
-fn copy_edges(stack: &[u16], from: usize, to: usize, flat: &mut [u16], used: usize)
-    requires { ⌜ (from ≤ to) × (to ≤ length (now stack)) × (used + to ≤ length (now flat) + from) ⌝ }
-    ensures { λ _. ⌜ Put used (slice from to (now (stack .entry))) (now (flat .entry)) (now (flat .exit)) ⌝ }
+fn copy_edges(stack: &[u16], from: usize, to: usize, members: &mut [u16], used: usize)
+    requires { ⌜ (from ≤ to) × (to ≤ length (now stack)) × (used + to ≤ length (now members) + from) ⌝ }
+    ensures { λ _. ⌜ Put used (slice from to (now (stack .entry))) (now (members .entry)) (now (members .exit)) ⌝ }
 {
     let mut i = from;
     let mut at = used;
     while i < to {
-        flat[at] = stack[i];
+        members[at] = stack[i];
         i += 1;
         at += 1;
     }
@@ -30,18 +30,18 @@ pub fn put_piece(
     stack: &[u16],
     starts: &mut [u16],
     cuts: &mut [u16],
-    flat: &mut [u16],
+    members: &mut [u16],
 ) -> Progress
-    requires { ⌜ Puttable v from (now stack) (storeOf (now starts) (now cuts) (now flat) s) (s .top) ⌝ }
+    requires { ⌜ Puttable v from (now stack) (storeOf (now starts) (now cuts) (now members) s) (s .top) ⌝ }
     ensures { λ r. ⌜ PiecePut v from weight (now (stack .entry))
-        (storeOf (now (starts .entry)) (now (cuts .entry)) (now (flat .entry)) s)
-        (storeOf (now (starts .exit)) (now (cuts .exit)) (now (flat .exit)) r) s r ⌝ }
+        (storeOf (now (starts .entry)) (now (cuts .entry)) (now (members .entry)) s)
+        (storeOf (now (starts .exit)) (now (cuts .exit)) (now (members .exit)) r) s r ⌝ }
 {
     let pieces = s.pieces;
     let used = s.used;
     let top = s.top;
     let next = used + (top - from);
-    copy_edges(stack, from, top, flat, used);
+    copy_edges(stack, from, top, members, used);
     starts[pieces] = v as u16;
     cuts[pieces + 1] = next as u16;
     Progress {

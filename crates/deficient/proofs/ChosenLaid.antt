@@ -31,9 +31,9 @@ use Rattle.rules.specs.Questions.{leastRoom}
 use Rattle.deficient.specs.TooLowParts.{Keyed}
 use Rattle.pieces.proofs.SortedImages.{sorted-by-keys}
 
-module _ (starts cuts flat chosen : List ℕ) {before laid bounds edges keys : List ℕ} {used : ℕ}
+module _ (starts cuts members chosen : List ℕ) {before laid bounds edges keys : List ℕ} {used : ℕ}
     (p : PutTo 0 (startsAt starts chosen) before laid (length chosen))
-    (w : Laid (λ i. rise (segment cuts flat (getD chosen i 0))) (length chosen) used bounds edges)
+    (w : Laid (λ i. rise (segment cuts members (getD chosen i 0))) (length chosen) used bounds edges)
     (q : Keyed bounds edges (length chosen) keys) where
   -- The pieces' numbers in order.
   abbrev order : List ℕ
@@ -45,7 +45,7 @@ module _ (starts cuts flat chosen : List ℕ) {before laid bounds edges keys : L
       ∙ List·getD-append (startsAt starts chosen) _ 0 i (omega (arith, length-map chosen (λ c. getD starts c 0)))
       ∙ map-at (λ c. getD starts c 0) 0 0 chosen i h
 
-  tree-is : (i : ℕ) → i < length chosen → treeAt laid bounds edges i ≡ risen (treeAt starts cuts flat (getD chosen i 0))
+  tree-is : (i : ℕ) → i < length chosen → treeAt laid bounds edges i ≡ risen (treeAt starts cuts members (getD chosen i 0))
   unfolding treeAt risen
   tree-is i h = ap₂ (λ s es. record { start = s; edges = es }) (start-is i h) (w .are i h)
 
@@ -53,14 +53,14 @@ module _ (starts cuts flat chosen : List ℕ) {before laid bounds edges keys : L
   unfolding smallestEdge treeAt
   first-is c h = q .are c h
 
-  pub laid-in-order : treesAt laid bounds edges order ≡ bySmallest (map risen (treesAt starts cuts flat chosen))
+  pub laid-in-order : treesAt laid bounds edges order ≡ bySmallest (map risen (treesAt starts cuts members chosen))
   unfolding treesAt
   laid-in-order =
       sorted-by-keys (treeAt laid bounds edges) smallestEdge keys (below (length chosen)) (λ c m. first-is c (of-below (length chosen) m))
       ∙ ap bySmallest
-      (map-below-same (λ i. risen (treeAt starts cuts flat (getD chosen i 0))) (treeAt laid bounds edges) (length chosen) tree-is
-      ∙ map-at-places (λ c. risen (treeAt starts cuts flat c)) 0 chosen
-      ∙ sym (map-map risen (treeAt starts cuts flat) chosen))
+      (map-below-same (λ i. risen (treeAt starts cuts members (getD chosen i 0))) (treeAt laid bounds edges) (length chosen) tree-is
+      ∙ map-at-places (λ c. risen (treeAt starts cuts members c)) 0 chosen
+      ∙ sym (map-map risen (treeAt starts cuts members) chosen))
 
   below-count : (c : ℕ) → c ∈ order → c < length chosen
   below-count c m = of-below (length chosen) (of-sort (byKey keys) (below (length chosen)) m)

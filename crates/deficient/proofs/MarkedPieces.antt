@@ -25,7 +25,7 @@ use Rattle.cover.specs.Chosen.{AllHeld}
 use Rattle.unions.specs.Deficient.{placesMarked}
 use Rattle.deficient.specs.TooLowParts.{edgesOf, ChosenGiven}
 
-module _ (starts cuts flat places marks : List ℕ) where
+module _ (starts cuts members places marks : List ℕ) where
   -- The numbers of the marked parts.
   abbrev numbers : List ℕ
   numbers = filter (marked marks) (below (length places))
@@ -47,35 +47,35 @@ module _ (starts cuts flat places marks : List ℕ) where
       sym (sum-of-map (λ x. x) at (below (length places))) ∙ ap (sumOf (λ x. x)) (map-at-places f 0 places) ∙ sum-of-map (λ x. x) f places in
       omega (arith, sum-of-map f (λ i. getD places i 0) numbers, sum-split at (marked marks) (below (length places)), all)
 
-  pub marked-given : {room : ℕ} → AllHeld cuts flat places → length places < 256 → edgesOf cuts flat places < 256 → leastRoom ≤ room
-      → ChosenGiven cuts flat (placesMarked places marks) room
+  pub marked-given : {room : ℕ} → AllHeld cuts members places → length places < 256 → edgesOf cuts members places < 256 → leastRoom ≤ room
+      → ChosenGiven cuts members (placesMarked places marks) room
   marked-given held few light most =
       record {
         held = λ c m. held c (of-marked c m);
         few = omega (arith, length-sum (placesMarked places marks), length-sum places, marked-sum (λ _. 1));
-        light = omega (arith, marked-sum (λ c. length (segment cuts flat c)));
+        light = omega (arith, marked-sum (λ c. length (segment cuts members c)));
         most = most;
       }
 
   -- The parts.
   abbrev parts : List Tree
-  parts = map risen (map (treeAt starts cuts flat) places)
+  parts = map risen (map (treeAt starts cuts members) places)
 
   parts-count : length parts ≡ length places
-  parts-count = length-map (map (treeAt starts cuts flat) places) risen ∙ length-map places (treeAt starts cuts flat)
+  parts-count = length-map (map (treeAt starts cuts members) places) risen ∙ length-map places (treeAt starts cuts members)
 
-  part-is : (i : ℕ) → i < length places → risen (treeAt starts cuts flat (getD places i 0)) ≡ partOf parts i
+  part-is : (i : ℕ) → i < length places → risen (treeAt starts cuts members (getD places i 0)) ≡ partOf parts i
   unfolding partOf
   part-is i h =
       sym
-      (ap (λ l. getD l i (record { start = 0; edges = [] })) (map-map risen (treeAt starts cuts flat) places)
-      ∙ map-at (λ c. risen (treeAt starts cuts flat c)) 0 (record { start = 0; edges = [] }) places i h)
+      (ap (λ l. getD l i (record { start = 0; edges = [] })) (map-map risen (treeAt starts cuts members) places)
+      ∙ map-at (λ c. risen (treeAt starts cuts members c)) 0 (record { start = 0; edges = [] }) places i h)
 
-  pub marked-in-order : bySmallest (map risen (treesAt starts cuts flat (placesMarked places marks))) ≡ chosenParts (map risen (treesAt starts cuts flat places)) marks
+  pub marked-in-order : bySmallest (map risen (treesAt starts cuts members (placesMarked places marks))) ≡ chosenParts (map risen (treesAt starts cuts members places)) marks
   unfolding treesAt chosenParts
   marked-in-order =
       ap bySmallest
-      (map-map risen (treeAt starts cuts flat) (placesMarked places marks)
-      ∙ map-map (λ c. risen (treeAt starts cuts flat c)) (λ i. getD places i 0) numbers
+      (map-map risen (treeAt starts cuts members) (placesMarked places marks)
+      ∙ map-map (λ c. risen (treeAt starts cuts members c)) (λ i. getD places i 0) numbers
       ∙ map-same numbers (λ i m. part-is i (inside i m))
       ∙ ap (λ n. map (partOf parts) (filter (marked marks) (below n))) (sym parts-count))

@@ -28,18 +28,18 @@ use Rattle.rooted_state.proofs.PlacedPieces.{parts-count}
 use Rattle.deficient.specs.TooLowParts.{edgesOf, SetGiven, SetWritten, DeficientWritten}
 
 -- Pieces have as many edges as the trees that they are once their edges rise.
-pub risen-edges : (starts cuts flat chosen : List ℕ) → length (entryEdges (map risen (treesAt starts cuts flat chosen))) ≡ edgesOf cuts flat chosen
+pub risen-edges : (starts cuts members chosen : List ℕ) → length (entryEdges (map risen (treesAt starts cuts members chosen))) ≡ edgesOf cuts members chosen
 unfolding entryEdges treesAt treeAt risen
-risen-edges starts cuts flat chosen =
-    let trees = map (treeAt starts cuts flat) chosen in
+risen-edges starts cuts members chosen =
+    let trees = map (treeAt starts cuts members) chosen in
     length-flat-map (λ (t : Tree). t .edges) (map risen trees)
     ∙ sum-of-map (λ (t : Tree). length (t .edges)) risen trees
-    ∙ sum-of-map (λ (t : Tree). length (risen t .edges)) (treeAt starts cuts flat) chosen
-    ∙ sum-same (λ c. length (risen (treeAt starts cuts flat c) .edges)) (λ c. length (segment cuts flat c)) chosen (λ c m. rise-length (segment cuts flat c))
+    ∙ sum-of-map (λ (t : Tree). length (risen t .edges)) (treeAt starts cuts members) chosen
+    ∙ sum-same (λ c. length (risen (treeAt starts cuts members c) .edges)) (λ c. length (segment cuts members c)) chosen (λ c m. rise-length (segment cuts members c))
 
 module _ {g : Graph} {roots : List ℕ} {limit : ℕ} {a : TrialArrays} {parts : ℕ} (p : PartsPlaced g roots limit a parts false) where
   pub too-low-given : Valid g → {room : ℕ} → parts * length roots ≤ length (a .rows) → leastRoom ≤ room
-      → SetGiven (a .pieces .cuts) (a .pieces .flat) (a .pieces .places) parts (a .rows) (a .out) (length roots) room
+      → SetGiven (a .pieces .cuts) (a .pieces .members) (a .pieces .places) parts (a .rows) (a .assignment) (length roots) room
   too-low-given valid rows most =
       let few = rooted-parts-few g roots limit valid in
       let light = parts-edges-few g roots limit valid in
@@ -47,11 +47,11 @@ module _ {g : Graph} {roots : List ℕ} {limit : ℕ} {a : TrialArrays} {parts :
       let same = ap (λ l. length (entryEdges l)) (p .pieces .parts-are) in
       record {
         places-room = p .pieces .parts-room;
-        marks-room = omega (arith, length-take parts (a .out));
+        marks-room = omega (arith, length-take parts (a .assignment));
         rows-room = rows;
         held = p .pieces .parts-held;
         few = omega (arith, parts-count (p .pieces), valid .vertices-most);
-        light = omega (arith, same, risen-edges (a .pieces .starts) (a .pieces .cuts) (a .pieces .flat) (take parts (a .pieces .places)), valid .vertices-most);
+        light = omega (arith, same, risen-edges (a .pieces .starts) (a .pieces .cuts) (a .pieces .members) (take parts (a .pieces .places)), valid .vertices-most);
         most = most;
       }
 
@@ -62,14 +62,14 @@ module _ {g : Graph} {roots : List ℕ} {limit : ℕ} {a : TrialArrays} {parts :
       (λ j l. any-below-same parts _ _ (λ i h. ap (λ t. marked marks i && t) (p .rows .near i j h l)))
 
   pub too-low-written : {before after : List ℕ} {r : Deficient}
-      → SetWritten (a .pieces .starts) (a .pieces .cuts) (a .pieces .flat) (a .pieces .places) parts (a .rows) (a .out) (length roots) before after r
-      → DeficientWritten g roots limit (take parts (a .out)) before after r
+      → SetWritten (a .pieces .starts) (a .pieces .cuts) (a .pieces .members) (a .pieces .places) parts (a .rows) (a .assignment) (length roots) before after r
+      → DeficientWritten g roots limit (take parts (a .assignment)) before after r
   too-low-written w =
       record {
         bytes = w .bytes;
         written = rw (p .pieces .parts-are) at (w .written);
-        parts-are = w .parts-are ∙ ap (λ n. markedParts n (take parts (a .out))) (parts-count (p .pieces));
+        parts-are = w .parts-are ∙ ap (λ n. markedParts n (take parts (a .assignment))) (parts-count (p .pieces));
         roots-are =
-            w .roots-are ∙ same-allowed (take parts (a .out))
-            ∙ ap (λ n. allowedRoots n (length roots) (mayGo g roots limit) (take parts (a .out))) (parts-count (p .pieces));
+            w .roots-are ∙ same-allowed (take parts (a .assignment))
+            ∙ ap (λ n. allowedRoots n (length roots) (mayGo g roots limit) (take parts (a .assignment))) (parts-count (p .pieces));
       }

@@ -40,15 +40,15 @@ fn take_starts(starts: &[u16], chosen: &[u16], laid: &mut [u16])
 }
 
 // The edges of the chosen pieces, each piece's rising, laid one piece after the other.
-fn lay_edges(cuts: &[u16], flat: &[u16], chosen: &[u16], bounds: &mut [u16], edges: &mut [u16])
-    requires { ⌜ LayGiven (now cuts) (now flat) (now chosen) (length (now bounds)) (length (now edges)) ⌝ }
-    ensures { λ _. ⌜ EdgesLaid (now (cuts .entry)) (now (flat .entry)) (now (chosen .entry)) (now (bounds .entry)) (now (bounds .exit)) (now (edges .entry)) (now (edges .exit)) ⌝ }
+fn lay_edges(cuts: &[u16], members: &[u16], chosen: &[u16], bounds: &mut [u16], edges: &mut [u16])
+    requires { ⌜ LayGiven (now cuts) (now members) (now chosen) (length (now bounds)) (length (now edges)) ⌝ }
+    ensures { λ _. ⌜ EdgesLaid (now (cuts .entry)) (now (members .entry)) (now (chosen .entry)) (now (bounds .entry)) (now (bounds .exit)) (now (edges .entry)) (now (edges .exit)) ⌝ }
 {
     bounds[0] = 0;
     let mut at = 0;
     let mut i = 0;
     while i < chosen.len() {
-        at = put_risen(edges_at(cuts, flat, wide(chosen[i])), edges, at);
+        at = put_risen(edges_at(cuts, members, wide(chosen[i])), edges, at);
         i += 1;
         bounds[i] = at as u16;
     }
@@ -67,9 +67,9 @@ fn take_keys(bounds: &[u16], edges: &[u16], t: usize, keys: &mut [u32])
 }
 
 // The bytes of the chosen pieces, ordered by smallest edge, as the buffer's first bytes. Says how many bytes.
-fn write_parts(starts: &[u16], cuts: &[u16], flat: &[u16], chosen: &[u16], buf: &mut [u8]) -> usize
-    requires { ⌜ ChosenGiven (now cuts) (now flat) (now chosen) (length (now buf)) ⌝ }
-    ensures { λ r. ⌜ PutTo 0 (encode (bySmallest (map risen (treesAt (now (starts .entry)) (now (cuts .entry)) (now (flat .entry)) (now (chosen .entry))))))
+fn write_parts(starts: &[u16], cuts: &[u16], members: &[u16], chosen: &[u16], buf: &mut [u8]) -> usize
+    requires { ⌜ ChosenGiven (now cuts) (now members) (now chosen) (length (now buf)) ⌝ }
+    ensures { λ r. ⌜ PutTo 0 (encode (bySmallest (map risen (treesAt (now (starts .entry)) (now (cuts .entry)) (now (members .entry)) (now (chosen .entry))))))
         (now (buf .entry)) (now (buf .exit)) r ⌝ }
 {
     let mut laid = [0u16; 256];
@@ -79,7 +79,7 @@ fn write_parts(starts: &[u16], cuts: &[u16], flat: &[u16], chosen: &[u16], buf: 
     let mut numbers = [0u16; 256];
     let t = chosen.len();
     take_starts(starts, chosen, &mut laid);
-    lay_edges(cuts, flat, chosen, &mut bounds, &mut edges);
+    lay_edges(cuts, members, chosen, &mut bounds, &mut edges);
     take_keys(&bounds, &edges, t, &mut keys);
     number_up(t, &mut numbers);
     sort_chosen(&keys, &mut numbers[..t]);
@@ -90,7 +90,7 @@ fn write_parts(starts: &[u16], cuts: &[u16], flat: &[u16], chosen: &[u16], buf: 
 fn write_deficient(
     starts: &[u16],
     cuts: &[u16],
-    flat: &[u16],
+    members: &[u16],
     places: &[u16],
     parts: usize,
     rows: &[u8],
@@ -98,13 +98,13 @@ fn write_deficient(
     k: usize,
     buf: &mut [u8],
 ) -> Deficient
-    requires { ⌜ SetGiven (now cuts) (now flat) (now places) parts (now rows) (now marks) k (length (now buf)) ⌝ }
-    ensures { λ r. ⌜ SetWritten (now (starts .entry)) (now (cuts .entry)) (now (flat .entry)) (now (places .entry)) parts (now (rows .entry)) (now (marks .entry)) k
+    requires { ⌜ SetGiven (now cuts) (now members) (now places) parts (now rows) (now marks) k (length (now buf)) ⌝ }
+    ensures { λ r. ⌜ SetWritten (now (starts .entry)) (now (cuts .entry)) (now (members .entry)) (now (places .entry)) parts (now (rows .entry)) (now (marks .entry)) k
         (now (buf .entry)) (now (buf .exit)) r ⌝ }
 {
     let mut chosen = [0u16; 256];
     let t = marked_places(&places[..parts], &marks[..parts], &mut chosen);
-    write_parts(starts, cuts, flat, &chosen[..t], buf);
+    write_parts(starts, cuts, members, &chosen[..t], buf);
     let d = count_allowed(rows, &marks[..parts], parts, k);
     Deficient { parts: t, roots: d }
 }
@@ -113,7 +113,7 @@ fn write_deficient(
 pub fn reply_deficient(
     starts: &[u16],
     cuts: &[u16],
-    flat: &[u16],
+    members: &[u16],
     places: &[u16],
     parts: usize,
     rows: &[u8],
@@ -121,10 +121,10 @@ pub fn reply_deficient(
     k: usize,
     buf: &mut [u8],
 ) -> Reply
-    requires { ⌜ SetGiven (now cuts) (now flat) (now places) parts (now rows) (now marks) k (length (now buf)) ⌝ }
-    ensures { λ r. ⌜ SetReplied (now (starts .entry)) (now (cuts .entry)) (now (flat .entry)) (now (places .entry)) parts (now (rows .entry)) (now (marks .entry)) k
+    requires { ⌜ SetGiven (now cuts) (now members) (now places) parts (now rows) (now marks) k (length (now buf)) ⌝ }
+    ensures { λ r. ⌜ SetReplied (now (starts .entry)) (now (cuts .entry)) (now (members .entry)) (now (places .entry)) parts (now (rows .entry)) (now (marks .entry)) k
         (now (buf .entry)) (now (buf .exit)) r ⌝ }
 {
-    let d = write_deficient(starts, cuts, flat, places, parts, rows, marks, k, buf);
+    let d = write_deficient(starts, cuts, members, places, parts, rows, marks, k, buf);
     Reply::Parts(d.parts, d.roots)
 }

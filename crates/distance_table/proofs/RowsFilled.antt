@@ -12,7 +12,7 @@ use Rattle.lists.specs.Put.{OnlyFirst}
 use Rattle.lists.proofs.OnlyFirst.{only-first-none}
 use Rattle.lists.proofs.Put.{put-length, only-first-length}
 use Rattle.graph.specs.Graph.{Graph, edgeCount}
-use Rattle.rules.specs.Distance.{distances}
+use Rattle.rules.specs.Distance.{distances as distancesFrom}
 use Rattle.edges.specs.Around.{Around}
 use Rattle.distance.specs.Shortest.{SaysDistance, Shortest, Searched}
 use Rattle.distance_table.specs.Tabled.{rowOf}
@@ -25,39 +25,39 @@ pub record RootSearched (n : ℕ) (bounds arcs : List ℕ) (root : ℕ) (row las
   pub of-graph : (g : Graph) → Around g (below (edgeCount g)) bounds arcs → g .vertices ≡ n → Shortest g root row last
 
 -- The rows of the first j roots are filled, and nothing behind them changed.
-pub record TableUnderway (n : ℕ) (bounds arcs roots : List ℕ) (j : ℕ) (table table-now lasts lasts-now : List ℕ) : Type 0 where
+pub record TableUnderway (n : ℕ) (bounds arcs roots : List ℕ) (j : ℕ) (distances distances-now lasts lasts-now : List ℕ) : Type 0 where
   pub within : j ≤ length roots
-  pub table-size : length table-now ≡ length table
+  pub table-size : length distances-now ≡ length distances
   pub lasts-size : length lasts-now ≡ length lasts
-  pub table-only : OnlyFirst (j * n) table table-now
+  pub table-only : OnlyFirst (j * n) distances distances-now
   pub lasts-only : OnlyFirst (j * n) lasts lasts-now
-  pub each : (i : ℕ) → i < j → RootSearched n bounds arcs (getD roots i 0) (rowOf n table-now i) (rowOf n lasts-now i)
+  pub each : (i : ℕ) → i < j → RootSearched n bounds arcs (getD roots i 0) (rowOf n distances-now i) (rowOf n lasts-now i)
 
 module _ (n : ℕ) (bounds arcs roots : List ℕ) where
-  pub table-none : (table lasts : List ℕ) → TableUnderway n bounds arcs roots 0 table table lasts lasts
-  table-none table lasts =
+  pub table-none : (distances lasts : List ℕ) → TableUnderway n bounds arcs roots 0 distances distances lasts lasts
+  table-none distances lasts =
       record {
         within = omega arith;
         table-size = refl;
         lasts-size = refl;
-        table-only = only-first-none (0 * n) table;
+        table-only = only-first-none (0 * n) distances;
         lasts-only = only-first-none (0 * n) lasts;
         each = below-none _;
       }
 
-  module _ {j : ℕ} {table table-now lasts lasts-now : List ℕ} (m : TableUnderway n bounds arcs roots j table table-now lasts lasts-now) where
+  module _ {j : ℕ} {distances distances-now lasts lasts-now : List ℕ} (m : TableUnderway n bounds arcs roots j distances distances-now lasts lasts-now) where
     -- One root more, as a search that was lent its rows leaves them: `size` is how long they are.
-    pub table-put : {size root : ℕ} {dist last : List ℕ} → j < length roots → j * n + n ≤ length table-now → j * n + n ≤ length lasts-now → size ≡ n → root ≡ getD roots j 0
-        → Searched n bounds arcs root (take size (drop (j * n) table-now)) (take size (drop (j * n) lasts-now)) dist last
-        → TableUnderway n bounds arcs roots (j + 1) table (take (j * n) table-now ++ (dist ++ drop size (drop (j * n) table-now)))
+    pub table-put : {size root : ℕ} {dist last : List ℕ} → j < length roots → j * n + n ≤ length distances-now → j * n + n ≤ length lasts-now → size ≡ n → root ≡ getD roots j 0
+        → Searched n bounds arcs root (take size (drop (j * n) distances-now)) (take size (drop (j * n) lasts-now)) dist last
+        → TableUnderway n bounds arcs roots (j + 1) distances (take (j * n) distances-now ++ (dist ++ drop size (drop (j * n) distances-now)))
         lasts (take (j * n) lasts-now ++ (last ++ drop size (drop (j * n) lasts-now)))
     table-put {size} {root} {dist} {last} h in-table in-lasts same is f =
         let q : size ≡ n = same in
         let r : root ≡ getD roots j 0 = is in
         let s = rw (q, r) at f in
-        let dist-size : length dist ≡ n = only-first-length (s .dist-rest) ∙ row-length table-now (j * n) n in-table in
+        let dist-size : length dist ≡ n = only-first-length (s .dist-rest) ∙ row-length distances-now (j * n) n in-table in
         let last-size : length last ≡ n = only-first-length (s .last-rest) ∙ row-length lasts-now (j * n) n in-lasts in
-        let in-place = row-put table-now dist (j * n) n in-table q dist-size in
+        let in-place = row-put distances-now dist (j * n) n in-table q dist-size in
         let last-in-place = row-put lasts-now last (j * n) n in-lasts q last-size in
         record {
           within = omega arith;
@@ -66,7 +66,7 @@ module _ (n : ℕ) (bounds arcs roots : List ℕ) where
           table-only = only-first-row j n in-place dist-size (m .table-only);
           lasts-only = only-first-row j n last-in-place last-size (m .lasts-only);
           each =
-              below-more (λ i. RootSearched n bounds arcs (getD roots i 0) (rowOf n (next table-now dist size) i) (rowOf n (next lasts-now last size) i)) j
+              below-more (λ i. RootSearched n bounds arcs (getD roots i 0) (rowOf n (next distances-now dist size) i) (rowOf n (next lasts-now last size) i)) j
               (λ i l. rw (row-earlier j n in-place dist-size i l, row-earlier j n last-in-place last-size i l) (m .each i l))
               (rw (row-here j n in-place dist-size, row-here j n last-in-place last-size) (record { of-graph = s .of-graph }));
         }
@@ -75,27 +75,27 @@ module _ (n : ℕ) (bounds arcs roots : List ℕ) where
         next rows row size = take (j * n) rows ++ (row ++ drop size (drop (j * n) rows))
 
     -- All roots.
-    pub table-all : length roots ≤ j → length roots * n ≤ length table → length roots * n ≤ length lasts
-        → TableFilled n bounds arcs roots table table-now lasts lasts-now
-    table-all h table-room lasts-room =
+    pub table-all : length roots ≤ j → length roots * n ≤ length distances → length roots * n ≤ length lasts
+        → TableFilled n bounds arcs roots distances distances-now lasts lasts-now
+    table-all h distances-room lasts-room =
         let all : j ≡ length roots = omega (arith, m .within) in
         record {
           of-graph =
               λ g around same.
-              let each : (i : ℕ) → i < length roots → Shortest g (getD roots i 0) (rowOf (g .vertices) table-now i) (rowOf (g .vertices) lasts-now i) =
+              let each : (i : ℕ) → i < length roots → Shortest g (getD roots i 0) (rowOf (g .vertices) distances-now i) (rowOf (g .vertices) lasts-now i) =
               λ i k.
-              subst (λ c. Shortest g (getD roots i 0) (rowOf c table-now i) (rowOf c lasts-now i)) (sym same) (m .each i (omega arith) .of-graph g around same) in
+              subst (λ c. Shortest g (getD roots i 0) (rowOf c distances-now i) (rowOf c lasts-now i)) (sym same) (m .each i (omega arith) .of-graph g around same) in
               record {
-                distances =
+                distances-are =
                     record {
                       room = rw same (omega (arith, m .table-size));
                       each =
                           λ v i l k.
-                          subst (λ d. SaysDistance d (getD (distances g (getD roots i 0)) v none)) (part-at (i * g .vertices) (g .vertices) table-now v l)
+                          subst (λ d. SaysDistance d (getD (distancesFrom g (getD roots i 0)) v none)) (part-at (i * g .vertices) (g .vertices) distances-now v l)
                           (each i k .distance v l);
                     };
                 last-edges = record { room = rw same (omega (arith, m .lasts-size)); each = each };
               };
-          table-rest = rw all at (m .table-only);
+          distances-rest = rw all at (m .table-only);
           lasts-rest = rw all at (m .lasts-only);
         }

@@ -11,19 +11,19 @@ use Rattle.edges.specs.Around.{Arcs, Around}
 use Rattle.distance_table.specs.Tabled.{DistancesTabled, LastsTabled}
 
 -- What filling the table asks: arcs of n vertices, the roots among them, and room for n distances and last edges for each.
-pub record TableAsked (n : ℕ) (bounds arcs roots : List ℕ) (table lasts : ℕ) : Type 0 where
+pub record TableAsked (n : ℕ) (bounds arcs roots : List ℕ) (distances lasts : ℕ) : Type 0 where
   pub sound : Arcs n bounds arcs
   pub roots-inside : (j : ℕ) → j < length roots → getD roots j 0 < n
-  pub table-room : length roots * n ≤ table
+  pub distances-room : length roots * n ≤ distances
   pub lasts-room : length roots * n ≤ lasts
 
 -- The table has the distances of the graph from all roots, and the last edges lead back along paths of these distances.
-pub record Tabled (g : Graph) (roots table lasts : List ℕ) : Type 0 where
-  pub distances : DistancesTabled g roots table
-  pub last-edges : LastsTabled g roots table lasts
+pub record Tabled (g : Graph) (roots distances lasts : List ℕ) : Type 0 where
+  pub distances-are : DistancesTabled g roots distances
+  pub last-edges : LastsTabled g roots distances lasts
 
 -- What filling promises: of whatever graph the arcs are, the table and the last edges are its own. What stands behind the rows is as it came.
-pub record TableFilled (n : ℕ) (bounds arcs roots table table-after lasts lasts-after : List ℕ) : Type 0 where
+pub record TableFilled (n : ℕ) (bounds arcs roots distances table-after lasts lasts-after : List ℕ) : Type 0 where
   pub of-graph : (g : Graph) → Around g (below (edgeCount g)) bounds arcs → g .vertices ≡ n → Tabled g roots table-after lasts-after
-  pub table-rest : OnlyFirst (length roots * n) table table-after
+  pub distances-rest : OnlyFirst (length roots * n) distances table-after
   pub lasts-rest : OnlyFirst (length roots * n) lasts lasts-after

@@ -11,12 +11,12 @@ pub fn fill_table(
     bounds: &[u16],
     arcs: &[u64],
     roots: &[u16],
-    table: &mut [u32],
+    distances: &mut [u32],
     lasts: &mut [u32],
 )
-    requires { ⌜ TableAsked n (now bounds) (now arcs) (now roots) (length (now table)) (length (now lasts)) ⌝ }
+    requires { ⌜ TableAsked n (now bounds) (now arcs) (now roots) (length (now distances)) (length (now lasts)) ⌝ }
     ensures { λ _. ⌜ TableFilled n (now (bounds .entry)) (now (arcs .entry)) (now (roots .entry))
-        (now (table .entry)) (now (table .exit)) (now (lasts .entry)) (now (lasts .exit)) ⌝ }
+        (now (distances .entry)) (now (distances .exit)) (now (lasts .entry)) (now (lasts .exit)) ⌝ }
 {
     let mut j = 0;
     while j < roots.len() {
@@ -28,7 +28,7 @@ pub fn fill_table(
             bounds,
             arcs,
             root,
-            &mut table[from..to],
+            &mut distances[from..to],
             &mut lasts[from..to],
         );
         j += 1;

@@ -74,28 +74,28 @@ module _ (g : Graph) (near : List ℕ) where
         let all : take i edges ≡ edges = take-all i edges (omega arith) in
         record { each = λ j. m .each j ∙ ap (λ l. someNear j (start ∷ flat (map (endsOf g) l))) all }
 
-module _ (g : Graph) (near starts cuts flat places : List ℕ) where
+module _ (g : Graph) (near starts cuts members places : List ℕ) where
   -- The trees of the first i places have their words; only these changed.
   pub record Wording (i : ℕ) (before after : List ℕ) : Type 0 where
     pub within : i ≤ length places
-    pub done : (h : ℕ) → h < i → NearTree g near (treeAt starts cuts flat (getD places h 0)) (getD after h 0)
+    pub done : (h : ℕ) → h < i → NearTree g near (treeAt starts cuts members (getD places h 0)) (getD after h 0)
     pub only : OnlyFirst (length places) before after
 
   pub wording-none : (before : List ℕ) → Wording 0 before before
   wording-none before = record { within = omega arith; done = below-none _; only = only-first-none (length places) before }
 
   module _ {i : ℕ} {before after : List ℕ} (m : Wording i before after) where
-    pub wording-more : {word : ℕ} → i < length places → i < length after → NearTree g near (treeAt starts cuts flat (getD places i 0)) word
+    pub wording-more : {word : ℕ} → i < length places → i < length after → NearTree g near (treeAt starts cuts members (getD places i 0)) word
         → Wording (i + 1) before (set after i word)
     wording-more {word} h room tree =
         record {
           within = omega arith;
           done =
-              below-more (λ x. NearTree g near (treeAt starts cuts flat (getD places x 0)) (getD (set after i word) x 0)) i
+              below-more (λ x. NearTree g near (treeAt starts cuts members (getD places x 0)) (getD (set after i word) x 0)) i
               (λ x l. rw (getD-set-other after i x word 0 (omega arith)) (m .done x l))
               (rw (getD-set-same after i word 0 room) tree);
           only = only-first-store (m .only) i word h;
         }
 
-    pub wording-all : length places ≤ i → NearPieces g near starts cuts flat places before after
+    pub wording-all : length places ≤ i → NearPieces g near starts cuts members places before after
     wording-all h = record { each = λ x l. m .done x (omega arith); rest = m .only }

@@ -27,34 +27,34 @@ module _ (limit : ℕ) (row : List ℕ) {v : ℕ} {before after : List ℕ} (m :
   root-all h = record { size = m .size; each = λ u l. m .done u (omega (arith, m .size)) }
 
 -- The roots from j on are added to the word of each vertex.
-pub record RootsAdding (k limit : ℕ) (table : List ℕ) (j : ℕ) (before after : List ℕ) : Type 0 where
+pub record RootsAdding (k limit : ℕ) (distances : List ℕ) (j : ℕ) (before after : List ℕ) : Type 0 where
   pub within : j ≤ k
   pub size : length after ≡ length before
-  pub each : (v : ℕ) → v < length before → Gathering k (λ i. leb (distanceIn table (length before) v i) limit) j (getD after v 0)
+  pub each : (v : ℕ) → v < length before → Gathering k (λ i. leb (distanceIn distances (length before) v i) limit) j (getD after v 0)
 
-module _ {k limit : ℕ} {table : List ℕ} where
-  pub roots-none : {before : List ℕ} → NearAsked k table before → RootsAdding k limit table k before before
+module _ {k limit : ℕ} {distances : List ℕ} where
+  pub roots-none : {before : List ℕ} → NearAsked k distances before → RootsAdding k limit distances k before before
   roots-none asked = record { within = omega arith; size = refl; each = λ v h. rw (asked .zeros v h) gather-none }
 
-  module _ {j : ℕ} {before after : List ℕ} (m : RootsAdding k limit table j before after) (some : 0 < j) where
+  module _ {j : ℕ} {before after : List ℕ} (m : RootsAdding k limit distances j before after) (some : 0 < j) where
     pub root-asked : {row : List ℕ} → k ≤ 32 → length after ≤ length row → RootAsked row after
     root-asked few room = record { room = room; low = λ v h. gather-fits (m .each v (omega (arith, m .size))) some few }
 
     -- One root more, the one before: its row is lent, whose size is said in another way.
     pub roots-more : {n size : ℕ} {next : List ℕ} → n ≡ length before → size ≡ n
-        → RootAdded limit (take size (drop ((j - 1) * n) table)) after next → RootsAdding k limit table (j - 1) before next
+        → RootAdded limit (take size (drop ((j - 1) * n) distances)) after next → RootsAdding k limit distances (j - 1) before next
     roots-more {n} {size} {next} n-is same added =
         record {
           within = omega (arith, m .within);
           size = added .size ∙ m .size;
           each =
               λ v h.
-              let here : getD (take size (drop ((j - 1) * n) table)) v 0 ≡ distanceIn table (length before) v (j - 1) =
-              part-at ((j - 1) * n) size table v (omega arith) ∙ ap (λ x. distanceIn table x v (j - 1)) n-is in
-              let word : getD next v 0 ≡ 2 * getD after v 0 + cond (leb (distanceIn table (length before) v (j - 1)) limit) 1 0 =
+              let here : getD (take size (drop ((j - 1) * n) distances)) v 0 ≡ distanceIn distances (length before) v (j - 1) =
+              part-at ((j - 1) * n) size distances v (omega arith) ∙ ap (λ x. distanceIn distances x v (j - 1)) n-is in
+              let word : getD next v 0 ≡ 2 * getD after v 0 + cond (leb (distanceIn distances (length before) v (j - 1)) limit) 1 0 =
               added .each v (omega (arith, m .size)) ∙ ap (λ d. 2 * getD after v 0 + cond (leb d limit) 1 0) here in
               rw word (gather-more (m .each v h) some);
         }
 
-  pub roots-all : {j : ℕ} {before after : List ℕ} → RootsAdding k limit table j before after → j ≡ 0 → NearVertices k limit table before after
+  pub roots-all : {j : ℕ} {before after : List ℕ} → RootsAdding k limit distances j before after → j ≡ 0 → NearVertices k limit distances before after
   roots-all m q = record { size = m .size; each = λ v i h l. gather-all (m .each v h) q i l }

@@ -29,17 +29,17 @@ pub record NearTree (g : Graph) (near : List ℕ) (t : Tree) (word : ℕ) : Type
   pub each : (j : ℕ) → bitAt j word ≡ any (λ v. bitAt j (getD near v 0)) (treeVertices g t)
 
 -- Tree c stands in the arrays, and starts at one of n vertices.
-pub record TreeHeld (n : ℕ) (starts cuts flat : List ℕ) (c : ℕ) : Type 0 where
-  pub held : IsHeld cuts flat c
+pub record TreeHeld (n : ℕ) (starts cuts members : List ℕ) (c : ℕ) : Type 0 where
+  pub held : IsHeld cuts members c
   pub start-inside : getD starts c 0 < n
 
 -- What looking at several asks: each place's tree, and room for a word for each.
-pub record NearPiecesAsked (g : Graph) (near starts cuts flat places words : List ℕ) : Type 0 where
+pub record NearPiecesAsked (g : Graph) (near starts cuts members places words : List ℕ) : Type 0 where
   pub given : WordsGiven g near
-  pub trees : (i : ℕ) → i < length places → TreeHeld (g .vertices) starts cuts flat (getD places i 0)
+  pub trees : (i : ℕ) → i < length places → TreeHeld (g .vertices) starts cuts members (getD places i 0)
   pub words-room : length places ≤ length words
 
 -- The first words are the trees', in the order of their places.
-pub record NearPieces (g : Graph) (near starts cuts flat places before after : List ℕ) : Type 0 where
-  pub each : (i : ℕ) → i < length places → NearTree g near (treeAt starts cuts flat (getD places i 0)) (getD after i 0)
+pub record NearPieces (g : Graph) (near starts cuts members places before after : List ℕ) : Type 0 where
+  pub each : (i : ℕ) → i < length places → NearTree g near (treeAt starts cuts members (getD places i 0)) (getD after i 0)
   pub rest : OnlyFirst (length places) before after

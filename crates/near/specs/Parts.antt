@@ -7,7 +7,7 @@ use mathlib.Core.List.{List, map}
 use lib.ListN.{length, getD, take}
 use Rattle.lists.specs.Put.{OnlyFirst}
 use Rattle.steps.specs.Touched.{partsTouched}
-use Rattle.steps.specs.WalkPut.{Countable}
+use Rattle.steps.specs.StepsPut.{Countable}
 use Rattle.near.specs.Bits.{bitAt}
 
 -- What is asked: steps among 256 vertices, a threshold above 0, a word for each vertex, and room for a word for each part.

@@ -20,12 +20,12 @@ pub record RootAdded (limit : ℕ) (row before after : List ℕ) : Type 0 where
   pub each : (v : ℕ) → v < length before → getD after v 0 ≡ 2 * getD before v 0 + cond (leb (getD row v 0) limit) 1 0
 
 -- What is asked: at most 32 roots, a row of the table for each, and words of zero.
-pub record NearAsked (k : ℕ) (table near : List ℕ) : Type 0 where
+pub record NearAsked (k : ℕ) (distances near : List ℕ) : Type 0 where
   pub roots-few : k ≤ 32
-  pub room : k * length near ≤ length table
+  pub room : k * length near ≤ length distances
   pub zeros : (v : ℕ) → v < length near → getD near v 0 ≡ 0
 
 -- Each word says which of k roots are within the limit of its vertex.
-pub record NearVertices (k limit : ℕ) (table before after : List ℕ) : Type 0 where
+pub record NearVertices (k limit : ℕ) (distances before after : List ℕ) : Type 0 where
   pub size : length after ≡ length before
-  pub each : (v j : ℕ) → v < length before → j < k → bitAt j (getD after v 0) ≡ leb (distanceIn table (length before) v j) limit
+  pub each : (v j : ℕ) → v < length before → j < k → bitAt j (getD after v 0) ≡ leb (distanceIn distances (length before) v j) limit

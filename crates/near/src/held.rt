@@ -30,19 +30,19 @@ pub fn near_pieces(
     near: &[u32],
     starts: &[u16],
     cuts: &[u16],
-    flat: &[u16],
+    members: &[u16],
     places: &[u16],
     words: &mut [u32],
 )
-    requires { ⌜ NearPiecesAsked (graphOf (now b)) (now near) (now starts) (now cuts) (now flat) (now places) (now words) ⌝ }
-    ensures { λ _. ⌜ NearPieces (graphOf (now (b .entry))) (now (near .entry)) (now (starts .entry)) (now (cuts .entry)) (now (flat .entry)) (now (places .entry))
+    requires { ⌜ NearPiecesAsked (graphOf (now b)) (now near) (now starts) (now cuts) (now members) (now places) (now words) ⌝ }
+    ensures { λ _. ⌜ NearPieces (graphOf (now (b .entry))) (now (near .entry)) (now (starts .entry)) (now (cuts .entry)) (now (members .entry)) (now (places .entry))
         (now (words .entry)) (now (words .exit)) ⌝ }
 {
     let mut i = 0;
     while i < places.len() {
         let c = wide(places[i]);
         let start = number_at(starts, c);
-        words[i] = near_piece(b, near, start, edges_at(cuts, flat, c));
+        words[i] = near_piece(b, near, start, edges_at(cuts, members, c));
         i += 1;
     }
 }

@@ -6,16 +6,16 @@ ghost use Rattle.near.specs.Parts.{NearPartsAsked, NearParts};
 
 // Splits the trees with threshold h, above 0, and writes for each part the roots that are near one of its vertices, by those near each vertex. Says how
 // many parts there are. What is left at a vertex is kept by its weight and the roots near it alone.
-pub fn near_parts(walk: &[u64], h: u64, near: &[u32], parts: &mut [u32]) -> usize
-    requires { ⌜ NearPartsAsked h (now walk) (now near) (now parts) ⌝ }
-    ensures { λ r. ⌜ NearParts h (now (walk .entry)) (now (near .entry)) (now (parts .entry)) (now (parts .exit)) r ⌝ }
+pub fn near_parts(steps: &[u64], h: u64, near: &[u32], parts: &mut [u32]) -> usize
+    requires { ⌜ NearPartsAsked h (now steps) (now near) (now parts) ⌝ }
+    ensures { λ r. ⌜ NearParts h (now (steps .entry)) (now (near .entry)) (now (parts .entry)) (now (parts .exit)) r ⌝ }
 {
     let mut left = [0u64; 256];
     let mut beside = [0u32; 256];
     let mut r = 0;
     let mut i = 0;
-    while i < walk.len() {
-        let step = walk[i];
+    while i < steps.len() {
+        let step = steps[i];
         let child = step_child(step);
         let above = step_above(step);
         let piece = step_weight(step) + left[child];

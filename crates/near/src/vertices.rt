@@ -25,9 +25,9 @@ fn add_root(row: &[u32], limit: u32, near: &mut [u32])
 }
 
 // The roots near each of as many vertices as there are words. The words come as zeros.
-pub fn near_vertices(table: &[u32], k: usize, limit: u32, near: &mut [u32])
-    requires { ⌜ NearAsked k (now table) (now near) ⌝ }
-    ensures { λ _. ⌜ NearVertices k limit (now (table .entry)) (now (near .entry)) (now (near .exit)) ⌝ }
+pub fn near_vertices(distances: &[u32], k: usize, limit: u32, near: &mut [u32])
+    requires { ⌜ NearAsked k (now distances) (now near) ⌝ }
+    ensures { λ _. ⌜ NearVertices k limit (now (distances .entry)) (now (near .entry)) (now (near .exit)) ⌝ }
 {
     let n = near.len();
     let mut j = k;
@@ -35,6 +35,6 @@ pub fn near_vertices(table: &[u32], k: usize, limit: u32, near: &mut [u32])
         j -= 1;
         let from = j * n;
         let to = from + n;
-        add_root(&table[from..to], limit, near);
+        add_root(&distances[from..to], limit, near);
     }
 }

@@ -37,8 +37,8 @@ put-then-risen {at} {end} {xs} {ys} {a} {b} p q =
     }
 
 -- None yet, where the first bound is 0.
-pub laid-none : (lists : ℕ → List ℕ) (cuts flat : List ℕ) → getD cuts 0 0 ≡ 0 → Laid lists 0 0 cuts flat
-laid-none lists cuts flat q =
+pub laid-none : (lists : ℕ → List ℕ) (cuts members : List ℕ) → getD cuts 0 0 ≡ 0 → Laid lists 0 0 cuts members
+laid-none lists cuts members q =
     record {
       bounded = record { last = q; within = λ i h. let z : i ≡ 0 = omega arith in rw z (omega (arith, q)); rising = λ i h. absurd (omega arith) };
       inside = omega arith;
@@ -46,15 +46,15 @@ laid-none lists cuts flat q =
     }
 
 -- One list more.
-pub laid-more : {lists : ℕ → List ℕ} {i at end : ℕ} {cuts xs flat after : List ℕ} → Laid lists i at cuts flat → i + 1 < length cuts
-    → PutTo at xs flat after end → xs ≡ lists i → Laid lists (i + 1) end (set cuts (i + 1) end) after
-laid-more {lists} {i} {at} {end} {cuts} {xs} {flat} {after} w room p q =
+pub laid-more : {lists : ℕ → List ℕ} {i at end : ℕ} {cuts xs members after : List ℕ} → Laid lists i at cuts members → i + 1 < length cuts
+    → PutTo at xs members after end → xs ≡ lists i → Laid lists (i + 1) end (set cuts (i + 1) end) after
+laid-more {lists} {i} {at} {end} {cuts} {xs} {members} {after} w room p q =
     record {
       bounded = bounded-more (w .bounded) end room (omega (arith, p .behind));
       inside = omega (arith, p .behind, p .put .room, put-length (p .put));
       are =
           below-more (λ h. segment (set cuts (i + 1) end) after h ≡ lists h) i
-          (λ h l. segment-kept (w .bounded) end flat after (put-before (p .put)) h l ∙ w .are h l)
+          (λ h l. segment-kept (w .bounded) end members after (put-before (p .put)) h l ∙ w .are h l)
           (segment-new (w .bounded) end room after ∙ ap (λ n. drop at (take n after)) (p .behind) ∙ put-slice (p .put) ∙ q);
     }
 

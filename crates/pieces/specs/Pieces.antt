@@ -19,10 +19,10 @@ pub record NumbersAsked (k room : ℕ) : Type 0 where
   pub fits : k ≤ room
 
 -- The first i lists are laid: they take up the array's elements before `used`.
-pub record Laid (lists : ℕ → List ℕ) (i used : ℕ) (bounds flat : List ℕ) : Type 0 where
+pub record Laid (lists : ℕ → List ℕ) (i used : ℕ) (bounds members : List ℕ) : Type 0 where
   pub bounded : Bounded bounds i used
-  pub inside : used ≤ length flat
-  pub are : (h : ℕ) → h < i → segment bounds flat h ≡ lists h
+  pub inside : used ≤ length members
+  pub are : (h : ℕ) → h < i → segment bounds members h ≡ lists h
 
 -- A tree by its start and its edges.
 abbrev pub treeOf : ℕ → List ℕ → Tree

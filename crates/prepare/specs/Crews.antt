@@ -18,7 +18,7 @@ crewsWith Unrooted k roots = cover.unrooted k
 
 -- What crews read at every limit, each kind its own: with roots the whole forest and the distances; without roots the whole forest and the history
 -- of its merges. Of what only the other kind reads nothing is said.
-pub record CrewsReady (kind : Kind) (g : Graph) (roots kept table total until : List ℕ) : Type 0 where
+pub record CrewsReady (kind : Kind) (g : Graph) (roots kept distances total until : List ℕ) : Type 0 where
   pub valid : Valid g
-  pub decidable : kind ≡ Rooted → Decidable g roots kept table
+  pub decidable : kind ≡ Rooted → Decidable g roots kept distances
   pub history : kind ≡ Unrooted → HistoryReady g kept total until

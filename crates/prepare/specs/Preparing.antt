@@ -50,53 +50,53 @@ pub record SizeTold (g : Graph) (k : ℕ) (r : Bool) : Type 0 where
 -- Room for a question by k crews with roots about n vertices and m edges: for the order, the whole forest, the edges around each vertex over all edges
 -- (`all`, and then the keys of the order) and over the forest (`arcs`, and before that the spare of the order), and for the distances from all roots
 -- with their last edges.
-pub record RootedRoom (n m k : ℕ) (order kept bounds all arcs table lasts : ℕ) : Type 0 where
+pub record RootedRoom (n m k : ℕ) (order kept bounds all arcs distances lasts : ℕ) : Type 0 where
   pub order-room : m ≤ order
   pub kept-room : n ≤ kept
   pub bounds-room : n < bounds
   pub all-room : 2 * m ≤ all
   pub arcs-room : 2 * n ≤ arcs
   pub spare-room : m ≤ arcs
-  pub table-room : k * n ≤ table
+  pub distances-room : k * n ≤ distances
   pub lasts-room : k * n ≤ lasts
 
 -- A valid graph, roots among its vertices, and room for its edges by number, their arcs, and the distances from all roots.
-pub record DistancesAsked (g : Graph) (roots : List ℕ) (numbers bounds all table lasts : ℕ) : Type 0 where
+pub record DistancesAsked (g : Graph) (roots : List ℕ) (numbers bounds all distances lasts : ℕ) : Type 0 where
   pub given : RootsGiven g roots
   pub numbers-room : edgeCount g ≤ numbers
   pub bounds-room : g .vertices < bounds
   pub all-room : 2 * edgeCount g ≤ all
-  pub table-room : length roots * g .vertices ≤ table
+  pub distances-room : length roots * g .vertices ≤ distances
   pub lasts-room : length roots * g .vertices ≤ lasts
 
 -- The distances from all roots stand in their rows. Of no array more changed: of the edges by number one element for each edge, of their arcs two,
 -- of the bounds one more than there are vertices.
-pub record DistancesPrepared (g : Graph) (roots numbers₀ numbers bounds₀ bounds all₀ all table₀ table lasts₀ lasts : List ℕ) : Type 0 where
-  pub tabled : Tabled g roots table lasts
+pub record DistancesPrepared (g : Graph) (roots numbers₀ numbers bounds₀ bounds all₀ all distances₀ distances lasts₀ lasts : List ℕ) : Type 0 where
+  pub tabled : Tabled g roots distances lasts
   pub numbers-rest : OnlyFirst (edgeCount g) numbers₀ numbers
   pub bounds-rest : OnlyFirst (g .vertices + 1) bounds₀ bounds
   pub all-rest : OnlyFirst (2 * edgeCount g) all₀ all
-  pub table-rest : OnlyFirst (length roots * g .vertices) table₀ table
+  pub distances-rest : OnlyFirst (length roots * g .vertices) distances₀ distances
   pub lasts-rest : OnlyFirst (length roots * g .vertices) lasts₀ lasts
 
 -- What preparing asks where the crews have roots.
-pub record RootedPreparable (g : Graph) (roots order kept bounds all arcs table lasts : List ℕ) : Type 0 where
+pub record RootedPreparable (g : Graph) (roots order kept bounds all arcs distances lasts : List ℕ) : Type 0 where
   pub given : RootsGiven g roots
   pub room : RootedRoom (g .vertices) (edgeCount g) (length roots) (length order) (length kept) (length bounds) (length all) (length arcs)
-      (length table) (length lasts)
+      (length distances) (length lasts)
 
 -- Everything that crews with roots read is prepared. What stands behind it is as it came, and so is what stands behind what was worked with: in both
 -- arrays of arcs two elements for each edge.
-pub record RootedPrepared (g : Graph) (roots order₀ order kept₀ kept bounds₀ bounds all₀ all arcs₀ arcs table₀ table lasts₀ lasts : List ℕ) (r : Ready) : Type 0 where
+pub record RootedPrepared (g : Graph) (roots order₀ order kept₀ kept bounds₀ bounds all₀ all arcs₀ arcs distances₀ distances lasts₀ lasts : List ℕ) (r : Ready) : Type 0 where
   pub edges-room : r .edges ≤ length order
   pub forest-room : r .forest ≤ length kept
-  pub prepared : Prepared g roots (take (r .edges) order) (take (r .forest) kept) bounds arcs table lasts
+  pub prepared : Prepared g roots (take (r .edges) order) (take (r .forest) kept) bounds arcs distances lasts
   pub order-rest : OnlyFirst (edgeCount g) order₀ order
   pub kept-rest : OnlyFirst (r .forest) kept₀ kept
   pub bounds-rest : OnlyFirst (g .vertices + 1) bounds₀ bounds
   pub all-rest : OnlyFirst (2 * edgeCount g) all₀ all
   pub arcs-rest : OnlyFirst (2 * edgeCount g) arcs₀ arcs
-  pub table-rest : OnlyFirst (length roots * g .vertices) table₀ table
+  pub distances-rest : OnlyFirst (length roots * g .vertices) distances₀ distances
   pub lasts-rest : OnlyFirst (length roots * g .vertices) lasts₀ lasts
 
 -- WITHOUT ROOTS

@@ -46,19 +46,19 @@ fn prepare_distances(
     numbers: &mut [u16],
     bounds: &mut [u16],
     all: &mut [u64],
-    table: &mut [u32],
+    distances: &mut [u32],
     lasts: &mut [u32],
 )
-    requires { ⌜ DistancesAsked (graphOf (now b)) (now roots) (length (now numbers)) (length (now bounds)) (length (now all)) (length (now table)) (length (now lasts)) ⌝ }
+    requires { ⌜ DistancesAsked (graphOf (now b)) (now roots) (length (now numbers)) (length (now bounds)) (length (now all)) (length (now distances)) (length (now lasts)) ⌝ }
     ensures { λ _. ⌜ DistancesPrepared (graphOf (now (b .entry))) (now (roots .entry)) (now (numbers .entry)) (now (numbers .exit))
         (now (bounds .entry)) (now (bounds .exit)) (now (all .entry)) (now (all .exit))
-        (now (table .entry)) (now (table .exit)) (now (lasts .entry)) (now (lasts .exit)) ⌝ }
+        (now (distances .entry)) (now (distances .exit)) (now (lasts .entry)) (now (lasts .exit)) ⌝ }
 {
     let m = graph::edge_count(b);
     number_up(m, numbers);
     put_around(b, &numbers[..m], bounds, all);
     let n = graph::vertex_count(b);
-    fill_table(n, bounds, all, roots, table, lasts);
+    fill_table(n, bounds, all, roots, distances, lasts);
 }
 
 // Everything that crews with roots read. The distances come first, so that the arrays of their scratch serve again: the arcs over all edges become
@@ -71,15 +71,15 @@ pub fn prepare_rooted(
     bounds: &mut [u16],
     all: &mut [u64],
     arcs: &mut [u64],
-    table: &mut [u32],
+    distances: &mut [u32],
     lasts: &mut [u32],
 ) -> Ready
-    requires { ⌜ RootedPreparable (graphOf (now b)) (now roots) (now order) (now kept) (now bounds) (now all) (now arcs) (now table) (now lasts) ⌝ }
+    requires { ⌜ RootedPreparable (graphOf (now b)) (now roots) (now order) (now kept) (now bounds) (now all) (now arcs) (now distances) (now lasts) ⌝ }
     ensures { λ r. ⌜ RootedPrepared (graphOf (now (b .entry))) (now (roots .entry)) (now (order .entry)) (now (order .exit)) (now (kept .entry)) (now (kept .exit))
         (now (bounds .entry)) (now (bounds .exit)) (now (all .entry)) (now (all .exit)) (now (arcs .entry)) (now (arcs .exit))
-        (now (table .entry)) (now (table .exit)) (now (lasts .entry)) (now (lasts .exit)) r ⌝ }
+        (now (distances .entry)) (now (distances .exit)) (now (lasts .entry)) (now (lasts .exit)) r ⌝ }
 {
-    prepare_distances(b, roots, order, bounds, all, table, lasts);
+    prepare_distances(b, roots, order, bounds, all, distances, lasts);
     let ready = keep_forest(b, roots, all, arcs, order, kept);
     put_arcs(b, &kept[..ready.forest], bounds, arcs);
     ready

@@ -10,12 +10,12 @@ use Rattle.rooted_answer.specs.Answer.{JoinedAsked, JoinedLent, JoinedSm
 
 -- Zeros are lent, as many for the edges as for the rows.
 abbrev pub ZerosLent : Graph → List ℕ → ℕ → List ℕ → List ℕ → List ℕ → List ℕ → List ℕ → ℕ → ℕ → Type 0
-ZerosLent g roots limit order bounds arcs table lasts room size =
-    JoinedLent g roots limit order bounds arcs table lasts (replicate size 0) (length (replicate {A = ℕ} size 0)) room
+ZerosLent g roots limit order bounds arcs distances lasts room size =
+    JoinedLent g roots limit order bounds arcs distances lasts (replicate size 0) (length (replicate {A = ℕ} size 0)) room
 
-module _ {g : Graph} {roots : List ℕ} {limit : ℕ} {order bounds arcs table lasts : List ℕ} {room : ℕ} where
-  zeros-lent : JoinedAsked g roots limit order bounds arcs table lasts room → (size : ℕ) → g .vertices * length roots ≤ size
-      → ZerosLent g roots limit order bounds arcs table lasts room size
+module _ {g : Graph} {roots : List ℕ} {limit : ℕ} {order bounds arcs distances lasts : List ℕ} {room : ℕ} where
+  zeros-lent : JoinedAsked g roots limit order bounds arcs distances lasts room → (size : ℕ) → g .vertices * length roots ≤ size
+      → ZerosLent g roots limit order bounds arcs distances lasts room size
   zeros-lent asked size many =
       let sized = length-replicate {A = ℕ} size 0 in
       record {
@@ -25,11 +25,11 @@ module _ {g : Graph} {roots : List ℕ} {limit : ℕ} {order bounds arcs table l
       }
 
   -- 512 are enough for few vertices and roots,
-  pub small-lent : JoinedSmall g roots limit order bounds arcs table lasts room → ZerosLent g roots limit order bounds arcs table lasts room 512
+  pub small-lent : JoinedSmall g roots limit order bounds arcs distances lasts room → ZerosLent g roots limit order bounds arcs distances lasts room 512
   small-lent s = zeros-lent (s .asked) 512 (s .small)
 
   -- and 8,192 for every graph and all roots.
-  pub full-lent : JoinedAsked g roots limit order bounds arcs table lasts room → ZerosLent g roots limit order bounds arcs table lasts room 8192
+  pub full-lent : JoinedAsked g roots limit order bounds arcs distances lasts room → ZerosLent g roots limit order bounds arcs distances lasts room 8192
   full-lent asked =
       let given = asked .asked .prepared .decidable .given in
       zeros-lent asked 8192 (omega (arith, mul-le-mul (given .valid .vertices-most) (given .few)))

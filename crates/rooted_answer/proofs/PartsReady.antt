@@ -15,7 +15,7 @@ use Rattle.rooted_parts.specs.Parts.{PiecesAsked, PartsAsked}
 abbrev pub emptyArrays : PieceArrays
 emptyArrays = arraysOf (replicate 288 0) (replicate 289 0) (replicate 256 0) (replicate 32 0) (replicate 256 0)
 
-pieces-asked : {g : Graph} {roots : List ℕ} {limit : ℕ} {bounds arcs table : List ℕ} → PartsReady g roots limit table
+pieces-asked : {g : Graph} {roots : List ℕ} {limit : ℕ} {bounds arcs distances : List ℕ} → PartsReady g roots limit distances
     → WholeAround g roots bounds arcs → PiecesAsked g roots limit bounds arcs emptyArrays
 pieces-asked r around =
     let given = r .asked .decidable .given in
@@ -27,18 +27,18 @@ pieces-asked r around =
       joined = r .joined;
       starts-room = omega (arith, most, few, length-replicate {A = ℕ} 288 0);
       cuts-room = omega (arith, most, few, length-replicate {A = ℕ} 289 0);
-      flat-room = omega (arith, most, length-replicate {A = ℕ} 256 0);
+      members-room = omega (arith, most, length-replicate {A = ℕ} 256 0);
       lefts-room = omega (arith, few, length-replicate {A = ℕ} 32 0);
       places-room = omega (arith, most, length-replicate {A = ℕ} 256 0);
     }
 
-pub parts-asked : {g : Graph} {roots : List ℕ} {limit : ℕ} {bounds arcs table : List ℕ} → PartsReady g roots limit table → WholeAround g roots bounds arcs
+pub parts-asked : {g : Graph} {roots : List ℕ} {limit : ℕ} {bounds arcs distances : List ℕ} → PartsReady g roots limit distances → WholeAround g roots bounds arcs
     → {rows : List ℕ} → g .vertices * length roots ≤ length rows
-    → PartsAsked g roots limit bounds arcs table emptyArrays rows (replicate 256 0)
+    → PartsAsked g roots limit bounds arcs distances emptyArrays rows (replicate 256 0)
 parts-asked r around room =
     record {
       pieces = pieces-asked r around;
       ready = limit-ready (r .asked);
       rows-room = room;
-      out-room = omega (arith, r .asked .decidable .given .valid .vertices-most, length-replicate {A = ℕ} 256 0);
+      assignment-room = omega (arith, r .asked .decidable .given .valid .vertices-most, length-replicate {A = ℕ} 256 0);
     }

@@ -20,31 +20,31 @@ use Rattle.rooted_state.specs.Placed.{TrialArrays, PartsPlaced, CoverReady}
 use Rattle.rooted_state.specs.Prepared.{Prepared}
 
 -- What the answer at a limit asks: what is prepared, a limit no larger than document 01 has it, and a large buffer.
-pub record RootedAnswerAsked (g : Graph) (roots : List ℕ) (limit : ℕ) (order kept bounds arcs table lasts : List ℕ) (room : ℕ) : Type 0 where
-  pub prepared : Prepared g roots order kept bounds arcs table lasts
+pub record RootedAnswerAsked (g : Graph) (roots : List ℕ) (limit : ℕ) (order kept bounds arcs distances lasts : List ℕ) (room : ℕ) : Type 0 where
+  pub prepared : Prepared g roots order kept bounds arcs distances lasts
   pub limit-most : limit ≤ mostLimit
   pub most : leastRoom ≤ room
 
 -- What is asked for the parts: the edges within the limit join every vertex to a root.
-pub record JoinedAsked (g : Graph) (roots : List ℕ) (limit : ℕ) (order bounds arcs table lasts : List ℕ) (room : ℕ) : Type 0 where
-  pub asked : RootedAnswerAsked g roots limit order (keep g (together roots) (ordered g)) bounds arcs table lasts room
+pub record JoinedAsked (g : Graph) (roots : List ℕ) (limit : ℕ) (order bounds arcs distances lasts : List ℕ) (room : ℕ) : Type 0 where
+  pub asked : RootedAnswerAsked g roots limit order (keep g (together roots) (ordered g)) bounds arcs distances lasts room
   pub joined : unjoinedAt g roots limit ≡ none
 
 -- The same, with the arrays that are lent for it: for each vertex and each root room for a byte in the rows, and for an edge.
-pub record JoinedLent (g : Graph) (roots : List ℕ) (limit : ℕ) (order bounds arcs table lasts rows : List ℕ) (edges-room room : ℕ) : Type 0 where
-  pub asked : JoinedAsked g roots limit order bounds arcs table lasts room
+pub record JoinedLent (g : Graph) (roots : List ℕ) (limit : ℕ) (order bounds arcs distances lasts rows : List ℕ) (edges-room room : ℕ) : Type 0 where
+  pub asked : JoinedAsked g roots limit order bounds arcs distances lasts room
   pub rows-room : g .vertices * length roots ≤ length rows
   pub edges-fit : length roots * g .vertices ≤ edges-room
 
 -- The same without them, where vertices and roots are so few that small arrays are enough.
-pub record JoinedSmall (g : Graph) (roots : List ℕ) (limit : ℕ) (order bounds arcs table lasts : List ℕ) (room : ℕ) : Type 0 where
-  pub asked : JoinedAsked g roots limit order bounds arcs table lasts room
+pub record JoinedSmall (g : Graph) (roots : List ℕ) (limit : ℕ) (order bounds arcs distances lasts : List ℕ) (room : ℕ) : Type 0 where
+  pub asked : JoinedAsked g roots limit order bounds arcs distances lasts room
   pub small : g .vertices * length roots ≤ 512
 
 -- What is asked where the parts are placed: what a cover is made by, and the arrays of the trial, with a row for each part.
-pub record PlacedGiven (g : Graph) (roots : List ℕ) (limit : ℕ) (order table lasts : List ℕ) (a : TrialArrays) (parts : ℕ) (assigned : Bool)
+pub record PlacedGiven (g : Graph) (roots : List ℕ) (limit : ℕ) (order distances lasts : List ℕ) (a : TrialArrays) (parts : ℕ) (assigned : Bool)
     (edges-room room : ℕ) : Type 0 where
-  pub cover : CoverReady g roots limit order table lasts edges-room room
+  pub cover : CoverReady g roots limit order distances lasts edges-room room
   pub joined : unjoinedAt g roots limit ≡ none
   pub placed : PartsPlaced g roots limit a parts assigned
   pub rows-room : parts * length roots ≤ length (a .rows)

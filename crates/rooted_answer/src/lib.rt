@@ -22,21 +22,21 @@ fn answer_placed(
     roots: &[u16],
     limit: u64,
     order: &[u16],
-    table: &[u32],
+    distances: &[u32],
     lasts: &[u32],
     starts: &[u16],
     cuts: &[u16],
-    flat: &[u16],
+    members: &[u16],
     lefts: &[u16],
     places: &[u16],
     rows: &[u8],
-    out: &[u8],
+    assignment: &[u8],
     placed: Placed,
     edges: &mut [u16],
     buf: &mut [u8],
 ) -> Reply
-    requires { ⌜ PlacedGiven (graphOf (now b)) (now roots) limit (now order) (now table) (now lasts)
-        (trialArrays (now starts) (now cuts) (now flat) (now lefts) (now places) (now rows) (now out)) (placed .parts) (placed .assigned)
+    requires { ⌜ PlacedGiven (graphOf (now b)) (now roots) limit (now order) (now distances) (now lasts)
+        (trialArrays (now starts) (now cuts) (now members) (now lefts) (now places) (now rows) (now assignment)) (placed .parts) (placed .assigned)
         (length (now edges)) (length (now buf)) ⌝ }
     ensures { λ r. ⌜ PlacedReplied (graphOf (now (b .entry))) (now (roots .entry)) limit (now (edges .entry)) (now (edges .exit)) (now (buf .entry)) (now (buf .exit)) r ⌝ }
 {
@@ -45,22 +45,22 @@ fn answer_placed(
         let heaviest = write_rooted(
             b,
             order,
-            table,
+            distances,
             lasts,
             roots,
             starts,
             cuts,
-            flat,
+            members,
             lefts,
             places,
             placed.parts,
-            out,
+            assignment,
             edges,
             buf,
         );
         return Reply::Cover(limit, heaviest, k);
     }
-    reply_deficient(starts, cuts, flat, places, placed.parts, rows, out, k, buf)
+    reply_deficient(starts, cuts, members, places, placed.parts, rows, assignment, k, buf)
 }
 
 // The answer where every vertex is joined to a root.
@@ -71,52 +71,52 @@ fn answer_parts(
     order: &[u16],
     bounds: &[u16],
     arcs: &[u64],
-    table: &[u32],
+    distances: &[u32],
     lasts: &[u32],
     rows: &mut [u8],
     edges: &mut [u16],
     buf: &mut [u8],
 ) -> Reply
-    requires { ⌜ JoinedLent (graphOf (now b)) (now roots) limit (now order) (now bounds) (now arcs) (now table) (now lasts) (now rows) (length (now edges))
+    requires { ⌜ JoinedLent (graphOf (now b)) (now roots) limit (now order) (now bounds) (now arcs) (now distances) (now lasts) (now rows) (length (now edges))
         (length (now buf)) ⌝ }
     ensures { λ r. ⌜ JoinedReplied (graphOf (now (b .entry))) (now (roots .entry)) limit (now (rows .entry)) (now (rows .exit)) (now (edges .entry)) (now (edges .exit))
         (now (buf .entry)) (now (buf .exit)) r ⌝ }
 {
     let mut starts = [0u16; 288];
     let mut cuts = [0u16; 289];
-    let mut flat = [0u16; 256];
+    let mut members = [0u16; 256];
     let mut lefts = [0u16; 32];
     let mut places = [0u16; 256];
-    let mut out = [0u8; 256];
+    let mut assignment = [0u8; 256];
     let placed = place_parts(
         b,
         roots,
         limit,
         bounds,
         arcs,
-        table,
+        distances,
         &mut starts,
         &mut cuts,
-        &mut flat,
+        &mut members,
         &mut lefts,
         &mut places,
         rows,
-        &mut out,
+        &mut assignment,
     );
     answer_placed(
         b,
         roots,
         limit,
         order,
-        table,
+        distances,
         lasts,
         &starts,
         &cuts,
-        &flat,
+        &members,
         &lefts,
         &places,
         rows,
-        &out,
+        &assignment,
         placed,
         edges,
         buf,
@@ -131,11 +131,11 @@ fn answer_small(
     order: &[u16],
     bounds: &[u16],
     arcs: &[u64],
-    table: &[u32],
+    distances: &[u32],
     lasts: &[u32],
     buf: &mut [u8],
 ) -> Reply
-    requires { ⌜ JoinedSmall (graphOf (now b)) (now roots) limit (now order) (now bounds) (now arcs) (now table) (now lasts) (length (now buf)) ⌝ }
+    requires { ⌜ JoinedSmall (graphOf (now b)) (now roots) limit (now order) (now bounds) (now arcs) (now distances) (now lasts) (length (now buf)) ⌝ }
     ensures { λ r. ⌜ Answers (graphOf (now (b .entry))) (rooted (now (roots .entry))) limit (now (buf .entry)) (now (buf .exit)) r ⌝ }
 {
     let mut rows = [0u8; 512];
@@ -147,7 +147,7 @@ fn answer_small(
         order,
         bounds,
         arcs,
-        table,
+        distances,
         lasts,
         &mut rows,
         &mut edges,
@@ -163,11 +163,11 @@ fn answer_full(
     order: &[u16],
     bounds: &[u16],
     arcs: &[u64],
-    table: &[u32],
+    distances: &[u32],
     lasts: &[u32],
     buf: &mut [u8],
 ) -> Reply
-    requires { ⌜ JoinedAsked (graphOf (now b)) (now roots) limit (now order) (now bounds) (now arcs) (now table) (now lasts) (length (now buf)) ⌝ }
+    requires { ⌜ JoinedAsked (graphOf (now b)) (now roots) limit (now order) (now bounds) (now arcs) (now distances) (now lasts) (length (now buf)) ⌝ }
     ensures { λ r. ⌜ Answers (graphOf (now (b .entry))) (rooted (now (roots .entry))) limit (now (buf .entry)) (now (buf .exit)) r ⌝ }
 {
     let mut rows = [0u8; 8192];
@@ -179,7 +179,7 @@ fn answer_full(
         order,
         bounds,
         arcs,
-        table,
+        distances,
         lasts,
         &mut rows,
         &mut edges,
@@ -196,11 +196,11 @@ pub fn answer_rooted(
     kept: &[u16],
     bounds: &[u16],
     arcs: &[u64],
-    table: &[u32],
+    distances: &[u32],
     lasts: &[u32],
     buf: &mut [u8],
 ) -> Reply
-    requires { ⌜ RootedAnswerAsked (graphOf (now b)) (now roots) limit (now order) (now kept) (now bounds) (now arcs) (now table) (now lasts) (length (now buf)) ⌝ }
+    requires { ⌜ RootedAnswerAsked (graphOf (now b)) (now roots) limit (now order) (now kept) (now bounds) (now arcs) (now distances) (now lasts) (length (now buf)) ⌝ }
     ensures { λ r. ⌜ Answers (graphOf (now (b .entry))) (rooted (now (roots .entry))) limit (now (buf .entry)) (now (buf .exit)) r ⌝ }
 {
     let light = light_forest(b, kept, limit);
@@ -210,9 +210,9 @@ pub fn answer_rooted(
         Found::At(v) => Reply::Stop(v),
         Found::Nothing => {
             if graph::vertex_count(b) * roots.len() <= 512 {
-                return answer_small(b, roots, limit, order, bounds, arcs, table, lasts, buf);
+                return answer_small(b, roots, limit, order, bounds, arcs, distances, lasts, buf);
             }
-            answer_full(b, roots, limit, order, bounds, arcs, table, lasts, buf)
+            answer_full(b, roots, limit, order, bounds, arcs, distances, lasts, buf)
         }
     }
 }

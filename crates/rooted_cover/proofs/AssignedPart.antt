@@ -68,69 +68,69 @@ unfolding treeVertices
 vertices-inside {g} valid t h v m = around-inside g (t .start) valid h (t .edges) v m
 
 module _ {g : Graph} {roots : List ℕ} {limit : ℕ} {a : TrialArrays} {parts : ℕ} (p : PartsPlaced g roots limit a parts true) where
-  abbrev pub given : IsAssignment parts (length roots) (mayGo g roots limit) (take parts (a .out))
-  given = p .rows .assignment refl
+  abbrev pub given : IsAssignment parts (length roots) (mayGo g roots limit) (take parts (a .assignment))
+  given = p .rows .is-assignment refl
 
   -- The assignment, by the array of bytes.
-  pub byte : (i : ℕ) → i < parts → getD (take parts (a .out)) i 0 ≡ getD (a .out) i 0
-  byte i h = getD-take parts (a .out) i 0 h
+  pub byte : (i : ℕ) → i < parts → getD (take parts (a .assignment)) i 0 ≡ getD (a .assignment) i 0
+  byte i h = getD-take parts (a .assignment) i 0 h
 
-  pub bytes-room : parts ≤ length (a .out)
-  bytes-room = omega (arith, given .each, length-take parts (a .out))
+  pub bytes-room : parts ≤ length (a .assignment)
+  bytes-room = omega (arith, given .each, length-take parts (a .assignment))
 
-  pub byte-is-root : (i : ℕ) → i < parts → getD (a .out) i 0 < length roots
+  pub byte-is-root : (i : ℕ) → i < parts → getD (a .assignment) i 0 < length roots
   byte-is-root i h = rw (byte i h) at (given .is-root i h)
 
-  pub bytes-apart : (i j : ℕ) → i < parts → j < parts → getD (a .out) i 0 ≡ getD (a .out) j 0 → i ≡ j
+  pub bytes-apart : (i j : ℕ) → i < parts → j < parts → getD (a .assignment) i 0 ≡ getD (a .assignment) j 0 → i ≡ j
   bytes-apart i j h l q = given .apart i j h l (byte i h ∙ q ∙ sym (byte j l))
 
-  may-go : (i : ℕ) → i < parts → mayGo g roots limit i (getD (a .out) i 0) ≡ true
+  may-go : (i : ℕ) → i < parts → mayGo g roots limit i (getD (a .assignment) i 0) ≡ true
   may-go i h = rw (byte i h) at (given .may i h)
 
   -- Edges of the parts and of the leftovers are edges of the graph.
-  pub part-edge : (i : ℕ) → i < parts → (e : ℕ) → e ∈ segment (a .pieces .cuts) (a .pieces .flat) (getD (a .pieces .places) i 0) → e < edgeCount g
+  pub part-edge : (i : ℕ) → i < parts → (e : ℕ) → e ∈ segment (a .pieces .cuts) (a .pieces .members) (getD (a .pieces .places) i 0) → e < edgeCount g
   unfolding risen
   part-edge i h e m =
-      let is : partOf (rootedParts g roots limit) i .edges ≡ rise (segment (a .pieces .cuts) (a .pieces .flat) (getD (a .pieces .places) i 0)) = ap (λ (t : Tree). t .edges) (part-is (p .pieces) i h) in
+      let is : partOf (rootedParts g roots limit) i .edges ≡ rise (segment (a .pieces .cuts) (a .pieces .members) (getD (a .pieces .places) i 0)) = ap (λ (t : Tree). t .edges) (part-is (p .pieces) i h) in
       forest-light g (together roots) limit e (part-at g roots limit i (omega (arith, parts-count (p .pieces))) .in-forest (rw is (in-rise m))) .0
 
-  pub left-edge : (j : ℕ) → j < length roots → (e : ℕ) → e ∈ segment (a .pieces .cuts) (a .pieces .flat) (getD (a .pieces .lefts) j 0) → e < edgeCount g
+  pub left-edge : (j : ℕ) → j < length roots → (e : ℕ) → e ∈ segment (a .pieces .cuts) (a .pieces .members) (getD (a .pieces .lefts) j 0) → e < edgeCount g
   left-edge j h e m =
       forest-light g (together roots) limit e
       (rooted-left g roots limit j h .in-forest (of-rise (leftAt (rootedPieces g roots limit) j) (rw (p .pieces .lefts-are j h) at (in-rise m)))) .0
 
-  module _ (valid : Valid g) {table : List ℕ} (tabled : DistancesTabled g roots table) (small : limit < unreached) (i : ℕ) (h : i < parts) where
+  module _ (valid : Valid g) {distances : List ℕ} (tabled : DistancesTabled g roots distances) (small : limit < unreached) (i : ℕ) (h : i < parts) where
     abbrev root : ℕ
-    root = getD roots (getD (a .out) i 0) 0
+    root = getD roots (getD (a .assignment) i 0) 0
 
     -- The table has a vertex of the part within the limit of it.
-    near-one : any (λ v. leb (distanceIn table (g .vertices) v (getD (a .out) i 0)) limit) (treeVertices g (pieceAt (a .pieces) i)) ≡ true
+    near-one : any (λ v. leb (distanceIn distances (g .vertices) v (getD (a .assignment) i 0)) limit) (treeVertices g (pieceAt (a .pieces) i)) ≡ true
     unfolding mayGo
     near-one =
-        let j : ℕ = getD (a .out) i 0 in
-        tree-reaches valid limit root (λ v. leb (distanceIn table (g .vertices) v j) limit)
+        let j : ℕ = getD (a .assignment) i 0 in
+        tree-reaches valid limit root (λ v. leb (distanceIn distances (g .vertices) v j) limit)
         (λ v m. says-within limit _ _ small (tabled .each v j m (byte-is-root i h))) (pieceAt (a .pieces) i) (start-in (p .pieces) i h)
         ∙ reaches-risen g limit root (pieceAt (a .pieces) i)
         ∙ ap (λ t. reachesPart g limit root t) (sym (part-is (p .pieces) i h))
         ∙ may-go i h
 
     abbrev dist : List ℕ
-    dist = rowOf (g .vertices) table (getD (a .out) i 0)
+    dist = rowOf (g .vertices) distances (getD (a .assignment) i 0)
 
     -- So the nearest vertex of the part has a distance from its root.
     nearest-reached : {v : ℕ} → Nearest g dist (pieceAt (a .pieces) i) v → getD dist v 0 < unreached
     nearest-reached n =
-        let j : ℕ = getD (a .out) i 0 in
-        let (u, m, t) = any-found (λ v. leb (distanceIn table (g .vertices) v j) limit) (treeVertices g (pieceAt (a .pieces) i)) near-one in
-        let there = rows.part-at (j * g .vertices) (g .vertices) table u (vertices-inside valid (pieceAt (a .pieces) i) (start-in (p .pieces) i h) u m) in
-        omega (arith, n .nearest u m, there, leb-true (distanceIn table (g .vertices) u j) limit t)
+        let j : ℕ = getD (a .assignment) i 0 in
+        let (u, m, t) = any-found (λ v. leb (distanceIn distances (g .vertices) v j) limit) (treeVertices g (pieceAt (a .pieces) i)) near-one in
+        let there = rows.part-at (j * g .vertices) (g .vertices) distances u (vertices-inside valid (pieceAt (a .pieces) i) (start-in (p .pieces) i h) u m) in
+        omega (arith, n .nearest u m, there, leb-true (distanceIn distances (g .vertices) u j) limit t)
 
-    module _ {lasts : List ℕ} (last : LastsTabled g roots table lasts) {v : ℕ} (n : Nearest g dist (pieceAt (a .pieces) i) v) where
+    module _ {lasts : List ℕ} (last : LastsTabled g roots distances lasts) {v : ℕ} (n : Nearest g dist (pieceAt (a .pieces) i) v) where
       abbrev row : List ℕ
-      row = rowOf (g .vertices) lasts (getD (a .out) i 0)
+      row = rowOf (g .vertices) lasts (getD (a .assignment) i 0)
 
       abbrev shortest : Shortest g root dist row
-      shortest = last .each (getD (a .out) i 0) (byte-is-root i h)
+      shortest = last .each (getD (a .assignment) i 0) (byte-is-root i h)
 
       -- A path leads back from it,
       pub part-back : BackGiven row root v 2048

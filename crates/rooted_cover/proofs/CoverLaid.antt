@@ -34,9 +34,9 @@ use Rattle.rooted_cover.specs.CoverTrees.{RootTree, TreePut, TreesLaid, 
 use Rattle.rooted_cover.proofs.PartPaths.{paths-for}
 use Rattle.rooted_cover.proofs.RootedChoices.{choicesOf, choices-good, tree-of-cover}
 
-module _ {g : Graph} {table lasts roots : List ℕ} {a : PieceArrays} {out : List ℕ} where
+module _ {g : Graph} {distances lasts roots : List ℕ} {a : PieceArrays} {assignment : List ℕ} where
   -- No tree yet, where the first bound is 0.
-  pub trees-none : (bounds edges : List ℕ) → getD bounds 0 0 ≡ 0 → TreesLaid g table lasts roots a out 0 0 bounds edges
+  pub trees-none : (bounds edges : List ℕ) → getD bounds 0 0 ≡ 0 → TreesLaid g distances lasts roots a assignment 0 0 bounds edges
   trees-none bounds edges q =
       record {
         bounded = laid-none (segment bounds edges) bounds edges q .bounded;
@@ -45,9 +45,9 @@ module _ {g : Graph} {table lasts roots : List ℕ} {a : PieceArrays} {out : Lis
       }
 
   -- One tree more.
-  pub trees-more : {i at end : ℕ} {bounds edges after : List ℕ} → TreesLaid g table lasts roots a out i at bounds edges → i + 1 < length bounds
-      → TreePut g table lasts roots a out i at edges after end
-      → TreesLaid g table lasts roots a out (i + 1) end (set bounds (i + 1) end) after
+  pub trees-more : {i at end : ℕ} {bounds edges after : List ℕ} → TreesLaid g distances lasts roots a assignment i at bounds edges → i + 1 < length bounds
+      → TreePut g distances lasts roots a assignment i at edges after end
+      → TreesLaid g distances lasts roots a assignment (i + 1) end (set bounds (i + 1) end) after
   trees-more {i} {at} {end} {bounds} {edges} {after} w room t =
       let p = t .put in
       let new : segment (set bounds (i + 1) end) after i ≡ t .tree =
@@ -56,15 +56,15 @@ module _ {g : Graph} {table lasts roots : List ℕ} {a : PieceArrays} {out : Lis
         bounded = bounded-more (w .bounded) end room (omega (arith, p .behind));
         inside = omega (arith, p .behind, p .put .room, put-length (p .put));
         are =
-            below-more (λ h. RootTree g table lasts roots a out h (segment (set bounds (i + 1) end) after h)) i
+            below-more (λ h. RootTree g distances lasts roots a assignment h (segment (set bounds (i + 1) end) after h)) i
             (λ h l. rw (segment-kept (w .bounded) end edges after (put-before (p .put)) h l) (w .are h l))
             (rw new (t .is-tree));
       }
 
-module _ {g : Graph} {order table lasts roots : List ℕ} {a : PieceArrays} {parts : ℕ} {out : List ℕ} {edges-room room : ℕ}
-    (asked : CoverAsked g order table lasts roots a parts out edges-room room) {used : ℕ} {bounds edges : List ℕ}
-    (laid : TreesLaid g table lasts roots (partsOf parts a) out (length roots) used bounds edges) where
-  abbrev ready : LimitReady g roots (asked .limit) table
+module _ {g : Graph} {order distances lasts roots : List ℕ} {a : PieceArrays} {parts : ℕ} {assignment : List ℕ} {edges-room room : ℕ}
+    (asked : CoverAsked g order distances lasts roots a parts assignment edges-room room) {used : ℕ} {bounds edges : List ℕ}
+    (laid : TreesLaid g distances lasts roots (partsOf parts a) assignment (length roots) used bounds edges) where
+  abbrev ready : LimitReady g roots (asked .limit) distances
   ready = asked .ready .ready
 
   abbrev valid : Valid g
@@ -74,14 +74,14 @@ module _ {g : Graph} {order table lasts roots : List ℕ} {a : PieceArrays} {par
   abbrev trees : List Tree
   trees = treesAt roots bounds edges (below (length roots))
 
-  module _ (limit : ℕ) (rows : List ℕ) (small : limit ≤ mostLimit) (p : PartsPlaced g roots limit (record { pieces = a; rows = rows; out = out }) parts true) where
+  module _ (limit : ℕ) (rows : List ℕ) (small : limit ≤ mostLimit) (p : PartsPlaced g roots limit (record { pieces = a; rows = rows; assignment = assignment }) parts true) where
     -- They are the cover of some good choices.
     cover-is : (c : Choices) × GoodChoices g roots limit c × (trees ≡ rootedCover g roots limit c)
     unfolding treesAt treeAt rootedCover rootedParts unionTree
     cover-is =
         let (paths, path-of) = paths-for p (laid .are) in (
-          choicesOf (take parts out) paths,
-          choices-good p paths path-of valid (ready .distances) (omega arith) (asked .ready .last-edges) (ready .given .inside),
+          choicesOf (take parts assignment) paths,
+          choices-good p paths path-of valid (ready .distances-are) (omega arith) (asked .ready .last-edges) (ready .given .inside),
           map-same (below (length roots))
               (λ j m.
               let h = of-below (length roots) m in
@@ -106,7 +106,7 @@ module _ {g : Graph} {order table lasts roots : List ℕ} {a : PieceArrays} {par
       }
 
   pub cover-written : {before after : List ℕ} {end r : ℕ} → PutTo 0 (encode trees) before after end → HeaviestChosen g bounds edges (below (length roots)) r
-      → CoverAtLimits g roots a parts out before after r
+      → CoverAtLimits g roots a parts assignment before after r
   cover-written put heavy =
       record {
         at-limit =

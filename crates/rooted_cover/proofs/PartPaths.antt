@@ -22,26 +22,26 @@ use Rattle.rooted_cover.specs.CoverTrees.{RootTree, partsOf}
 use Rattle.rooted_cover.proofs.AssignedPart.{byte-is-root, bytes-apart}
 
 -- The path of part i, and the tree of its root: the path leads back from a nearest vertex of the part, and the tree is made with it.
-pub record PathFor (g : Graph) (table lasts roots : List ℕ) (a : TrialArrays) (tree : ℕ → List ℕ) (i : ℕ) (path : List ℕ) : Type 0 where
+pub record PathFor (g : Graph) (distances lasts roots : List ℕ) (a : TrialArrays) (tree : ℕ → List ℕ) (i : ℕ) (path : List ℕ) : Type 0 where
   pub vertex : ℕ
-  pub nearest : Nearest g (rowOf (g .vertices) table (getD (a .out) i 0)) (pieceAt (a .pieces) i) vertex
-  pub path-is : path ≡ turned (trailOf (rowOf (g .vertices) lasts (getD (a .out) i 0)) (getD roots (getD (a .out) i 0) 0) vertex)
-  pub tree-is : tree (getD (a .out) i 0)
-      ≡ unionTree g (getD roots (getD (a .out) i 0) 0)
-      ((segment (a .pieces .cuts) (a .pieces .flat) (getD (a .pieces .places) i 0) ++ trailOf (rowOf (g .vertices) lasts (getD (a .out) i 0)) (getD roots (getD (a .out) i 0) 0) vertex)
-      ++ segment (a .pieces .cuts) (a .pieces .flat) (getD (a .pieces .lefts) (getD (a .out) i 0) 0)) .edges
+  pub nearest : Nearest g (rowOf (g .vertices) distances (getD (a .assignment) i 0)) (pieceAt (a .pieces) i) vertex
+  pub path-is : path ≡ turned (trailOf (rowOf (g .vertices) lasts (getD (a .assignment) i 0)) (getD roots (getD (a .assignment) i 0) 0) vertex)
+  pub tree-is : tree (getD (a .assignment) i 0)
+      ≡ unionTree g (getD roots (getD (a .assignment) i 0) 0)
+      ((segment (a .pieces .cuts) (a .pieces .members) (getD (a .pieces .places) i 0) ++ trailOf (rowOf (g .vertices) lasts (getD (a .assignment) i 0)) (getD roots (getD (a .assignment) i 0) 0) vertex)
+      ++ segment (a .pieces .cuts) (a .pieces .members) (getD (a .pieces .lefts) (getD (a .assignment) i 0) 0)) .edges
 
-module _ {g : Graph} {roots : List ℕ} {limit : ℕ} {a : TrialArrays} {parts : ℕ} (p : PartsPlaced g roots limit a parts true) {table lasts : List ℕ} {tree : ℕ → List ℕ}
-    (trees : (j : ℕ) → j < length roots → RootTree g table lasts roots (partsOf parts (a .pieces)) (a .out) j (tree j)) where
+module _ {g : Graph} {roots : List ℕ} {limit : ℕ} {a : TrialArrays} {parts : ℕ} (p : PartsPlaced g roots limit a parts true) {distances lasts : List ℕ} {tree : ℕ → List ℕ}
+    (trees : (j : ℕ) → j < length roots → RootTree g distances lasts roots (partsOf parts (a .pieces)) (a .assignment) j (tree j)) where
   -- Each part has its path.
-  path-for : (i : ℕ) → i < parts → (path : List ℕ) × PathFor g table lasts roots a tree i path
+  path-for : (i : ℕ) → i < parts → (path : List ℕ) × PathFor g distances lasts roots a tree i path
   path-for i h = go (trees j (byte-is-root p i h) .assigned)
     where
       j : ℕ
-      j = getD (a .out) i 0
+      j = getD (a .assignment) i 0
 
-      go : AssignedAre g (rowOf (g .vertices) table j) (rowOf (g .vertices) lasts j) (getD roots j 0) (a .pieces .starts) (a .pieces .cuts) (a .pieces .flat) (take parts (a .pieces .places)) (a .out) j (trees j (byte-is-root p i h) .edges)
-          → (path : List ℕ) × PathFor g table lasts roots a tree i path
+      go : AssignedAre g (rowOf (g .vertices) distances j) (rowOf (g .vertices) lasts j) (getD roots j 0) (a .pieces .starts) (a .pieces .cuts) (a .pieces .members) (take parts (a .pieces .places)) (a .assignment) j (trees j (byte-is-root p i h) .edges)
+          → (path : List ℕ) × PathFor g distances lasts roots a tree i path
       go (none nobody q) = absurd (nobody i (omega (arith, places-many (p .pieces))) refl)
       go (part k v l f n q) =
           let in-parts : k < parts = omega (arith, places-many (p .pieces)) in
@@ -54,10 +54,10 @@ module _ {g : Graph} {roots : List ℕ} {limit : ℕ} {a : TrialArrays} {parts :
               path-is = refl;
               tree-is =
                   trees j (byte-is-root p i h) .is
-                  ∙ ap (λ x. unionTree g (getD roots j 0) (x ++ segment (a .pieces .cuts) (a .pieces .flat) (getD (a .pieces .lefts) j 0)) .edges)
-                  (q ∙ ap (λ c. segment (a .pieces .cuts) (a .pieces .flat) c ++ trailOf (rowOf (g .vertices) lasts j) (getD roots j 0) v) place);
+                  ∙ ap (λ x. unionTree g (getD roots j 0) (x ++ segment (a .pieces .cuts) (a .pieces .members) (getD (a .pieces .lefts) j 0)) .edges)
+                  (q ∙ ap (λ c. segment (a .pieces .cuts) (a .pieces .members) c ++ trailOf (rowOf (g .vertices) lasts j) (getD roots j 0) v) place);
             },
           )
 
-  pub paths-for : (paths : List (List ℕ)) × ((i : ℕ) → i < parts → PathFor g table lasts roots a tree i (getD paths i []))
-  paths-for = each-chosen [] (PathFor g table lasts roots a tree) parts path-for
+  pub paths-for : (paths : List (List ℕ)) × ((i : ℕ) → i < parts → PathFor g distances lasts roots a tree i (getD paths i []))
+  paths-for = each-chosen [] (PathFor g distances lasts roots a tree) parts path-for

@@ -27,21 +27,21 @@ pub marked-none : (a : List ℕ) → Marked (λ e. member e []) a a
 unfolding member any
 marked-none a = record { size = refl; each = λ j h. refl }
 
-module _ {g : Graph} {dist last : List ℕ} {root : ℕ} {starts cuts flat places out : List ℕ} {j : ℕ} where
-  pub root-written : Valid g → (left : ℕ) {a b before after : List ℕ} {r : ℕ} → Marked (λ e. member e (segment cuts flat left)) (replicate 2048 0) a
-      → AssignedMarked g dist last root starts cuts flat places out j a b → TreeKept g b before after r
-      → RootWritten g dist last root starts cuts flat left places out j before after r
+module _ {g : Graph} {dist last : List ℕ} {root : ℕ} {starts cuts members places assignment : List ℕ} {j : ℕ} where
+  pub root-written : Valid g → (left : ℕ) {a b before after : List ℕ} {r : ℕ} → Marked (λ e. member e (segment cuts members left)) (replicate 2048 0) a
+      → AssignedMarked g dist last root starts cuts members places assignment j a b → TreeKept g b before after r
+      → RootWritten g dist last root starts cuts members left places assignment j before after r
   root-written valid left {b = b} m n t =
       let edges = n .edges in
-      let all = marked-both (segment cuts flat left) edges m (n .marks) in
-      let each : (e : ℕ) → e < edgeCount g → getD b e 0 ≡ cond (member e (edges ++ segment cuts flat left)) 1 0 =
+      let all = marked-both (segment cuts members left) edges m (n .marks) in
+      let each : (e : ℕ) → e < edgeCount g → getD b e 0 ≡ cond (member e (edges ++ segment cuts members left)) 1 0 =
       λ e h.
       all .each e (omega (arith, valid .edges-most, length-replicate {A = ℕ} 2048 0))
-      ∙ ap (cond (member e (segment cuts flat left ++ edges)) 1) (zeros-at 2048 e)
-      ∙ ap (λ t. cond t 1 0) (member-swap e (segment cuts flat left) edges) in
+      ∙ ap (cond (member e (segment cuts members left ++ edges)) 1) (zeros-at 2048 e)
+      ∙ ap (λ t. cond t 1 0) (member-swap e (segment cuts members left) edges) in
       record {
         edges = edges;
         assigned = n .are;
-        written = rw (union-edges g root (edges ++ segment cuts flat left) b each) at (t .kept);
+        written = rw (union-edges g root (edges ++ segment cuts members left) b each) at (t .kept);
         fewer = t .fewer;
       }

@@ -58,34 +58,34 @@ either-list ws xs ys zs one other e m = go (List·Memᴰ·append-cases ws m)
 abbrev pub choicesOf : List ℕ → List (List ℕ) → Choices
 choicesOf assignment paths = record { assignment = assignment; paths = paths; marks = [] }
 
-module _ {g : Graph} {roots : List ℕ} {limit : ℕ} {a : TrialArrays} {parts : ℕ} (p : PartsPlaced g roots limit a parts true) {table lasts : List ℕ} {tree : ℕ → List ℕ}
-    (paths : List (List ℕ)) (path-of : (i : ℕ) → i < parts → PathFor g table lasts roots a tree i (getD paths i [])) where
+module _ {g : Graph} {roots : List ℕ} {limit : ℕ} {a : TrialArrays} {parts : ℕ} (p : PartsPlaced g roots limit a parts true) {distances lasts : List ℕ} {tree : ℕ → List ℕ}
+    (paths : List (List ℕ)) (path-of : (i : ℕ) → i < parts → PathFor g distances lasts roots a tree i (getD paths i [])) where
   abbrev choices : Choices
-  choices = choicesOf (take parts (a .out)) paths
+  choices = choicesOf (take parts (a .assignment)) paths
 
   -- They are good choices.
-  pub choices-good : Valid g → DistancesTabled g roots table → limit < unreached → LastsTabled g roots table lasts
+  pub choices-good : Valid g → DistancesTabled g roots distances → limit < unreached → LastsTabled g roots distances lasts
       → ((j : ℕ) → j < length roots → getD roots j 0 < g .vertices) → GoodChoices g roots limit choices
   choices-good valid tabled small last inside =
       record {
-        assigned = λ t. subst (λ n. IsAssignment n (length roots) (mayGo g roots limit) (take parts (a .out))) (parts-count (p .pieces)) (given p);
+        assigned = λ t. subst (λ n. IsAssignment n (length roots) (mayGo g roots limit) (take parts (a .assignment))) (parts-count (p .pieces)) (given p);
         shortest =
             λ t i l.
             let h : i < parts = omega (arith, parts-count (p .pieces)) in
             let x = path-of i h in
-            rw (byte p i h, x .path-is) (part-path p valid tabled small i h last (x .nearest) (inside (getD (a .out) i 0) (byte-is-root p i h)));
+            rw (byte p i h, x .path-is) (part-path p valid tabled small i h last (x .nearest) (inside (getD (a .assignment) i 0) (byte-is-root p i h)));
         deficient = λ t. absurd (true≢false (p .rows .assigned-is ∙ t));
       }
 
   module _ (j : ℕ) (h : j < length roots) where
     abbrev left : List ℕ
-    left = segment (a .pieces .cuts) (a .pieces .flat) (getD (a .pieces .lefts) j 0)
+    left = segment (a .pieces .cuts) (a .pieces .members) (getD (a .pieces .lefts) j 0)
 
     abbrev own : List ℕ
     own = assignedEdges (rootedParts g roots limit) choices j
 
     abbrev piece : ℕ → List ℕ
-    piece i = segment (a .pieces .cuts) (a .pieces .flat) (getD (a .pieces .places) i 0)
+    piece i = segment (a .pieces .cuts) (a .pieces .members) (getD (a .pieces .places) i 0)
 
     -- What is left at the root, in either order.
     to-left : (e : ℕ) → e ∈ left → e ∈ leftAt (rootedPieces g roots limit) j
@@ -99,22 +99,22 @@ module _ {g : Graph} {roots : List ℕ} {limit : ℕ} {a : TrialArrays} {parts :
     unfolding risen
     part-edges i l = ap (λ (t : Tree). t .edges) (part-is (p .pieces) i l)
 
-    in-own : (i : ℕ) → i < parts → getD (a .out) i 0 ≡ j → (e : ℕ) → e ∈ (rise (piece i) ++ getD paths i []) → e ∈ own
+    in-own : (i : ℕ) → i < parts → getD (a .assignment) i 0 ≡ j → (e : ℕ) → e ∈ (rise (piece i) ++ getD paths i []) → e ∈ own
     unfolding assignedEdges
     in-own i l q e m =
-        in-chosen (λ i. partOf (rootedParts g roots limit) i .edges ++ getD paths i []) (λ i. eqb (getD (take parts (a .out)) i 0) j) (length (rootedParts g roots limit))
+        in-chosen (λ i. partOf (rootedParts g roots limit) i .edges ++ getD paths i []) (λ i. eqb (getD (take parts (a .assignment)) i 0) j) (length (rootedParts g roots limit))
         i (omega (arith, parts-count (p .pieces))) (eq-eqb _ _ (byte p i l ∙ q)) (rw (part-edges i l) m)
 
-    of-own : {e : ℕ} → e ∈ own → (i : ℕ) × (i < parts) × (getD (a .out) i 0 ≡ j) × (e ∈ (rise (piece i) ++ getD paths i []))
+    of-own : {e : ℕ} → e ∈ own → (i : ℕ) × (i < parts) × (getD (a .assignment) i 0 ≡ j) × (e ∈ (rise (piece i) ++ getD paths i []))
     unfolding assignedEdges
     of-own m =
         let (i, k, t, n) =
-        of-chosen (λ i. partOf (rootedParts g roots limit) i .edges ++ getD paths i []) (λ i. eqb (getD (take parts (a .out)) i 0) j) (length (rootedParts g roots limit)) m in
+        of-chosen (λ i. partOf (rootedParts g roots limit) i .edges ++ getD paths i []) (λ i. eqb (getD (take parts (a .assignment)) i 0) j) (length (rootedParts g roots limit)) m in
         let l : i < parts = omega (arith, parts-count (p .pieces)) in
         (i, l, sym (byte p i l) ∙ eqb-true _ _ t, rw (part-edges i l) at n)
 
     -- So the root's tree is the cover's, where the root has a part,
-    with-part : (i : ℕ) → i < parts → getD (a .out) i 0 ≡ j → tree j ≡ unionTree g (getD roots j 0) (own ++ leftAt (rootedPieces g roots limit) j) .edges
+    with-part : (i : ℕ) → i < parts → getD (a .assignment) i 0 ≡ j → tree j ≡ unionTree g (getD roots j 0) (own ++ leftAt (rootedPieces g roots limit) j) .edges
     with-part i l q =
         let x = path-of i l in
         let trail : List ℕ = trailOf (rowOf (g .vertices) lasts j) (getD roots j 0) (x .vertex) in
@@ -134,7 +134,7 @@ module _ {g : Graph} {roots : List ℕ} {limit : ℕ} {a : TrialArrays} {parts :
         of-left))
 
     -- and where it has none.
-    without-part : ((i : ℕ) → i < parts → getD (a .out) i 0 ≡ j → ⊥) → tree j ≡ unionTree g (getD roots j 0) left .edges
+    without-part : ((i : ℕ) → i < parts → getD (a .assignment) i 0 ≡ j → ⊥) → tree j ≡ unionTree g (getD roots j 0) left .edges
         → tree j ≡ unionTree g (getD roots j 0) (own ++ leftAt (rootedPieces g roots limit) j) .edges
     without-part nobody made =
         made
@@ -143,11 +143,11 @@ module _ {g : Graph} {roots : List ℕ} {limit : ℕ} {a : TrialArrays} {parts :
         (either-list [] left own (leftAt (rootedPieces g roots limit) j) (λ e m. absurd (List·Memᴰ·not-nil m)) to-left)
         (either-list own (leftAt (rootedPieces g roots limit) j) [] left (λ e m. let (i, l, q, n) = of-own m in absurd (nobody i l q)) of-left))
 
-    pub tree-of-cover : RootTree g table lasts roots (partsOf parts (a .pieces)) (a .out) j (tree j)
+    pub tree-of-cover : RootTree g distances lasts roots (partsOf parts (a .pieces)) (a .assignment) j (tree j)
         → tree j ≡ unionTree g (getD roots j 0) (own ++ leftAt (rootedPieces g roots limit) j) .edges
     tree-of-cover r = go (r .assigned)
       where
-        go : AssignedAre g (rowOf (g .vertices) table j) (rowOf (g .vertices) lasts j) (getD roots j 0) (a .pieces .starts) (a .pieces .cuts) (a .pieces .flat) (take parts (a .pieces .places)) (a .out) j (r .edges)
+        go : AssignedAre g (rowOf (g .vertices) distances j) (rowOf (g .vertices) lasts j) (getD roots j 0) (a .pieces .starts) (a .pieces .cuts) (a .pieces .members) (take parts (a .pieces .places)) (a .assignment) j (r .edges)
             → tree j ≡ unionTree g (getD roots j 0) (own ++ leftAt (rootedPieces g roots limit) j) .edges
         go (none nobody q) = without-part (λ i l. nobody i (omega (arith, places-many (p .pieces)))) (r .is ∙ ap (λ x. unionTree g (getD roots j 0) (x ++ left) .edges) q)
         go (part i v l f n q) = with-part i (omega (arith, places-many (p .pieces))) (f .here l)

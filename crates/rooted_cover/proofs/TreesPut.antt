@@ -43,20 +43,20 @@ module _ (rows : List ℕ) (j n : ℕ) where
 pub row-fits : (j k n m size : ℕ) → n ≡ m → j < k → k * m ≤ size → j * n + n ≤ size
 row-fits j k n m size q h room = rw q (row-room j k m size h room)
 
-module _ {table lasts roots : List ℕ} {a : PieceArrays} {out : List ℕ} {j n root left : ℕ} where
+module _ {distances lasts roots : List ℕ} {a : PieceArrays} {assignment : List ℕ} {j n root left : ℕ} where
   -- What the tree asks, by the values read.
-  pub tree-asked : {g : Graph} {order : List ℕ} → RootTreesGiven g order table lasts roots a out → j < length roots → n ≡ g .vertices → root ≡ getD roots j 0
+  pub tree-asked : {g : Graph} {order : List ℕ} → RootTreesGiven g order distances lasts roots a assignment → j < length roots → n ≡ g .vertices → root ≡ getD roots j 0
       → left ≡ getD (a .lefts) j 0 → (room : List ℕ) → g .vertices ≤ length room
-      → RootGiven g order (rowThere table j n) (rowThere lasts j n) root (a .starts) (a .cuts) (a .flat) left (a .places) out j room
-  tree-asked given h count is-root is-left room l = rw (row-is table j n count, row-is lasts j n count, is-root, is-left) (given .each j h room l)
+      → RootGiven g order (rowThere distances j n) (rowThere lasts j n) root (a .starts) (a .cuts) (a .members) left (a .places) assignment j room
+  tree-asked given h count is-root is-left room l = rw (row-is distances j n count, row-is lasts j n count, is-root, is-left) (given .each j h room l)
 
   -- What it is, and where it stands.
   pub tree-put : {g : Graph} → n ≡ g .vertices → root ≡ getD roots j 0 → left ≡ getD (a .lefts) j 0 → {at size r : ℕ} {edges rest : List ℕ} → size ≡ length edges - at
       → at ≤ length edges
-      → RootWritten g (rowThere table j n) (rowThere lasts j n) root (a .starts) (a .cuts) (a .flat) left (a .places) out j (take size (drop at edges)) rest r
-      → TreePut g table lasts roots a out j at edges (take at edges ++ (rest ++ drop size (drop at edges))) (at + r)
+      → RootWritten g (rowThere distances j n) (rowThere lasts j n) root (a .starts) (a .cuts) (a .members) left (a .places) assignment j (take size (drop at edges)) rest r
+      → TreePut g distances lasts roots a assignment j at edges (take at edges ++ (rest ++ drop size (drop at edges))) (at + r)
   tree-put count is-root is-left q h w =
-      let there = rw (row-is table j n count, row-is lasts j n count, is-root, is-left) at w in
+      let there = rw (row-is distances j n count, row-is lasts j n count, is-root, is-left) at w in
       record {
         tree = _;
         is-tree = record { edges = there .edges; assigned = there .assigned; is = refl };

@@ -19,63 +19,63 @@ use Rattle.rooted_cover.specs.Tree.{AssignedAre, RootGiven}
 
 -- The edges are those of root j's tree: of the union of its part, a path back from one of the part's nearest vertices, and what is left at the
 -- root; where it has no part, of what is left there.
-pub record RootTree (g : Graph) (table lasts roots : List ℕ) (a : PieceArrays) (out : List ℕ) (j : ℕ) (tree : List ℕ) : Type 0 where
+pub record RootTree (g : Graph) (distances lasts roots : List ℕ) (a : PieceArrays) (assignment : List ℕ) (j : ℕ) (tree : List ℕ) : Type 0 where
   pub edges : List ℕ
-  pub assigned : AssignedAre g (rowOf (g .vertices) table j) (rowOf (g .vertices) lasts j) (getD roots j 0) (a .starts) (a .cuts) (a .flat) (a .places) out j edges
-  pub is : tree ≡ unionTree g (getD roots j 0) (edges ++ segment (a .cuts) (a .flat) (getD (a .lefts) j 0)) .edges
+  pub assigned : AssignedAre g (rowOf (g .vertices) distances j) (rowOf (g .vertices) lasts j) (getD roots j 0) (a .starts) (a .cuts) (a .members) (a .places) assignment j edges
+  pub is : tree ≡ unionTree g (getD roots j 0) (edges ++ segment (a .cuts) (a .members) (getD (a .lefts) j 0)) .edges
 
 -- What the trees of all roots ask: a valid graph, a row of distances and of last edges for each root, and of each what its tree asks, wherever there
 -- is room for an edge of each vertex.
-pub record RootTreesGiven (g : Graph) (order table lasts roots : List ℕ) (a : PieceArrays) (out : List ℕ) : Type 0 where
+pub record RootTreesGiven (g : Graph) (order distances lasts roots : List ℕ) (a : PieceArrays) (assignment : List ℕ) : Type 0 where
   pub valid : Valid g
-  pub table-room : length roots * g .vertices ≤ length table
+  pub distances-room : length roots * g .vertices ≤ length distances
   pub last-room : length roots * g .vertices ≤ length lasts
   pub each : (j : ℕ) → j < length roots → (room : List ℕ) → g .vertices ≤ length room
-      → RootGiven g order (rowOf (g .vertices) table j) (rowOf (g .vertices) lasts j) (getD roots j 0) (a .starts) (a .cuts) (a .flat)
-      (getD (a .lefts) j 0) (a .places) out j room
+      → RootGiven g order (rowOf (g .vertices) distances j) (rowOf (g .vertices) lasts j) (getD roots j 0) (a .starts) (a .cuts) (a .members)
+      (getD (a .lefts) j 0) (a .places) assignment j room
 
 -- What putting root j's tree behind the others asks besides: one of the roots, and room behind them.
-pub record TreeGivenAt (g : Graph) (order table lasts roots : List ℕ) (a : PieceArrays) (out : List ℕ) (j at room : ℕ) : Type 0 where
-  pub given : RootTreesGiven g order table lasts roots a out
+pub record TreeGivenAt (g : Graph) (order distances lasts roots : List ℕ) (a : PieceArrays) (assignment : List ℕ) (j at room : ℕ) : Type 0 where
+  pub given : RootTreesGiven g order distances lasts roots a assignment
   pub root : j < length roots
   pub fits : at + g .vertices ≤ room
 
 -- Root j's tree was put there; it has fewer edges than there are vertices.
-pub record TreePut (g : Graph) (table lasts roots : List ℕ) (a : PieceArrays) (out : List ℕ) (j at : ℕ) (before after : List ℕ) (r : ℕ) : Type 0 where
+pub record TreePut (g : Graph) (distances lasts roots : List ℕ) (a : PieceArrays) (assignment : List ℕ) (j at : ℕ) (before after : List ℕ) (r : ℕ) : Type 0 where
   pub tree : List ℕ
-  pub is-tree : RootTree g table lasts roots a out j tree
+  pub is-tree : RootTree g distances lasts roots a assignment j tree
   pub put : PutTo at tree before after r
   pub fewer : r < at + g .vertices
 
 -- What laying the trees of all roots asks: at most 32 roots, and for each room for an edge of each vertex.
-pub record LayRootsGiven (g : Graph) (order table lasts roots : List ℕ) (a : PieceArrays) (out : List ℕ) (bounds-room edges-room : ℕ) : Type 0 where
-  pub given : RootTreesGiven g order table lasts roots a out
+pub record LayRootsGiven (g : Graph) (order distances lasts roots : List ℕ) (a : PieceArrays) (assignment : List ℕ) (bounds-room edges-room : ℕ) : Type 0 where
+  pub given : RootTreesGiven g order distances lasts roots a assignment
   pub few : length roots ≤ 32
   pub bounds-fit : 33 ≤ bounds-room
   pub edges-fit : length roots * g .vertices ≤ edges-room
 
 -- The trees of the first i roots are laid: they take up the array's elements before `used`.
-pub record TreesLaid (g : Graph) (table lasts roots : List ℕ) (a : PieceArrays) (out : List ℕ) (i used : ℕ) (bounds edges : List ℕ) : Type 0 where
+pub record TreesLaid (g : Graph) (distances lasts roots : List ℕ) (a : PieceArrays) (assignment : List ℕ) (i used : ℕ) (bounds edges : List ℕ) : Type 0 where
   pub bounded : Bounded bounds i used
   pub inside : used ≤ length edges
-  pub are : (h : ℕ) → h < i → RootTree g table lasts roots a out h (segment bounds edges h)
+  pub are : (h : ℕ) → h < i → RootTree g distances lasts roots a assignment h (segment bounds edges h)
 
 -- The trees of all roots are laid. Of the bounds one more than there are roots may have changed, of the edges one for each vertex and each root.
-pub record RootsLaid (g : Graph) (table lasts roots : List ℕ) (a : PieceArrays) (out bounds bounds-after edges edges-after : List ℕ) : Type 0 where
-  pub laid : TreesLaid g table lasts roots a out (length roots) (getD bounds-after (length roots) 0) bounds-after edges-after
+pub record RootsLaid (g : Graph) (distances lasts roots : List ℕ) (a : PieceArrays) (assignment bounds bounds-after edges edges-after : List ℕ) : Type 0 where
+  pub laid : TreesLaid g distances lasts roots a assignment (length roots) (getD bounds-after (length roots) 0) bounds-after edges-after
   pub bounds-rest : OnlyFirst (length roots + 1) bounds bounds-after
   pub edges-rest : OnlyFirst (length roots * g .vertices) edges edges-after
 
 -- The arrays without the places behind the parts'.
 abbrev pub partsOf : ℕ → PieceArrays → PieceArrays
-partsOf parts a = arraysOf (a .starts) (a .cuts) (a .flat) (a .lefts) (take parts (a .places))
+partsOf parts a = arraysOf (a .starts) (a .cuts) (a .members) (a .lefts) (take parts (a .places))
 
 -- What writing the cover asks: what a cover is made by at some limit, and the parts placed there with an assignment of them.
-pub record CoverAsked (g : Graph) (order table lasts roots : List ℕ) (a : PieceArrays) (parts : ℕ) (out : List ℕ) (edges-room room : ℕ) : Type 0 where
+pub record CoverAsked (g : Graph) (order distances lasts roots : List ℕ) (a : PieceArrays) (parts : ℕ) (assignment : List ℕ) (edges-room room : ℕ) : Type 0 where
   pub limit : ℕ
   pub rows : List ℕ
-  pub ready : CoverReady g roots limit order table lasts edges-room room
-  pub placed : PartsPlaced g roots limit (record { pieces = a; rows = rows; out = out }) parts true
+  pub ready : CoverReady g roots limit order distances lasts edges-room room
+  pub placed : PartsPlaced g roots limit (record { pieces = a; rows = rows; assignment = assignment }) parts true
 
 -- The bytes of the cover that the trial makes of some good choices are the buffer's first bytes, and r is the weight of its heaviest tree.
 pub record CoverWritten (g : Graph) (roots : List ℕ) (limit : ℕ) (before after : List ℕ) (r : ℕ) : Type 0 where
@@ -85,11 +85,11 @@ pub record CoverWritten (g : Graph) (roots : List ℕ) (limit : ℕ) (before aft
   pub heaviest-is : r ≡ heaviest g (rootedCover g roots limit choices)
 
 -- So at every limit at which the parts are placed as they are.
-pub record CoverAtLimits (g : Graph) (roots : List ℕ) (a : PieceArrays) (parts : ℕ) (out before after : List ℕ) (r : ℕ) : Type 0 where
+pub record CoverAtLimits (g : Graph) (roots : List ℕ) (a : PieceArrays) (parts : ℕ) (assignment before after : List ℕ) (r : ℕ) : Type 0 where
   pub at-limit : (limit : ℕ) (rows : List ℕ) → limit ≤ mostLimit
-      → PartsPlaced g roots limit (record { pieces = a; rows = rows; out = out }) parts true → CoverWritten g roots limit before after r
+      → PartsPlaced g roots limit (record { pieces = a; rows = rows; assignment = assignment }) parts true → CoverWritten g roots limit before after r
 
 -- The same, with the array that the trees' edges were laid in: behind one element for each vertex and each root it is as it came.
-pub record RootedWritten (g : Graph) (roots : List ℕ) (a : PieceArrays) (parts : ℕ) (out edges edges-after before after : List ℕ) (r : ℕ) : Type 0 where
-  pub cover : CoverAtLimits g roots a parts out before after r
+pub record RootedWritten (g : Graph) (roots : List ℕ) (a : PieceArrays) (parts : ℕ) (assignment edges edges-after before after : List ℕ) (r : ℕ) : Type 0 where
+  pub cover : CoverAtLimits g roots a parts assignment before after r
   pub edges-rest : OnlyFirst (length roots * g .vertices) edges edges-after

@@ -29,9 +29,9 @@ pub record FirstWith (bytes : List ℕ) (bound j r : ℕ) : Type 0 where
   pub here : r < bound → getD bytes r 0 ≡ j
 
 -- What marking a piece asks: it is held, and each of its edges has a mark.
-pub record PieceGiven (cuts flat : List ℕ) (c room : ℕ) : Type 0 where
-  pub held : IsHeld cuts flat c
-  pub marks : (e : ℕ) → e ∈ segment cuts flat c → e < room
+pub record PieceGiven (cuts members : List ℕ) (c room : ℕ) : Type 0 where
+  pub held : IsHeld cuts members c
+  pub marks : (e : ℕ) → e ∈ segment cuts members c → e < room
 
 -- What marking a path asks: there is a trail of at most 256 edges, and each of them has a mark.
 pub record BackGiven (last : List ℕ) (root v room : ℕ) : Type 0 where
@@ -64,35 +64,35 @@ pub record ReachMarked (g : Graph) (dist last : List ℕ) (root start : ℕ) (ed
 
 -- What marking root j's part asks: a byte for each place, pieces that are held, and, at a place whose byte is j, a piece that may be marked
 -- with the path to it. Of other places nothing is asked: no path need lead to them.
-pub record AssignedGiven (g : Graph) (dist last : List ℕ) (root : ℕ) (starts cuts flat places out : List ℕ) (j room : ℕ) : Type 0 where
-  pub bytes : length places ≤ length out
-  pub held : AllHeld cuts flat places
-  pub reach : (i : ℕ) → i < length places → getD out i 0 ≡ j
-      → ReachGiven g dist last root (getD starts (getD places i 0) 0) (segment cuts flat (getD places i 0)) room
+pub record AssignedGiven (g : Graph) (dist last : List ℕ) (root : ℕ) (starts cuts members places assignment : List ℕ) (j room : ℕ) : Type 0 where
+  pub bytes : length places ≤ length assignment
+  pub held : AllHeld cuts members places
+  pub reach : (i : ℕ) → i < length places → getD assignment i 0 ≡ j
+      → ReachGiven g dist last root (getD starts (getD places i 0) 0) (segment cuts members (getD places i 0)) room
 
 -- The edges of root j's part and of a path back from one of its nearest vertices; none where j stands at no place.
-pub data AssignedAre (g : Graph) (dist last : List ℕ) (root : ℕ) (starts cuts flat places out : List ℕ) (j : ℕ) (edges : List ℕ) : Type 0 where
-  none : ((i : ℕ) → i < length places → getD out i 0 ≡ j → ⊥) → edges ≡ [] → AssignedAre g dist last root starts cuts flat places out j edges
-  part : (i v : ℕ) → i < length places → FirstWith out (length places) j i
-      → Nearest g dist (treeOf (getD starts (getD places i 0) 0) (segment cuts flat (getD places i 0))) v
-      → edges ≡ segment cuts flat (getD places i 0) ++ trailOf last root v → AssignedAre g dist last root starts cuts flat places out j edges
+pub data AssignedAre (g : Graph) (dist last : List ℕ) (root : ℕ) (starts cuts members places assignment : List ℕ) (j : ℕ) (edges : List ℕ) : Type 0 where
+  none : ((i : ℕ) → i < length places → getD assignment i 0 ≡ j → ⊥) → edges ≡ [] → AssignedAre g dist last root starts cuts members places assignment j edges
+  part : (i v : ℕ) → i < length places → FirstWith assignment (length places) j i
+      → Nearest g dist (treeOf (getD starts (getD places i 0) 0) (segment cuts members (getD places i 0))) v
+      → edges ≡ segment cuts members (getD places i 0) ++ trailOf last root v → AssignedAre g dist last root starts cuts members places assignment j edges
 
 -- Those edges were marked.
-pub record AssignedMarked (g : Graph) (dist last : List ℕ) (root : ℕ) (starts cuts flat places out : List ℕ) (j : ℕ) (before after : List ℕ) : Type 0 where
+pub record AssignedMarked (g : Graph) (dist last : List ℕ) (root : ℕ) (starts cuts members places assignment : List ℕ) (j : ℕ) (before after : List ℕ) : Type 0 where
   pub edges : List ℕ
-  pub are : AssignedAre g dist last root starts cuts flat places out j edges
+  pub are : AssignedAre g dist last root starts cuts members places assignment j edges
   pub marks : Marked (λ e. member e edges) before after
 
 -- What a root's tree asks: the graph and its order, a piece left at the root, and parts that may be marked.
-pub record RootGiven (g : Graph) (order dist last : List ℕ) (root : ℕ) (starts cuts flat : List ℕ) (left : ℕ) (places out : List ℕ) (j : ℕ) (tree : List ℕ) : Type 0 where
+pub record RootGiven (g : Graph) (order dist last : List ℕ) (root : ℕ) (starts cuts members : List ℕ) (left : ℕ) (places assignment : List ℕ) (j : ℕ) (tree : List ℕ) : Type 0 where
   pub asked : TreeAsked g order tree
-  pub piece : PieceGiven cuts flat left 2048
-  pub assigned : AssignedGiven g dist last root starts cuts flat places out j 2048
+  pub piece : PieceGiven cuts members left 2048
+  pub assigned : AssignedGiven g dist last root starts cuts members places assignment j 2048
 
 -- The tree of the union was written.
-pub record RootWritten (g : Graph) (dist last : List ℕ) (root : ℕ) (starts cuts flat : List ℕ) (left : ℕ) (places out : List ℕ) (j : ℕ)
+pub record RootWritten (g : Graph) (dist last : List ℕ) (root : ℕ) (starts cuts members : List ℕ) (left : ℕ) (places assignment : List ℕ) (j : ℕ)
     (before after : List ℕ) (r : ℕ) : Type 0 where
   pub edges : List ℕ
-  pub assigned : AssignedAre g dist last root starts cuts flat places out j edges
-  pub written : PutTo 0 (unionTree g root (edges ++ segment cuts flat left) .edges) before after r
+  pub assigned : AssignedAre g dist last root starts cuts members places assignment j edges
+  pub written : PutTo 0 (unionTree g root (edges ++ segment cuts members left) .edges) before after r
   pub fewer : r < g .vertices

@@ -14,23 +14,23 @@ ghost use Rattle.rooted_cover.specs.CoverTrees.{TreeGivenAt, TreePut, La
 fn put_tree(
     b: &[u8],
     order: &[u16],
-    table: &[u32],
+    distances: &[u32],
     lasts: &[u32],
     roots: &[u16],
     starts: &[u16],
     cuts: &[u16],
-    flat: &[u16],
+    members: &[u16],
     lefts: &[u16],
     places: &[u16],
-    out: &[u8],
+    assignment: &[u8],
     j: usize,
     edges: &mut [u16],
     at: usize,
 ) -> usize
-    requires { ⌜ TreeGivenAt (graphOf (now b)) (now order) (now table) (now lasts) (now roots) (arraysOf (now starts) (now cuts) (now flat) (now lefts) (now places)) (now out) j at
+    requires { ⌜ TreeGivenAt (graphOf (now b)) (now order) (now distances) (now lasts) (now roots) (arraysOf (now starts) (now cuts) (now members) (now lefts) (now places)) (now assignment) j at
         (length (now edges)) ⌝ }
-    ensures { λ r. ⌜ TreePut (graphOf (now (b .entry))) (now (table .entry)) (now (lasts .entry)) (now (roots .entry)) (arraysOf
-        (now (starts .entry)) (now (cuts .entry)) (now (flat .entry)) (now (lefts .entry)) (now (places .entry))) (now (out .entry)) j at (now (edges .entry)) (now (edges .exit)) r ⌝ }
+    ensures { λ r. ⌜ TreePut (graphOf (now (b .entry))) (now (distances .entry)) (now (lasts .entry)) (now (roots .entry)) (arraysOf
+        (now (starts .entry)) (now (cuts .entry)) (now (members .entry)) (now (lefts .entry)) (now (places .entry))) (now (assignment .entry)) j at (now (edges .entry)) (now (edges .exit)) r ⌝ }
 {
     let n = graph::vertex_count(b);
     let root = wide(roots[j]);
@@ -40,15 +40,15 @@ fn put_tree(
     let r = rooted_tree(
         b,
         order,
-        &table[from..to],
+        &distances[from..to],
         &lasts[from..to],
         root,
         starts,
         cuts,
-        flat,
+        members,
         left,
         places,
-        out,
+        assignment,
         j,
         &mut edges[at..],
     );
@@ -59,22 +59,22 @@ fn put_tree(
 fn lay_trees(
     b: &[u8],
     order: &[u16],
-    table: &[u32],
+    distances: &[u32],
     lasts: &[u32],
     roots: &[u16],
     starts: &[u16],
     cuts: &[u16],
-    flat: &[u16],
+    members: &[u16],
     lefts: &[u16],
     places: &[u16],
-    out: &[u8],
+    assignment: &[u8],
     bounds: &mut [u16],
     edges: &mut [u16],
 )
-    requires { ⌜ LayRootsGiven (graphOf (now b)) (now order) (now table) (now lasts) (now roots) (arraysOf (now starts) (now cuts) (now flat) (now lefts) (now places)) (now out)
+    requires { ⌜ LayRootsGiven (graphOf (now b)) (now order) (now distances) (now lasts) (now roots) (arraysOf (now starts) (now cuts) (now members) (now lefts) (now places)) (now assignment)
         (length (now bounds)) (length (now edges)) ⌝ }
-    ensures { λ _. ⌜ RootsLaid (graphOf (now (b .entry))) (now (table .entry)) (now (lasts .entry)) (now (roots .entry)) (arraysOf
-        (now (starts .entry)) (now (cuts .entry)) (now (flat .entry)) (now (lefts .entry)) (now (places .entry))) (now (out .entry))
+    ensures { λ _. ⌜ RootsLaid (graphOf (now (b .entry))) (now (distances .entry)) (now (lasts .entry)) (now (roots .entry)) (arraysOf
+        (now (starts .entry)) (now (cuts .entry)) (now (members .entry)) (now (lefts .entry)) (now (places .entry))) (now (assignment .entry))
         (now (bounds .entry)) (now (bounds .exit)) (now (edges .entry)) (now (edges .exit)) ⌝ }
 {
     bounds[0] = 0;
@@ -84,15 +84,15 @@ fn lay_trees(
         at = put_tree(
             b,
             order,
-            table,
+            distances,
             lasts,
             roots,
             starts,
             cuts,
-            flat,
+            members,
             lefts,
             places,
-            out,
+            assignment,
             j,
             edges,
             at,
@@ -107,23 +107,23 @@ fn lay_trees(
 pub fn write_rooted(
     b: &[u8],
     order: &[u16],
-    table: &[u32],
+    distances: &[u32],
     lasts: &[u32],
     roots: &[u16],
     starts: &[u16],
     cuts: &[u16],
-    flat: &[u16],
+    members: &[u16],
     lefts: &[u16],
     places: &[u16],
     parts: usize,
-    out: &[u8],
+    assignment: &[u8],
     edges: &mut [u16],
     buf: &mut [u8],
 ) -> u64
-    requires { ⌜ CoverAsked (graphOf (now b)) (now order) (now table) (now lasts) (now roots) (arraysOf (now starts) (now cuts) (now flat) (now lefts) (now places)) parts (now out)
+    requires { ⌜ CoverAsked (graphOf (now b)) (now order) (now distances) (now lasts) (now roots) (arraysOf (now starts) (now cuts) (now members) (now lefts) (now places)) parts (now assignment)
         (length (now edges)) (length (now buf)) ⌝ }
     ensures { λ r. ⌜ RootedWritten (graphOf (now (b .entry))) (now (roots .entry)) (arraysOf
-        (now (starts .entry)) (now (cuts .entry)) (now (flat .entry)) (now (lefts .entry)) (now (places .entry))) parts (now (out .entry))
+        (now (starts .entry)) (now (cuts .entry)) (now (members .entry)) (now (lefts .entry)) (now (places .entry))) parts (now (assignment .entry))
         (now (edges .entry)) (now (edges .exit)) (now (buf .entry)) (now (buf .exit)) r ⌝ }
 {
     let mut bounds = [0u16; 33];
@@ -132,15 +132,15 @@ pub fn write_rooted(
     lay_trees(
         b,
         order,
-        table,
+        distances,
         lasts,
         roots,
         starts,
         cuts,
-        flat,
+        members,
         lefts,
         &places[..parts],
-        out,
+        assignment,
         &mut bounds,
         edges,
     );

@@ -33,11 +33,11 @@ fn place_with(bytes: &[u8], bound: usize, j: usize) -> usize
 }
 
 // Marks the edges of piece c.
-fn mark_piece(cuts: &[u16], flat: &[u16], c: u16, marks: &mut [u8])
-    requires { ⌜ PieceGiven (now cuts) (now flat) c (length (now marks)) ⌝ }
-    ensures { λ _. ⌜ Marked (λ e. member e (segment (now (cuts .entry)) (now (flat .entry)) c)) (now (marks .entry)) (now (marks .exit)) ⌝ }
+fn mark_piece(cuts: &[u16], members: &[u16], c: u16, marks: &mut [u8])
+    requires { ⌜ PieceGiven (now cuts) (now members) c (length (now marks)) ⌝ }
+    ensures { λ _. ⌜ Marked (λ e. member e (segment (now (cuts .entry)) (now (members .entry)) c)) (now (marks .entry)) (now (marks .exit)) ⌝ }
 {
-    mark_edges(edges_at(cuts, flat, wide(c)), marks);
+    mark_edges(edges_at(cuts, members, wide(c)), marks);
 }
 
 // Marks the edges of the path from vertex v back to the root.
@@ -87,23 +87,23 @@ fn mark_assigned(
     root: usize,
     starts: &[u16],
     cuts: &[u16],
-    flat: &[u16],
+    members: &[u16],
     places: &[u16],
-    out: &[u8],
+    assignment: &[u8],
     j: usize,
     marks: &mut [u8],
 )
-    requires { ⌜ AssignedGiven (graphOf (now b)) (now dist) (now last) root (now starts) (now cuts) (now flat) (now places) (now out) j (length (now marks)) ⌝ }
-    ensures { λ _. ⌜ AssignedMarked (graphOf (now (b .entry))) (now (dist .entry)) (now (last .entry)) root (now (starts .entry)) (now (cuts .entry)) (now (flat .entry))
-        (now (places .entry)) (now (out .entry)) j (now (marks .entry)) (now (marks .exit)) ⌝ }
+    requires { ⌜ AssignedGiven (graphOf (now b)) (now dist) (now last) root (now starts) (now cuts) (now members) (now places) (now assignment) j (length (now marks)) ⌝ }
+    ensures { λ _. ⌜ AssignedMarked (graphOf (now (b .entry))) (now (dist .entry)) (now (last .entry)) root (now (starts .entry)) (now (cuts .entry)) (now (members .entry))
+        (now (places .entry)) (now (assignment .entry)) j (now (marks .entry)) (now (marks .exit)) ⌝ }
 {
-    let i = place_with(out, places.len(), j);
+    let i = place_with(assignment, places.len(), j);
     if places.len() <= i {
         return;
     }
     let c = wide(places[i]);
     let start = number_at(starts, c);
-    mark_reach(b, dist, last, root, start, edges_at(cuts, flat, c), marks);
+    mark_reach(b, dist, last, root, start, edges_at(cuts, members, c), marks);
 }
 
 // The edges of root j's tree, written by rising number to the front of the array: of its part if it has one, a shortest path to it, and the
@@ -116,19 +116,19 @@ pub fn rooted_tree(
     root: usize,
     starts: &[u16],
     cuts: &[u16],
-    flat: &[u16],
+    members: &[u16],
     left: u16,
     places: &[u16],
-    out: &[u8],
+    assignment: &[u8],
     j: usize,
     tree: &mut [u16],
 ) -> usize
-    requires { ⌜ RootGiven (graphOf (now b)) (now order) (now dist) (now last) root (now starts) (now cuts) (now flat) left (now places) (now out) j (now tree) ⌝ }
-    ensures { λ r. ⌜ RootWritten (graphOf (now (b .entry))) (now (dist .entry)) (now (last .entry)) root (now (starts .entry)) (now (cuts .entry)) (now (flat .entry)) left
-        (now (places .entry)) (now (out .entry)) j (now (tree .entry)) (now (tree .exit)) r ⌝ }
+    requires { ⌜ RootGiven (graphOf (now b)) (now order) (now dist) (now last) root (now starts) (now cuts) (now members) left (now places) (now assignment) j (now tree) ⌝ }
+    ensures { λ r. ⌜ RootWritten (graphOf (now (b .entry))) (now (dist .entry)) (now (last .entry)) root (now (starts .entry)) (now (cuts .entry)) (now (members .entry)) left
+        (now (places .entry)) (now (assignment .entry)) j (now (tree .entry)) (now (tree .exit)) r ⌝ }
 {
     let mut marks = [0u8; 2048];
-    mark_piece(cuts, flat, left, &mut marks);
+    mark_piece(cuts, members, left, &mut marks);
     mark_assigned(
         b,
         dist,
@@ -136,9 +136,9 @@ pub fn rooted_tree(
         root,
         starts,
         cuts,
-        flat,
+        members,
         places,
-        out,
+        assignment,
         j,
         &mut marks,
     );

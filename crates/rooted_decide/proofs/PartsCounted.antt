@@ -1,4 +1,4 @@
--- One pass over the walk counts the trial's parts: more than there are roots have no assignment, and none need one.
+-- One pass over the steps counts the trial's parts: more than there are roots have no assignment, and none need one.
 -- Assumes nothing.
 use Prim.Native.Nat.{ℕ, _≤_, _<_}
 use mathlib.Core.Path.{_≡_, sym, ap, _∙_}
@@ -15,26 +15,26 @@ use Rattle.rules.specs.RootedTrial.{unjoinedAt, rootedParts, mayGo, isAssignabl
 use Rattle.planner_laws.proofs.RootedPrepared.{pieces-of-whole}
 use Rattle.planner_laws.proofs.RootedPieces.{part-at}
 use Rattle.steps.specs.Touched.{partsCounted}
-use Rattle.steps.specs.WalkPut.{Countable}
+use Rattle.steps.specs.StepsPut.{Countable}
 use Rattle.rooted_state.proofs.AssignmentsAlike.{too-many}
 use Rattle.rooted_state.specs.Prepared.{TrialAsked, PartsReady}
 use Rattle.rooted_decide.specs.Decide.{CountReady, FewReady}
 
 -- Where every vertex is joined to a root within the limit, a trial may place its parts.
-pub parts-ready : {g : Graph} {roots : List ℕ} {limit : ℕ} {kept table : List ℕ} → TrialAsked g roots limit kept table
-    → unjoinedAt g roots limit ≡ none → PartsReady g roots limit table
+pub parts-ready : {g : Graph} {roots : List ℕ} {limit : ℕ} {kept distances : List ℕ} → TrialAsked g roots limit kept distances
+    → unjoinedAt g roots limit ≡ none → PartsReady g roots limit distances
 parts-ready a joined = record { asked = rw (a .decidable .forest) at a; joined = joined }
 
-module _ {g : Graph} {roots : List ℕ} {limit : ℕ} {table walk : List ℕ} (r : CountReady g roots limit table walk) where
-  pub count-asked : Countable limit walk
-  count-asked = record { inside = r .walked .inside; threshold-most = omega (arith, r .ready .asked .limit-most) }
+module _ {g : Graph} {roots : List ℕ} {limit : ℕ} {distances steps : List ℕ} (r : CountReady g roots limit distances steps) where
+  pub count-asked : Countable limit steps
+  count-asked = record { inside = r .stepped .inside; threshold-most = omega (arith, r .ready .asked .limit-most) }
 
-  module _ {p : ℕ} (counted : p ≡ partsCounted limit walk) where
+  module _ {p : ℕ} (counted : p ≡ partsCounted limit steps) where
     parts-counted : p ≡ length (rootedParts g roots limit)
     unfolding rootedParts
     parts-counted =
         counted
-        ∙ r .walked .counts limit
+        ∙ r .stepped .counts limit
         ∙ ap (λ ps. length (allParts ps)) (sym (pieces-of-whole g roots limit (r .ready .asked .decidable .given .valid) (r .ready .joined)))
 
     pub many-refused : length roots < p → false ≡ isAssignable g roots limit
@@ -46,7 +46,7 @@ module _ {g : Graph} {roots : List ℕ} {limit : ℕ} {table walk : List ℕ} (r
     none-assigned q = let none : length (rootedParts g roots limit) ≡ 0 = omega (arith, parts-counted) in rw none
 
     -- Some, and no more than the roots, may be assigned. Where there is a part the limit is not 0.
-    pub few-ready : 0 < p → p ≤ length roots → FewReady g roots limit table walk
+    pub few-ready : 0 < p → p ≤ length roots → FewReady g roots limit distances steps
     few-ready some few =
         record {
           counted = r;

@@ -1,4 +1,4 @@
--- The words that one pass over the walk leaves say to which roots each part may go: the walk passes the vertices of each part, and a vertex's word
+-- The words that one pass over the steps leaves say to which roots each part may go: the steps pass the vertices of each part, and a vertex's word
 -- has the roots that are within the limit of it.
 -- Assumes nothing.
 use Prim.Native.Nat.{ℕ, _≤_, _<_}
@@ -39,7 +39,7 @@ walk-inside {g} valid (step {e} {u = u} {w = w} j rest) h = from j
     from (onward q _) = rw q (one-end-below valid e)
     from (back q _) = rw q (other-end-below valid e)
 
-module _ {g : Graph} {roots : List ℕ} {limit : ℕ} {table walk : List ℕ} (f : FewReady g roots limit table walk) where
+module _ {g : Graph} {roots : List ℕ} {limit : ℕ} {distances steps : List ℕ} (f : FewReady g roots limit distances steps) where
   abbrev k : ℕ
   k = length roots
 
@@ -50,16 +50,16 @@ module _ {g : Graph} {roots : List ℕ} {limit : ℕ} {table walk : List ℕ} (f
   valid = f .counted .ready .asked .decidable .given .valid
 
   -- The pass tells of each part of the trial whether a test holds at one of its vertices.
-  touched-parts : (test : ℕ → Bool) → partsTouched limit test walk ≡ map (λ part. any test (treeVertices g part)) parts
+  touched-parts : (test : ℕ → Bool) → partsTouched limit test steps ≡ map (λ part. any test (treeVertices g part)) parts
   unfolding rootedParts
   touched-parts test =
-      f .counted .walked .touches limit test
+      f .counted .stepped .touches limit test
       ∙ ap (λ ps. map (λ part. any test (treeVertices g part)) (allParts ps)) (sym (pieces-of-whole g roots limit valid (f .counted .ready .joined)))
 
-  touched-many : (test : ℕ → Bool) → length (partsTouched limit test walk) ≡ length parts
+  touched-many : (test : ℕ → Bool) → length (partsTouched limit test steps) ≡ length parts
   touched-many test = ap length (touched-parts test) ∙ length-map parts (λ part. any test (treeVertices g part))
 
-  pub near-parts-asked : {near words : List ℕ} → 256 ≤ length near → k ≤ length words → NearPartsAsked limit walk near words
+  pub near-parts-asked : {near words : List ℕ} → 256 ≤ length near → k ≤ length words → NearPartsAsked limit steps near words
   near-parts-asked near-room words-room =
       record {
         countable = count-asked (f .counted);
@@ -87,7 +87,7 @@ module _ {g : Graph} {roots : List ℕ} {limit : ℕ} {table walk : List ℕ} (f
     part-near i j h l =
         tree-reaches valid limit (getD roots j 0) (λ v. bitAt j (getD near v 0)) (λ v m. words .each v j m l) (partOf parts i) (start-inside i h)
 
-    pub parts-near : {came left : List ℕ} {r : ℕ} → NearParts limit walk near came left r → PartsNear g roots limit left r
+    pub parts-near : {came left : List ℕ} {r : ℕ} → NearParts limit steps near came left r → PartsNear g roots limit left r
     parts-near {came} {left} {r} p = record { count = many; within = room; each = each }
       where
         room : r ≤ length left

@@ -32,53 +32,53 @@ pub fn no_cover_rooted(b: &[u8], roots: &[u16], kept: &[u16]) -> bool
 }
 
 // For each part of the trial a word, whose bit j says whether the part may go to root j. Says how many parts there are. No tree is split for them:
-// the walk passes the vertices of each part.
+// the steps pass the vertices of each part.
 fn parts_near(
     b: &[u8],
     roots: &[u16],
     limit: u64,
-    table: &[u32],
-    walk: &[u64],
+    distances: &[u32],
+    steps: &[u64],
     parts: &mut [u32],
 ) -> usize
-    requires { ⌜ NearReady (graphOf (now b)) (now roots) limit (now table) (now walk) (now parts) ⌝ }
+    requires { ⌜ NearReady (graphOf (now b)) (now roots) limit (now distances) (now steps) (now parts) ⌝ }
     ensures { λ r. ⌜ PartsNearPut (graphOf (now (b .entry))) (now (roots .entry)) limit (now (parts .entry)) (now (parts .exit)) r ⌝ }
 {
     let mut near = [0u32; 256];
-    roots_within(b, roots, limit, table, &mut near);
-    near_parts(walk, limit, &near, parts)
+    roots_within(b, roots, limit, distances, &mut near);
+    near_parts(steps, limit, &near, parts)
 }
 
 // Whether each part of the trial gets a root of its own, where there are some parts and no more than roots. So few have rows of at most 32 times 32
 // bytes.
-fn few_assigned(b: &[u8], roots: &[u16], limit: u64, table: &[u32], walk: &[u64]) -> bool
-    requires { ⌜ FewReady (graphOf (now b)) (now roots) limit (now table) (now walk) ⌝ }
+fn few_assigned(b: &[u8], roots: &[u16], limit: u64, distances: &[u32], steps: &[u64]) -> bool
+    requires { ⌜ FewReady (graphOf (now b)) (now roots) limit (now distances) (now steps) ⌝ }
     ensures { λ r. ⌜ r ≡ isAssignable (graphOf (now (b .entry))) (now (roots .entry)) limit ⌝ }
 {
     let k = roots.len();
     let mut parts = [0u32; 32];
-    let p = parts_near(b, roots, limit, table, walk, &mut parts);
+    let p = parts_near(b, roots, limit, distances, steps, &mut parts);
     let mut rows = [0u8; 1024];
     put_rows(&parts[..p], k, &mut rows);
     let size = p * k;
-    let mut out = [0u8; 32];
-    assign_roots(p, k, &rows[..size], &mut out)
+    let mut assignment = [0u8; 32];
+    assign_roots(p, k, &rows[..size], &mut assignment)
 }
 
 // Whether each part of the trial gets a root of its own, where every vertex is joined to a root. The parts are counted first: more than there are
 // roots never do, and where there is none nothing is needed, so that no distance is looked at for them.
-fn parts_assigned(b: &[u8], roots: &[u16], limit: u64, table: &[u32], walk: &[u64]) -> bool
-    requires { ⌜ CountReady (graphOf (now b)) (now roots) limit (now table) (now walk) ⌝ }
+fn parts_assigned(b: &[u8], roots: &[u16], limit: u64, distances: &[u32], steps: &[u64]) -> bool
+    requires { ⌜ CountReady (graphOf (now b)) (now roots) limit (now distances) (now steps) ⌝ }
     ensures { λ r. ⌜ r ≡ isAssignable (graphOf (now (b .entry))) (now (roots .entry)) limit ⌝ }
 {
-    let parts = count_parts(walk, limit);
+    let parts = count_parts(steps, limit);
     if roots.len() < parts {
         return false;
     }
     if parts == 0 {
         return true;
     }
-    few_assigned(b, roots, limit, table, walk)
+    few_assigned(b, roots, limit, distances, steps)
 }
 
 // Whether the limit is accepted, where the whole graph joins every vertex to a root.
@@ -87,14 +87,14 @@ pub fn accepts_rooted(
     roots: &[u16],
     limit: u64,
     kept: &[u16],
-    table: &[u32],
-    walk: &[u64],
+    distances: &[u32],
+    steps: &[u64],
 ) -> bool
-    requires { ⌜ RootedDecisionAsked (graphOf (now b)) (now roots) limit (now kept) (now table) (now walk) ⌝ }
+    requires { ⌜ RootedDecisionAsked (graphOf (now b)) (now roots) limit (now kept) (now distances) (now steps) ⌝ }
     ensures { λ r. ⌜ r ≡ accepts (graphOf (now (b .entry))) (rooted (now (roots .entry))) limit ⌝ }
 {
     if light_forest(b, kept, limit) < kept.len() {
         return false;
     }
-    parts_assigned(b, roots, limit, table, walk)
+    parts_assigned(b, roots, limit, distances, steps)
 }

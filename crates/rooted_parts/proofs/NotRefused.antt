@@ -32,30 +32,30 @@ none-above rows ones = go (either (any aboveOne rows))
         absurd (omega (arith, ltb-true 1 x above, ones i h, q))
     go (inr f) = f
 
-module _ {p k : ℕ} {rows out : List ℕ} (a : AssignAsked p k rows out) where
-  pub not-refused : refusedOf p k rows (length out) ≡ false
+module _ {p k : ℕ} {rows assignment : List ℕ} (a : AssignAsked p k rows assignment) where
+  pub not-refused : refusedOf p k rows (length assignment) ≡ false
   unfolding refusedOf
   not-refused =
-      rw (le-ltb 255 p (a .parts-few), le-ltb k 1 (a .roots-some), le-ltb 32 k (a .roots-few), eq-eqb (length rows) (p * k) (a .sized), none-above rows (a .ones), le-ltb (length out) p (a .room))
+      rw (le-ltb 255 p (a .parts-few), le-ltb k 1 (a .roots-some), le-ltb 32 k (a .roots-few), eq-eqb (length rows) (p * k) (a .sized), none-above rows (a .ones), le-ltb (length assignment) p (a .room))
 
-  module _ {answer : Answer} {after : List ℕ} (s : Assigns p k rows out answer after) where
+  module _ {answer : Answer} {after : List ℕ} (s : Assigns p k rows assignment answer after) where
     -- It is assigned, deficient, or refused, which it is not.
-    pub done-assigned : answer ≡ Assigned → AssignDone p k rows out after true
+    pub done-assigned : answer ≡ Assigned → AssignDone p k rows assignment after true
     done-assigned q =
         let x = s .means Assigned q in
         record {
           is = sym (some-assignable (allowedAt rows k) (x .assignment));
-          assignment = λ _. x .assignment;
+          is-assignment = λ _. x .assignment;
           deficient = λ f. absurd (true≢false f);
           rest = s .rest;
         }
 
-    pub done-deficient : answer ≡ Deficient → AssignDone p k rows out after false
+    pub done-deficient : answer ≡ Deficient → AssignDone p k rows assignment after false
     done-deficient q =
         let x = s .means Deficient q in
         record {
           is = sym (none-assignable (x .none));
-          assignment = λ t. absurd (true≢false (sym t));
+          is-assignment = λ t. absurd (true≢false (sym t));
           deficient = λ _. x .set;
           rest = s .rest;
         }
@@ -68,5 +68,5 @@ module _ {p k : ℕ} {rows out : List ℕ} (a : AssignAsked p k rows out) where
             go (inl t) = let (roots, y) = assignable-some (allowedAt rows k) p k t in absurd (none roots y)
             go (inr f) = f
 
-    pub done-refused : answer ≡ Refused → AssignDone p k rows out after false
+    pub done-refused : answer ≡ Refused → AssignDone p k rows assignment after false
     done-refused q = absurd (true≢false (sym (s .means Refused q .invalid) ∙ not-refused))

@@ -13,12 +13,12 @@ use Rattle.rooted_state.proofs.PlacedPieces.{places-many, parts-count}
 use Rattle.rooted_parts.specs.Parts.{PartsAsked, PartsHeld}
 
 -- Where the pieces are placed, the parts are held.
-pub asked-held : {g : Graph} {roots : List ℕ} {limit : ℕ} {bounds arcs table : List ℕ} {a : PieceArrays} {rows out starts cuts flat lefts places : List ℕ} {p : ℕ}
-    → PartsAsked g roots limit bounds arcs table a rows out → PiecesPlaced g roots limit (arraysOf starts cuts flat lefts places) p
-    → PartsHeld g roots limit table starts cuts flat places p
+pub asked-held : {g : Graph} {roots : List ℕ} {limit : ℕ} {bounds arcs distances : List ℕ} {a : PieceArrays} {rows assignment starts cuts members lefts places : List ℕ} {p : ℕ}
+    → PartsAsked g roots limit bounds arcs distances a rows assignment → PiecesPlaced g roots limit (arraysOf starts cuts members lefts places) p
+    → PartsHeld g roots limit distances starts cuts members places p
 asked-held {lefts = lefts} asked placed = record { ready = asked .ready; lefts = lefts; placed = placed }
 
-module _ {g : Graph} {roots : List ℕ} {limit : ℕ} {table starts cuts flat places : List ℕ} {p : ℕ} (held : PartsHeld g roots limit table starts cuts flat places p) where
+module _ {g : Graph} {roots : List ℕ} {limit : ℕ} {distances starts cuts members places : List ℕ} {p : ℕ} (held : PartsHeld g roots limit distances starts cuts members places p) where
   abbrev k : ℕ
   k = length roots
 

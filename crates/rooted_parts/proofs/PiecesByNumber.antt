@@ -36,8 +36,8 @@ use Rattle.rooted_parts.specs.Parts.{PiecesAsked, PiecesRest}
 use Rattle.unions.proofs.PartsBetween.{between-lefts}
 
 -- The trees of the whole forest can be split.
-pub can-split : {g : Graph} {roots : List ℕ} {limit : ℕ} {bounds arcs starts cuts flat lefts places : List ℕ} {n : ℕ}
-    → PiecesAsked g roots limit bounds arcs (arraysOf starts cuts flat lefts places) → n ≡ g .vertices → Splittable n bounds arcs roots (lent starts cuts flat lefts)
+pub can-split : {g : Graph} {roots : List ℕ} {limit : ℕ} {bounds arcs starts cuts members lefts places : List ℕ} {n : ℕ}
+    → PiecesAsked g roots limit bounds arcs (arraysOf starts cuts members lefts places) → n ≡ g .vertices → Splittable n bounds arcs roots (lent starts cuts members lefts)
 can-split {bounds = bounds} {arcs = arcs} asked q =
     record {
       around = subst (λ m. Arcs m bounds arcs) (sym q) (asked .around .sound);
@@ -45,14 +45,14 @@ can-split {bounds = bounds} {arcs = arcs} asked q =
       roots-few = omega (arith, asked .given .few);
       starts-room = omega (arith, asked .starts-room);
       cuts-room = omega (arith, asked .cuts-room);
-      flat-room = omega (arith, asked .flat-room);
+      members-room = omega (arith, asked .members-room);
       lefts-room = asked .lefts-room;
     }
 
-module _ {g : Graph} {roots : List ℕ} {limit : ℕ} {bounds arcs starts cuts flat lefts places : List ℕ}
-    (asked : PiecesAsked g roots limit bounds arcs (arraysOf starts cuts flat lefts places))
+module _ {g : Graph} {roots : List ℕ} {limit : ℕ} {bounds arcs starts cuts members lefts places : List ℕ}
+    (asked : PiecesAsked g roots limit bounds arcs (arraysOf starts cuts members lefts places))
     {starts′ cuts′ flat′ lefts′ : List ℕ} {n r : ℕ} (n-is : n ≡ g .vertices)
-    (x : ForestSplit n bounds arcs roots limit (lent starts cuts flat lefts) (lent starts′ cuts′ flat′ lefts′) r) where
+    (x : ForestSplit n bounds arcs roots limit (lent starts cuts members lefts) (lent starts′ cuts′ flat′ lefts′) r) where
   -- The edges of the whole forest, and what its trees are split into: the trial's pieces.
   abbrev edges : List ℕ
   edges = rise (keep g (together roots) (ordered g))
@@ -70,7 +70,7 @@ module _ {g : Graph} {roots : List ℕ} {limit : ℕ} {bounds arcs starts cuts f
   unfolding rootedParts
   parts-all = ap allParts pieces-are
 
-  splits : Splits g edges roots limit (lent starts cuts flat lefts) (lent starts′ cuts′ flat′ lefts′) r (x .used)
+  splits : Splits g edges roots limit (lent starts cuts members lefts) (lent starts′ cuts′ flat′ lefts′) r (x .used)
   splits = x .of-graph g edges (asked .around) (sym n-is)
 
   -- Every piece is held.
@@ -81,7 +81,7 @@ module _ {g : Graph} {roots : List ℕ} {limit : ℕ} {bounds arcs starts cuts f
   is-held {c} h =
       record {
         forward = x .bounded .rising c h;
-        inside = omega (arith, x .bounded .within (c + 1) (omega arith), x .used-few, n-is, asked .flat-room, only-first-length (x .flat-rest));
+        inside = omega (arith, x .bounded .within (c + 1) (omega arith), x .used-few, n-is, asked .members-room, only-first-length (x .members-rest));
       }
 
   -- The numbers of the parts are those between the leftovers'.
@@ -130,12 +130,12 @@ module _ {g : Graph} {roots : List ℕ} {limit : ℕ} {bounds arcs starts cuts f
         }
 
     -- What stands behind them is as it came: each root has a piece more than parts, and all pieces together have fewer edges than there are vertices.
-    pub pieces-rest : PiecesRest (g .vertices) (length roots) p (arraysOf starts cuts flat lefts places) (arraysOf starts′ cuts′ flat′ lefts′ places′)
+    pub pieces-rest : PiecesRest (g .vertices) (length roots) p (arraysOf starts cuts members lefts places) (arraysOf starts′ cuts′ flat′ lefts′ places′)
     pieces-rest =
         record {
           starts-rest = only-first-of-more (x .starts-rest) (g .vertices + length roots) (omega (arith, x .few, x .used-few, n-is));
           cuts-rest = only-first-of-more (x .cuts-rest) (g .vertices + length roots) (omega (arith, x .few, x .used-few, n-is, some));
-          flat-rest = only-first-of-more (x .flat-rest) (g .vertices) (omega (arith, x .used-few, n-is));
+          members-rest = only-first-of-more (x .members-rest) (g .vertices) (omega (arith, x .used-few, n-is));
           lefts-rest = x .lefts-rest;
           places-rest = put-only-first put;
         }

@@ -22,10 +22,10 @@ use Rattle.rooted_state.proofs.NearMeansMayGo.{tree-reaches, reaches-risen}
 use Rattle.rooted_state.proofs.PlacedPieces.{parts-count, part-is, start-in}
 use Rattle.rooted_parts.proofs.PartsAssembled.{many}
 
-module _ {g : Graph} {roots : List ℕ} {limit : ℕ} {table starts cuts flat places : List ℕ} {p : ℕ} {words : List ℕ}
-    (a : WordsAsked g roots limit table starts cuts flat places p words) where
+module _ {g : Graph} {roots : List ℕ} {limit : ℕ} {distances starts cuts members places : List ℕ} {p : ℕ} {words : List ℕ}
+    (a : WordsAsked g roots limit distances starts cuts members places p words) where
   -- What is asked for the words of the parts.
-  pub near-pieces-asked : {near : List ℕ} → 256 ≤ length near → NearPiecesAsked g near starts cuts flat (take p places) words
+  pub near-pieces-asked : {near : List ℕ} → 256 ≤ length near → NearPiecesAsked g near starts cuts members (take p places) words
   near-pieces-asked room =
       let valid = a .held .ready .given .valid in
       let placed = a .held .placed in
@@ -35,7 +35,7 @@ module _ {g : Graph} {roots : List ℕ} {limit : ℕ} {table starts cuts flat pl
         words-room = rw (many (a .held)) (a .words-room);
       }
 
-  pub pieces-near : {near : List ℕ} → VerticesNear g roots limit near → {after : List ℕ} → NearPieces g near starts cuts flat (take p places) words after
+  pub pieces-near : {near : List ℕ} → VerticesNear g roots limit near → {after : List ℕ} → NearPieces g near starts cuts members (take p places) words after
       → PartsNear g roots limit after p
   unfolding mayGo treeAt
   pieces-near {near} vertices {after} pieces =
@@ -48,11 +48,11 @@ module _ {g : Graph} {roots : List ℕ} {limit : ℕ} {table starts cuts flat pl
       each : (i j : ℕ) → i < p → j < length roots → bitAt j (getD after i 0) ≡ mayGo g roots limit i j
       each i j h l =
           let c : ℕ = getD places i 0 in
-          let t : Tree = treeAt starts cuts flat c in
+          let t : Tree = treeAt starts cuts members c in
           let root : ℕ = getD roots j 0 in
           let same : getD (take p places) i 0 ≡ c = getD-take p places i 0 h in
           pieces .each i (omega (arith, many (a .held))) .each j
-          ∙ ap (λ x. any (λ v. bitAt j (getD near v 0)) (treeVertices g (treeAt starts cuts flat x))) same
+          ∙ ap (λ x. any (λ v. bitAt j (getD near v 0)) (treeVertices g (treeAt starts cuts members x))) same
           ∙ tree-reaches (a .held .ready .given .valid) limit root (λ v. bitAt j (getD near v 0)) (λ v m. vertices .each v j m l) t (start-in (a .held .placed) i h)
           ∙ reaches-risen g limit root t
           ∙ ap (reachesPart g limit root) (sym (part-is (a .held .placed) i h))

@@ -40,8 +40,8 @@ module _ {g : Graph} {roots : List ℕ} {limit p : ℕ} {words : List ℕ} (near
   byte-taken : (i j : ℕ) → i < p → j < k → getD (take (p * k) rows′) (i * k + j) 0 ≡ getD rows′ (i * k + j) 0
   byte-taken i j h l = getD-take (p * k) rows′ (i * k + j) 0 (place-within i p k j (p * k) h l (omega arith))
 
-  pub assign-asked : {out : List ℕ} → p ≤ 255 → 1 ≤ k → k ≤ 32 → p ≤ length out → AssignAsked p k (take (p * k) rows′) out
-  assign-asked parts-few roots-some roots-few out-room =
+  pub assign-asked : {assignment : List ℕ} → p ≤ 255 → 1 ≤ k → k ≤ 32 → p ≤ length assignment → AssignAsked p k (take (p * k) rows′) assignment
+  assign-asked parts-few roots-some roots-few assignment-room =
       record {
         parts-few = parts-few;
         roots-some = roots-some;
@@ -51,7 +51,7 @@ module _ {g : Graph} {roots : List ℕ} {limit p : ℕ} {words : List ℕ} (near
             λ x h.
             every-place (λ x. getD (take (p * k) rows′) x 0 ≤ 1) p k roots-some
             (λ i j l m. rw (byte-taken i j l m, byte-is i j l m) (omega (arith, bit-small (mayGo g roots limit i j)))) x (omega (arith, taken));
-        room = out-room;
+        room = assignment-room;
       }
 
   allowed : (i j : ℕ) → i < p → j < k → allowedAt rows′ k i j ≡ mayGo g roots limit i j
@@ -62,7 +62,7 @@ module _ {g : Graph} {roots : List ℕ} {limit p : ℕ} {words : List ℕ} (near
   unfolding allowedAt
   allowed-taken i j h l = ap (λ x. eqb x 1) (byte-taken i j h l) ∙ allowed i j h l
 
-  pub rows-assigned : {before out : List ℕ} {r : Bool} → AssignDone p k (take (p * k) rows′) before out r → RowsAssigned g roots limit p rows′ out r
+  pub rows-assigned : {before assignment : List ℕ} {r : Bool} → AssignDone p k (take (p * k) rows′) before assignment r → RowsAssigned g roots limit p rows′ assignment r
   unfolding isAssignable
   rows-assigned done =
       let by-rows = allowedAt (take (p * k) rows′) k in
@@ -73,6 +73,6 @@ module _ {g : Graph} {roots : List ℕ} {limit p : ℕ} {words : List ℕ} (near
             done .is
             ∙ assignable-same by-rows by-rules allowed-taken
             ∙ ap (λ n. assignable by-rules (below n) (below k)) (near .count);
-        assignment = λ t. assignment-same by-rows by-rules allowed-taken (done .assignment t);
+        is-assignment = λ t. assignment-same by-rows by-rules allowed-taken (done .is-assignment t);
         deficient = λ t. deficient-same by-rows by-rules allowed-taken (done .deficient t);
       }

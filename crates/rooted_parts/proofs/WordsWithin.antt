@@ -18,7 +18,7 @@ use Rattle.rooted_parts.specs.Near.{WithinAsked, WithinDone}
 use Rattle.rooted_state.proofs.NearMeansMayGo.{says-within}
 
 -- 256 words of zero are enough.
-pub within-asked : {g : Graph} {roots : List ℕ} {limit : ℕ} {table : List ℕ} → LimitReady g roots limit table → WithinAsked g roots limit table (replicate 256 0)
+pub within-asked : {g : Graph} {roots : List ℕ} {limit : ℕ} {distances : List ℕ} → LimitReady g roots limit distances → WithinAsked g roots limit distances (replicate 256 0)
 within-asked ready =
     record {
       ready = ready;
@@ -26,21 +26,21 @@ within-asked ready =
       zeros = λ v _. zeros-at 256 v;
     }
 
-module _ {g : Graph} {roots : List ℕ} {limit : ℕ} {table words : List ℕ} (a : WithinAsked g roots limit table words) where
+module _ {g : Graph} {roots : List ℕ} {limit : ℕ} {distances words : List ℕ} (a : WithinAsked g roots limit distances words) where
   -- The words of the vertices are lent, which stand first.
   module _ (n : ℕ) (n-is : n ≡ g .vertices) where
     pub lent : length (take n words) ≡ n
     lent = length-take-le n words (omega (arith, a .room))
 
-    pub front-asked : NearAsked (length roots) table (take n words)
+    pub front-asked : NearAsked (length roots) distances (take n words)
     front-asked =
         record {
           roots-few = a .ready .given .few;
-          room = rw (lent, n-is) (a .ready .distances .room);
+          room = rw (lent, n-is) (a .ready .distances-are .room);
           zeros = λ v h. getD-take n words v 0 (omega (arith, lent)) ∙ a .zeros v (omega (arith, lent, a .room));
         }
 
-    pub front-near : (front : List ℕ) → NearVertices (length roots) limit table (take n words) front → WithinDone g roots limit words (front ++ drop n words)
+    pub front-near : (front : List ℕ) → NearVertices (length roots) limit distances (take n words) front → WithinDone g roots limit words (front ++ drop n words)
     front-near front near =
         record {
           near =
@@ -49,8 +49,8 @@ module _ {g : Graph} {roots : List ℕ} {limit : ℕ} {table words : List ℕ} (
                     λ v j h l.
                     ap (bitAt j) (List·getD-append front (drop n words) 0 v (omega (arith, near .size, lent)))
                     ∙ near .each v j (omega (arith, lent)) l
-                    ∙ ap (λ n. leb (distanceIn table n v j) limit) (lent ∙ n-is)
-                    ∙ says-within limit _ _ (omega (arith, a .ready .limit-most)) (a .ready .distances .each v j h l);
+                    ∙ ap (λ n. leb (distanceIn distances n v j) limit) (lent ∙ n-is)
+                    ∙ says-within limit _ _ (omega (arith, a .ready .limit-most)) (a .ready .distances-are .each v j h l);
               };
           rest = rw (← n-is) (only-front n front words (near .size ∙ lent) (omega (arith, a .room)));
         }

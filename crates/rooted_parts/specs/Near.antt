@@ -7,20 +7,20 @@ use mathlib.Core.Option.{none}
 use lib.ListN.{length, getD}
 use Rattle.lists.specs.Put.{OnlyFirst}
 use Rattle.graph.specs.Graph.{Graph}
-use Rattle.rules.specs.Distance.{distances, isWithin}
+use Rattle.rules.specs.Distance.{distances as distancesFrom, isWithin}
 use Rattle.rules.specs.RootedTrial.{rootedParts, mayGo}
 use Rattle.near.specs.Bits.{bitAt}
 use Rattle.rooted_state.specs.Prepared.{LimitReady}
 
 -- What is asked for the words of the vertices: the distances from the roots at a limit, and a word of zero for each vertex.
-pub record WithinAsked (g : Graph) (roots : List ℕ) (limit : ℕ) (table words : List ℕ) : Type 0 where
-  pub ready : LimitReady g roots limit table
+pub record WithinAsked (g : Graph) (roots : List ℕ) (limit : ℕ) (distances words : List ℕ) : Type 0 where
+  pub ready : LimitReady g roots limit distances
   pub room : g .vertices ≤ length words
   pub zeros : (v : ℕ) → v < length words → getD words v 0 ≡ 0
 
 -- The word of each vertex has the roots whose distance to it is at most the limit.
 pub record VerticesNear (g : Graph) (roots : List ℕ) (limit : ℕ) (words : List ℕ) : Type 0 where
-  pub each : (v j : ℕ) → v < g .vertices → j < length roots → bitAt j (getD words v 0) ≡ isWithin limit (getD (distances g (getD roots j 0)) v none)
+  pub each : (v j : ℕ) → v < g .vertices → j < length roots → bitAt j (getD words v 0) ≡ isWithin limit (getD (distancesFrom g (getD roots j 0)) v none)
 
 -- The first words are the vertices', and what stands behind them is as it came.
 pub record WithinDone (g : Graph) (roots : List ℕ) (limit : ℕ) (before after : List ℕ) : Type 0 where

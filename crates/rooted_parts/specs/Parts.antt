@@ -23,7 +23,7 @@ pub record PiecesAsked (g : Graph) (roots : List ℕ) (limit : ℕ) (bounds arcs
   pub joined : unjoinedAt g roots limit ≡ none
   pub starts-room : g .vertices + length roots ≤ length (a .starts)
   pub cuts-room : g .vertices + length roots < length (a .cuts)
-  pub flat-room : g .vertices ≤ length (a .flat)
+  pub members-room : g .vertices ≤ length (a .members)
   pub lefts-room : length roots ≤ length (a .lefts)
   pub places-room : g .vertices ≤ length (a .places)
 
@@ -31,7 +31,7 @@ pub record PiecesAsked (g : Graph) (roots : List ℕ) (limit : ℕ) (bounds arcs
 pub record PiecesRest (n k parts : ℕ) (a z : PieceArrays) : Type 0 where
   pub starts-rest : OnlyFirst (n + k) (a .starts) (z .starts)
   pub cuts-rest : OnlyFirst (n + k) (a .cuts) (z .cuts)
-  pub flat-rest : OnlyFirst n (a .flat) (z .flat)
+  pub members-rest : OnlyFirst n (a .members) (z .members)
   pub lefts-rest : OnlyFirst k (a .lefts) (z .lefts)
   pub places-rest : OnlyFirst parts (a .places) (z .places)
 
@@ -41,55 +41,55 @@ pub record PiecesPut (g : Graph) (roots : List ℕ) (limit : ℕ) (a z : PieceAr
   pub rest : PiecesRest (g .vertices) (length roots) parts a z
 
 -- What an assignment that is not refused asks: at most 255 parts, 1 to 32 roots, a byte of 0 or 1 for each part and root, and room.
-pub record AssignAsked (p k : ℕ) (rows out : List ℕ) : Type 0 where
+pub record AssignAsked (p k : ℕ) (rows assignment : List ℕ) : Type 0 where
   pub parts-few : p ≤ 255
   pub roots-some : 1 ≤ k
   pub roots-few : k ≤ 32
   pub sized : length rows ≡ p * k
   pub ones : (x : ℕ) → x < length rows → getD rows x 0 ≤ 1
-  pub room : p ≤ length out
+  pub room : p ≤ length assignment
 
 -- Whether an assignment exists; and it is written, or else the marks of a deficient set. What stands behind them is as it came.
 pub record AssignDone (p k : ℕ) (rows before after : List ℕ) (r : Bool) : Type 0 where
   pub is : r ≡ assignable (allowedAt rows k) (below p) (below k)
-  pub assignment : r ≡ true → IsAssignment p k (allowedAt rows k) (take p after)
+  pub is-assignment : r ≡ true → IsAssignment p k (allowedAt rows k) (take p after)
   pub deficient : r ≡ false → IsDeficient p k (allowedAt rows k) (take p after)
   pub rest : OnlyFirst p before after
 
 -- The parts of a trial stand in the arrays, beside the distances from all roots.
-pub record PartsHeld (g : Graph) (roots : List ℕ) (limit : ℕ) (table starts cuts flat places : List ℕ) (parts : ℕ) : Type 0 where
-  pub ready : LimitReady g roots limit table
+pub record PartsHeld (g : Graph) (roots : List ℕ) (limit : ℕ) (distances starts cuts members places : List ℕ) (parts : ℕ) : Type 0 where
+  pub ready : LimitReady g roots limit distances
   pub lefts : List ℕ
-  pub placed : PiecesPlaced g roots limit (arraysOf starts cuts flat lefts places) parts
+  pub placed : PiecesPlaced g roots limit (arraysOf starts cuts members lefts places) parts
 
 -- What marking the roots near them asks besides: a word for each part.
-pub record WordsAsked (g : Graph) (roots : List ℕ) (limit : ℕ) (table starts cuts flat places : List ℕ) (parts : ℕ) (words : List ℕ) : Type 0 where
-  pub held : PartsHeld g roots limit table starts cuts flat places parts
+pub record WordsAsked (g : Graph) (roots : List ℕ) (limit : ℕ) (distances starts cuts members places : List ℕ) (parts : ℕ) (words : List ℕ) : Type 0 where
+  pub held : PartsHeld g roots limit distances starts cuts members places parts
   pub words-room : parts ≤ length words
 
 -- What making their rows and assigning them asks besides: room for a row for each part, and a byte for each.
-pub record RowsAsked (g : Graph) (roots : List ℕ) (limit : ℕ) (table starts cuts flat places : List ℕ) (parts : ℕ) (rows out : List ℕ) : Type 0 where
-  pub held : PartsHeld g roots limit table starts cuts flat places parts
+pub record RowsAsked (g : Graph) (roots : List ℕ) (limit : ℕ) (distances starts cuts members places : List ℕ) (parts : ℕ) (rows assignment : List ℕ) : Type 0 where
+  pub held : PartsHeld g roots limit distances starts cuts members places parts
   pub rows-room : parts * length roots ≤ length rows
-  pub out-room : parts ≤ length out
+  pub assignment-room : parts ≤ length assignment
 
 -- What placing the parts asks besides the pieces: the distances from all roots, a limit no larger than document 01 has it, room for a row for each
 -- part, and a byte for each.
-pub record PartsAsked (g : Graph) (roots : List ℕ) (limit : ℕ) (bounds arcs table : List ℕ) (a : PieceArrays) (rows out : List ℕ) : Type 0 where
+pub record PartsAsked (g : Graph) (roots : List ℕ) (limit : ℕ) (bounds arcs distances : List ℕ) (a : PieceArrays) (rows assignment : List ℕ) : Type 0 where
   pub pieces : PiecesAsked g roots limit bounds arcs a
-  pub ready : LimitReady g roots limit table
+  pub ready : LimitReady g roots limit distances
   pub rows-room : g .vertices * length roots ≤ length rows
-  pub out-room : g .vertices ≤ length out
+  pub assignment-room : g .vertices ≤ length assignment
 
 -- The rows are made and the parts assigned. What stands behind a row and a byte for each part is as it came.
-pub record RowsPlaced (g : Graph) (roots : List ℕ) (limit parts : ℕ) (rows₀ rows out₀ out : List ℕ) (assigned : Bool) : Type 0 where
-  pub placed : RowsAssigned g roots limit parts rows out assigned
+pub record RowsPlaced (g : Graph) (roots : List ℕ) (limit parts : ℕ) (rows₀ rows assignment₀ assignment : List ℕ) (assigned : Bool) : Type 0 where
+  pub placed : RowsAssigned g roots limit parts rows assignment assigned
   pub rows-rest : OnlyFirst (parts * length roots) rows₀ rows
-  pub out-rest : OnlyFirst parts out₀ out
+  pub assignment-rest : OnlyFirst parts assignment₀ assignment
 
 -- The parts are placed, in arrays that were a: what stands behind the pieces, the places, the rows and the bytes is as it came.
 pub record PartsPut (g : Graph) (roots : List ℕ) (limit : ℕ) (a z : TrialArrays) (parts : ℕ) (assigned : Bool) : Type 0 where
   pub placed : PartsPlaced g roots limit z parts assigned
   pub pieces-rest : PiecesRest (g .vertices) (length roots) parts (a .pieces) (z .pieces)
   pub rows-rest : OnlyFirst (parts * length roots) (a .rows) (z .rows)
-  pub out-rest : OnlyFirst parts (a .out) (z .out)
+  pub assignment-rest : OnlyFirst parts (a .assignment) (z .assignment)

@@ -27,26 +27,26 @@ fn place_pieces(
     arcs: &[u64],
     starts: &mut [u16],
     cuts: &mut [u16],
-    flat: &mut [u16],
+    members: &mut [u16],
     lefts: &mut [u16],
     places: &mut [u16],
 ) -> usize
-    requires { ⌜ PiecesAsked (graphOf (now b)) (now roots) limit (now bounds) (now arcs) (arraysOf (now starts) (now cuts) (now flat) (now lefts) (now places)) ⌝ }
+    requires { ⌜ PiecesAsked (graphOf (now b)) (now roots) limit (now bounds) (now arcs) (arraysOf (now starts) (now cuts) (now members) (now lefts) (now places)) ⌝ }
     ensures { λ r. ⌜ PiecesPut (graphOf (now (b .entry))) (now (roots .entry)) limit
-        (arraysOf (now (starts .entry)) (now (cuts .entry)) (now (flat .entry)) (now (lefts .entry)) (now (places .entry)))
-        (arraysOf (now (starts .exit)) (now (cuts .exit)) (now (flat .exit)) (now (lefts .exit)) (now (places .exit))) r ⌝ }
+        (arraysOf (now (starts .entry)) (now (cuts .entry)) (now (members .entry)) (now (lefts .entry)) (now (places .entry)))
+        (arraysOf (now (starts .exit)) (now (cuts .exit)) (now (members .exit)) (now (lefts .exit)) (now (places .exit))) r ⌝ }
 {
     let n = graph::vertex_count(b);
-    split_forest(n, bounds, arcs, roots, limit, starts, cuts, flat, lefts);
+    split_forest(n, bounds, arcs, roots, limit, starts, cuts, members, lefts);
     part_places(&lefts[..roots.len()], places)
 }
 
 // Gives each of p parts a root of its own, or else marks a deficient set. Says whether each has one.
-pub fn assign_roots(p: usize, k: usize, rows: &[u8], out: &mut [u8]) -> bool
-    requires { ⌜ AssignAsked p k (now rows) (now out) ⌝ }
-    ensures { λ r. ⌜ AssignDone p k (now (rows .entry)) (now (out .entry)) (now (out .exit)) r ⌝ }
+pub fn assign_roots(p: usize, k: usize, rows: &[u8], assignment: &mut [u8]) -> bool
+    requires { ⌜ AssignAsked p k (now rows) (now assignment) ⌝ }
+    ensures { λ r. ⌜ AssignDone p k (now (rows .entry)) (now (assignment .entry)) (now (assignment .exit)) r ⌝ }
 {
-    let answer = assign(p, k, rows, out);
+    let answer = assign(p, k, rows, assignment);
     match answer {
         Answer::Refused => false,
         Answer::Assigned => true,
@@ -59,20 +59,20 @@ fn pieces_near(
     b: &[u8],
     roots: &[u16],
     limit: u64,
-    table: &[u32],
+    distances: &[u32],
     starts: &[u16],
     cuts: &[u16],
-    flat: &[u16],
+    members: &[u16],
     places: &[u16],
     parts: usize,
     words: &mut [u32],
 )
-    requires { ⌜ WordsAsked (graphOf (now b)) (now roots) limit (now table) (now starts) (now cuts) (now flat) (now places) parts (now words) ⌝ }
+    requires { ⌜ WordsAsked (graphOf (now b)) (now roots) limit (now distances) (now starts) (now cuts) (now members) (now places) parts (now words) ⌝ }
     ensures { λ _. ⌜ PartsNearPut (graphOf (now (b .entry))) (now (roots .entry)) limit (now (words .entry)) (now (words .exit)) parts ⌝ }
 {
     let mut near = [0u32; 256];
-    roots_within(b, roots, limit, table, &mut near);
-    near_pieces(b, &near, starts, cuts, flat, &places[..parts], words);
+    roots_within(b, roots, limit, distances, &mut near);
+    near_pieces(b, &near, starts, cuts, members, &places[..parts], words);
 }
 
 // Marks the roots near each part in its row, and gives each part a root of its own, or else marks a deficient set.
@@ -80,28 +80,28 @@ fn assign_parts(
     b: &[u8],
     roots: &[u16],
     limit: u64,
-    table: &[u32],
+    distances: &[u32],
     starts: &[u16],
     cuts: &[u16],
-    flat: &[u16],
+    members: &[u16],
     places: &[u16],
     parts: usize,
     rows: &mut [u8],
-    out: &mut [u8],
+    assignment: &mut [u8],
 ) -> bool
-    requires { ⌜ RowsAsked (graphOf (now b)) (now roots) limit (now table) (now starts) (now cuts) (now flat) (now places) parts (now rows) (now out) ⌝ }
+    requires { ⌜ RowsAsked (graphOf (now b)) (now roots) limit (now distances) (now starts) (now cuts) (now members) (now places) parts (now rows) (now assignment) ⌝ }
     ensures { λ r. ⌜ RowsPlaced (graphOf (now (b .entry))) (now (roots .entry)) limit parts (now (rows .entry)) (now (rows .exit))
-        (now (out .entry)) (now (out .exit)) r ⌝ }
+        (now (assignment .entry)) (now (assignment .exit)) r ⌝ }
 {
     let mut words = [0u32; 256];
     pieces_near(
         b,
         roots,
         limit,
-        table,
+        distances,
         starts,
         cuts,
-        flat,
+        members,
         places,
         parts,
         &mut words,
@@ -109,7 +109,7 @@ fn assign_parts(
     let k = roots.len();
     let size = parts * k;
     put_rows(&words[..parts], k, rows);
-    assign_roots(parts, k, &rows[..size], out)
+    assign_roots(parts, k, &rows[..size], assignment)
 }
 
 // The parts of a rooted trial where the edges within the limit join every vertex to a root, by the arcs of the whole forest and the distances
@@ -120,20 +120,20 @@ pub fn place_parts(
     limit: u64,
     bounds: &[u16],
     arcs: &[u64],
-    table: &[u32],
+    distances: &[u32],
     starts: &mut [u16],
     cuts: &mut [u16],
-    flat: &mut [u16],
+    members: &mut [u16],
     lefts: &mut [u16],
     places: &mut [u16],
     rows: &mut [u8],
-    out: &mut [u8],
+    assignment: &mut [u8],
 ) -> Placed
-    requires { ⌜ PartsAsked (graphOf (now b)) (now roots) limit (now bounds) (now arcs) (now table)
-        (arraysOf (now starts) (now cuts) (now flat) (now lefts) (now places)) (now rows) (now out) ⌝ }
+    requires { ⌜ PartsAsked (graphOf (now b)) (now roots) limit (now bounds) (now arcs) (now distances)
+        (arraysOf (now starts) (now cuts) (now members) (now lefts) (now places)) (now rows) (now assignment) ⌝ }
     ensures { λ r. ⌜ PartsPut (graphOf (now (b .entry))) (now (roots .entry)) limit
-        (trialArrays (now (starts .entry)) (now (cuts .entry)) (now (flat .entry)) (now (lefts .entry)) (now (places .entry)) (now (rows .entry)) (now (out .entry)))
-        (trialArrays (now (starts .exit)) (now (cuts .exit)) (now (flat .exit)) (now (lefts .exit)) (now (places .exit)) (now (rows .exit)) (now (out .exit)))
+        (trialArrays (now (starts .entry)) (now (cuts .entry)) (now (members .entry)) (now (lefts .entry)) (now (places .entry)) (now (rows .entry)) (now (assignment .entry)))
+        (trialArrays (now (starts .exit)) (now (cuts .exit)) (now (members .exit)) (now (lefts .exit)) (now (places .exit)) (now (rows .exit)) (now (assignment .exit)))
         (r .parts) (r .assigned) ⌝ }
 {
     let parts = place_pieces(
@@ -144,7 +144,7 @@ pub fn place_parts(
         arcs,
         starts,
         cuts,
-        flat,
+        members,
         lefts,
         places,
     );
@@ -152,14 +152,14 @@ pub fn place_parts(
         b,
         roots,
         limit,
-        table,
+        distances,
         starts,
         cuts,
-        flat,
+        members,
         places,
         parts,
         rows,
-        out,
+        assignment,
     );
     Placed { parts, assigned }
 }

@@ -21,7 +21,7 @@ use Rattle.graph.specs.Graph.{Graph}
 use Rattle.graph.specs.Valid.{Valid}
 use Rattle.graph.proofs.Ranges.{one-end-below, other-end-below}
 use Rattle.rules.specs.Cover.{Tree}
-use Rattle.rules.specs.Distance.{Distance, distances, isWithin, treeVertices, reachesPart}
+use Rattle.rules.specs.Distance.{Distance, distances as distancesFrom, isWithin, treeVertices, reachesPart}
 use Rattle.rules.specs.Held.{risen}
 use Rattle.distance.specs.Shortest.{SaysDistance, nowhere, there, unreached}
 use Rattle.pieces.specs.Pieces.{endsOf}
@@ -68,7 +68,7 @@ module _ (g : Graph) (start : ℕ) where
 pub reaches-risen : (g : Graph) (limit root : ℕ) (t : Tree) → reachesPart g limit root t ≡ reachesPart g limit root (risen t)
 unfolding reachesPart treeVertices risen
 reaches-risen g limit root t =
-    let test : ℕ → Bool = λ v. isWithin limit (getD (distances g root) v none) in
+    let test : ℕ → Bool = λ v. isWithin limit (getD (distancesFrom g root) v none) in
     any-alike test test (around g (t .start) (t .edges)) (around g (t .start) (rise (t .edges)))
     (more-edges g (t .start) (t .edges) (rise (t .edges)) (λ e. in-rise))
     (more-edges g (t .start) (rise (t .edges)) (t .edges) (λ e. of-rise (t .edges)))
@@ -76,10 +76,10 @@ reaches-risen g limit root t =
 
 -- A test that says of each vertex whether a root is within the limit of it says so of a tree, by the tree's vertices.
 pub tree-reaches : {g : Graph} → Valid g → (limit root : ℕ) (test : ℕ → Bool)
-    → ((v : ℕ) → v < g .vertices → test v ≡ isWithin limit (getD (distances g root) v none))
+    → ((v : ℕ) → v < g .vertices → test v ≡ isWithin limit (getD (distancesFrom g root) v none))
     → (t : Tree) → t .start < g .vertices → any test (treeVertices g t) ≡ reachesPart g limit root t
 unfolding reachesPart treeVertices
 tree-reaches {g} valid limit root test says t inside =
     let vertices : List ℕ = around g (t .start) (t .edges) in
-    any-alike test (λ v. isWithin limit (getD (distances g root) v none)) vertices vertices (λ v m. m) (λ v m. m)
+    any-alike test (λ v. isWithin limit (getD (distancesFrom g root) v none)) vertices vertices (λ v m. m) (λ v m. m)
     (λ v m. says v (around-inside g (t .start) valid inside (t .edges) v m))

@@ -18,7 +18,7 @@ use Rattle.rooted_state.specs.Placed.{PieceArrays, PiecesPlaced}
 
 -- The piece at place i.
 abbrev pub pieceAt : PieceArrays → ℕ → Tree
-pieceAt a i = treeOf (getD (a .starts) (getD (a .places) i 0) 0) (segment (a .cuts) (a .flat) (getD (a .places) i 0))
+pieceAt a i = treeOf (getD (a .starts) (getD (a .places) i 0) 0) (segment (a .cuts) (a .members) (getD (a .places) i 0))
 
 module _ {g : Graph} {roots : List ℕ} {limit : ℕ} {a : PieceArrays} {parts : ℕ} (p : PiecesPlaced g roots limit a parts) where
   -- There is a place for each part,
@@ -28,7 +28,7 @@ module _ {g : Graph} {roots : List ℕ} {limit : ℕ} {a : PieceArrays} {parts :
   pub parts-count : parts ≡ length (rootedParts g roots limit)
   unfolding treesAt
   parts-count =
-      let tree : ℕ → Tree = treeAt (a .starts) (a .cuts) (a .flat) in
+      let tree : ℕ → Tree = treeAt (a .starts) (a .cuts) (a .members) in
       let chosen : List ℕ = take parts (a .places) in
       sym places-many ∙ sym (length-map chosen tree) ∙ sym (length-map (map tree chosen) risen) ∙ ap length (p .parts-are)
 
@@ -40,7 +40,7 @@ module _ {g : Graph} {roots : List ℕ} {limit : ℕ} {a : PieceArrays} {parts :
   unfolding partOf treesAt treeAt
   part-is i h =
       let nothing : Tree = record { start = 0; edges = [] } in
-      let tree : ℕ → Tree = treeAt (a .starts) (a .cuts) (a .flat) in
+      let tree : ℕ → Tree = treeAt (a .starts) (a .cuts) (a .members) in
       ap (λ (l : List Tree). getD l i nothing) (sym (p .parts-are) ∙ map-map risen tree (take parts (a .places)))
       ∙ map-at (λ c. risen (tree c)) 0 nothing (take parts (a .places)) i (omega (arith, places-many))
       ∙ ap (λ c. risen (tree c)) (getD-take parts (a .places) i 0 h)

@@ -10,5 +10,5 @@ use Rattle.rooted_state.specs.Prepared.{RootsGiven, LimitReady, TrialAsk
 pub roots-inside : {g : Graph} {roots : List ℕ} → RootsGiven g roots → (r : ℕ) → r ∈ roots → r < g .vertices
 roots-inside given r m = let (j, h, q) = place-of 0 m in rw q at (given .inside j h)
 
-pub limit-ready : {g : Graph} {roots : List ℕ} {limit : ℕ} {kept table : List ℕ} → TrialAsked g roots limit kept table → LimitReady g roots limit table
-limit-ready a = record { given = a .decidable .given; distances = a .decidable .distances; limit-most = a .limit-most }
+pub limit-ready : {g : Graph} {roots : List ℕ} {limit : ℕ} {kept distances : List ℕ} → TrialAsked g roots limit kept distances → LimitReady g roots limit distances
+limit-ready a = record { given = a .decidable .given; distances-are = a .decidable .distances-are; limit-most = a .limit-most }

@@ -15,12 +15,12 @@ pub one-kind : {kind : Kind} → kind ≡ Rooted → kind ≡ Unrooted → ⊥
 one-kind {kind} p q = let z : _≡_ {A = ℕ} 0 1 = cc in omega arith
 
 -- What a decision by crews with roots asks.
-pub rooted-decision : {kind : Kind} {k limit : ℕ} {g : Graph} {roots kept table total until walk : List ℕ}
-    → DecisionAsked kind k g roots limit kept table total until walk → kind ≡ Rooted → RootedDecisionAsked g roots limit kept table walk
+pub rooted-decision : {kind : Kind} {k limit : ℕ} {g : Graph} {roots kept distances total until steps : List ℕ}
+    → DecisionAsked kind k g roots limit kept distances total until steps → kind ≡ Rooted → RootedDecisionAsked g roots limit kept distances steps
 rooted-decision {kind} a q =
     let same : kind ≡ Rooted = q in
     record {
       asked = record { decidable = a .crews .ready .decidable q; limit-most = a .limit-most };
-      walked = a .walked q;
+      stepped = a .stepped q;
       some-cover = rw same at (a .crews .some-cover);
     }

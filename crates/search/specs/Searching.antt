@@ -12,7 +12,7 @@ use Rattle.rules.specs.Search.{accepts, Bounds, searched}
 use Rattle.rules.specs.Questions.{mostLimit}
 use Rattle.admit.specs.declared.crews.Kind.{Kind}
 use Rattle.admit.specs.declared.crews.Kind.the-variants.{Rooted}
-use Rattle.rooted_state.specs.Prepared.{RootsGiven, WholeAround, WholeWalked}
+use Rattle.rooted_state.specs.Prepared.{RootsGiven, WholeAround, WholeSteps}
 use Rattle.search.specs.Decision.{CrewsPrepared}
 
 -- Where the search stands.
@@ -23,32 +23,32 @@ between low high = record { low = low; high = high }
 abbrev pub searchEnd : Graph → cover.Crews → ℕ → ℕ → ℕ
 searchEnd g crews sum budget = searched (accepts g crews) budget (between 0 sum) .high
 
--- What the search asks: prepared crews, the walk of the whole forest's trees, and a sum within document 01's range.
-pub record SearchAsked (kind : Kind) (k : ℕ) (g : Graph) (roots kept table total until walk : List ℕ) (sum : ℕ) : Type 0 where
-  pub crews : CrewsPrepared kind k g roots kept table total until
-  pub walked : kind ≡ Rooted → WholeWalked g roots walk
+-- What the search asks: prepared crews, the steps of the whole forest's trees, and a sum within document 01's range.
+pub record SearchAsked (kind : Kind) (k : ℕ) (g : Graph) (roots kept distances total until steps : List ℕ) (sum : ℕ) : Type 0 where
+  pub crews : CrewsPrepared kind k g roots kept distances total until
+  pub stepped : kind ≡ Rooted → WholeSteps g roots steps
   pub sum-most : sum ≤ mostLimit
 
--- What the best limit by the walk asks: the edges in order, by which the sum is taken.
-pub record WalkedAsked (kind : Kind) (k : ℕ) (g : Graph) (roots order kept table total until walk : List ℕ) : Type 0 where
-  pub crews : CrewsPrepared kind k g roots kept table total until
+-- What the best limit by the steps asks: the edges in order, by which the sum is taken.
+pub record SteppedAsked (kind : Kind) (k : ℕ) (g : Graph) (roots order kept distances total until steps : List ℕ) : Type 0 where
+  pub crews : CrewsPrepared kind k g roots kept distances total until
   pub in-order : order ≡ ordered g
-  pub walked : kind ≡ Rooted → WholeWalked g roots walk
+  pub stepped : kind ≡ Rooted → WholeSteps g roots steps
 
 -- What the best limit asks where no walk is written yet: for crews with roots the edges around each vertex of the whole forest.
-pub record BestAsked (kind : Kind) (k : ℕ) (g : Graph) (roots order kept bounds arcs table total until : List ℕ) : Type 0 where
-  pub crews : CrewsPrepared kind k g roots kept table total until
+pub record BestAsked (kind : Kind) (k : ℕ) (g : Graph) (roots order kept bounds arcs distances total until : List ℕ) : Type 0 where
+  pub crews : CrewsPrepared kind k g roots kept distances total until
   pub in-order : order ≡ ordered g
   pub around : kind ≡ Rooted → WholeAround g roots bounds arcs
 
--- What writing the walk asks: where crews have roots, the edges around each vertex of the whole forest; and a place for each vertex.
-pub record WalkGiven (kind : Kind) (g : Graph) (roots bounds arcs walk : List ℕ) : Type 0 where
+-- What writing the steps asks: where crews have roots, the edges around each vertex of the whole forest; and a place for each vertex.
+pub record StepsGiven (kind : Kind) (g : Graph) (roots bounds arcs steps : List ℕ) : Type 0 where
   pub given : kind ≡ Rooted → RootsGiven g roots
   pub around : kind ≡ Rooted → WholeAround g roots bounds arcs
-  pub room : length walk ≡ 256
+  pub room : length steps ≡ 256
 
--- The first r elements are the walk of the whole forest's trees, where crews have roots; what stands behind them is as it came.
-pub record WalkFor (kind : Kind) (g : Graph) (roots walk₀ walk : List ℕ) (r : ℕ) : Type 0 where
-  pub fits : r ≤ length walk
-  pub walked : kind ≡ Rooted → WholeWalked g roots (take r walk)
-  pub rest : OnlyFirst r walk₀ walk
+-- The first r elements are the steps of the whole forest's trees, where crews have roots; what stands behind them is as it came.
+pub record StepsFor (kind : Kind) (g : Graph) (roots steps₀ steps : List ℕ) (r : ℕ) : Type 0 where
+  pub fits : r ≤ length steps
+  pub stepped : kind ≡ Rooted → WholeSteps g roots (take r steps)
+  pub rest : OnlyFirst r steps₀ steps

@@ -16,16 +16,16 @@ pub(crate) fn accepts_at(
     roots: &[u16],
     limit: u64,
     kept: &[u16],
-    table: &[u32],
+    distances: &[u32],
     total: &[u64],
     until: &[u16],
-    walk: &[u64],
+    steps: &[u64],
 ) -> bool
-    requires { ⌜ DecisionAsked kind k (graphOf (now b)) (now roots) limit (now kept) (now table) (now total) (now until) (now walk) ⌝ }
+    requires { ⌜ DecisionAsked kind k (graphOf (now b)) (now roots) limit (now kept) (now distances) (now total) (now until) (now steps) ⌝ }
     ensures { λ r. ⌜ r ≡ accepts (graphOf (now (b .entry))) (crewsWith kind k (now (roots .entry))) limit ⌝ }
 {
     match kind {
-        Kind::Rooted => accepts_rooted(b, roots, limit, kept, table, walk),
+        Kind::Rooted => accepts_rooted(b, roots, limit, kept, distances, steps),
         Kind::Unrooted => accepts_unrooted(b, k, limit, kept, total, until),
     }
 }

@@ -2,12 +2,12 @@
 use crate::decide::accepts_at;
 use admit::crews::Kind;
 use cover::heaviest::edges_weight;
-use steps::put_walk;
+use steps::put_steps;
 ghost use mathlib.Core.Path.{_≡_};
 ghost use Rattle.graph.specs.Bytes.{graphOf};
 ghost use Rattle.rules.specs.Search.{bestLimit};
 ghost use Rattle.prepare.specs.Crews.{crewsWith};
-ghost use Rattle.search.specs.Searching.{searchEnd, SearchAsked, BestAsked, WalkedAsked, WalkGiven, WalkFor};
+ghost use Rattle.search.specs.Searching.{searchEnd, SearchAsked, BestAsked, SteppedAsked, StepsGiven, StepsFor};
 
 // Halves what lies between low, which was not accepted, and high, which was, until they are neighbours or the trials are used up. Says high.
 fn search(
@@ -16,14 +16,14 @@ fn search(
     b: &[u8],
     roots: &[u16],
     kept: &[u16],
-    table: &[u32],
+    distances: &[u32],
     total: &[u64],
     until: &[u16],
-    walk: &[u64],
+    steps: &[u64],
     sum: u64,
     budget: usize,
 ) -> u64
-    requires { ⌜ SearchAsked kind k (graphOf (now b)) (now roots) (now kept) (now table) (now total) (now until) (now walk) sum ⌝ }
+    requires { ⌜ SearchAsked kind k (graphOf (now b)) (now roots) (now kept) (now distances) (now total) (now until) (now steps) sum ⌝ }
     ensures { λ r. ⌜ r ≡ searchEnd (graphOf (now (b .entry))) (crewsWith kind k (now (roots .entry))) sum budget ⌝ }
 {
     let mut low = 0;
@@ -35,7 +35,7 @@ fn search(
         }
         left -= 1;
         let middle = (low + high) / 2;
-        if accepts_at(kind, k, b, roots, middle, kept, table, total, until, walk) {
+        if accepts_at(kind, k, b, roots, middle, kept, distances, total, until, steps) {
             high = middle;
             continue;
         }
@@ -44,7 +44,7 @@ fn search(
     high
 }
 
-// The best limit by the walk: 0 where that is accepted, and otherwise where the search ends. 31 trials are enough for any sum of weights.
+// The best limit by the steps: 0 where that is accepted, and otherwise where the search ends. 31 trials are enough for any sum of weights.
 fn search_limit(
     kind: Kind,
     k: usize,
@@ -52,40 +52,40 @@ fn search_limit(
     roots: &[u16],
     order: &[u16],
     kept: &[u16],
-    table: &[u32],
+    distances: &[u32],
     total: &[u64],
     until: &[u16],
-    walk: &[u64],
+    steps: &[u64],
 ) -> u64
-    requires { ⌜ WalkedAsked kind k (graphOf (now b)) (now roots) (now order) (now kept) (now table) (now total) (now until) (now walk) ⌝ }
+    requires { ⌜ SteppedAsked kind k (graphOf (now b)) (now roots) (now order) (now kept) (now distances) (now total) (now until) (now steps) ⌝ }
     ensures { λ r. ⌜ r ≡ bestLimit (graphOf (now (b .entry))) (crewsWith kind k (now (roots .entry))) ⌝ }
 {
-    if accepts_at(kind, k, b, roots, 0, kept, table, total, until, walk) {
+    if accepts_at(kind, k, b, roots, 0, kept, distances, total, until, steps) {
         return 0;
     }
     let sum = edges_weight(b, order);
-    search(kind, k, b, roots, kept, table, total, until, walk, sum, 31)
+    search(kind, k, b, roots, kept, distances, total, until, steps, sum, 31)
 }
 
-// Writes the walk of the whole forest's trees, by which crews with roots decide. Says how many steps it has.
-fn write_walk(
+// Writes the steps of the whole forest's trees, by which crews with roots decide. Says how many they are.
+fn write_steps(
     kind: Kind,
     b: &[u8],
     roots: &[u16],
     bounds: &[u16],
     arcs: &[u64],
-    walk: &mut [u64],
+    steps: &mut [u64],
 ) -> usize
-    requires { ⌜ WalkGiven kind (graphOf (now b)) (now roots) (now bounds) (now arcs) (now walk) ⌝ }
-    ensures { λ r. ⌜ WalkFor kind (graphOf (now (b .entry))) (now (roots .entry)) (now (walk .entry)) (now (walk .exit)) r ⌝ }
+    requires { ⌜ StepsGiven kind (graphOf (now b)) (now roots) (now bounds) (now arcs) (now steps) ⌝ }
+    ensures { λ r. ⌜ StepsFor kind (graphOf (now (b .entry))) (now (roots .entry)) (now (steps .entry)) (now (steps .exit)) r ⌝ }
 {
     match kind {
-        Kind::Rooted => put_walk(graph::vertex_count(b), bounds, arcs, roots, walk),
+        Kind::Rooted => put_steps(graph::vertex_count(b), bounds, arcs, roots, steps),
         Kind::Unrooted => 0,
     }
 }
 
-// The best limit. The walk of the whole forest's trees is written once, for all trials of the search.
+// The best limit. The steps of the whole forest's trees are written once, for all trials of the search.
 pub fn best_limit(
     kind: Kind,
     k: usize,
@@ -95,15 +95,15 @@ pub fn best_limit(
     kept: &[u16],
     bounds: &[u16],
     arcs: &[u64],
-    table: &[u32],
+    distances: &[u32],
     total: &[u64],
     until: &[u16],
 ) -> u64
-    requires { ⌜ BestAsked kind k (graphOf (now b)) (now roots) (now order) (now kept) (now bounds) (now arcs) (now table) (now total) (now until) ⌝ }
+    requires { ⌜ BestAsked kind k (graphOf (now b)) (now roots) (now order) (now kept) (now bounds) (now arcs) (now distances) (now total) (now until) ⌝ }
     ensures { λ r. ⌜ r ≡ bestLimit (graphOf (now (b .entry))) (crewsWith kind k (now (roots .entry))) ⌝ }
 {
-    let mut walk = [0u64; 256];
-    let steps = write_walk(kind, b, roots, bounds, arcs, &mut walk);
+    let mut steps = [0u64; 256];
+    let count = write_steps(kind, b, roots, bounds, arcs, &mut steps);
     search_limit(
         kind,
         k,
@@ -111,9 +111,9 @@ pub fn best_limit(
         roots,
         order,
         kept,
-        table,
+        distances,
         total,
         until,
-        &walk[..steps],
+        &steps[..count],
     )
 }

@@ -30,18 +30,18 @@ module _ {g : Graph} {edges roots : List ℕ} {H : ℕ} {a z : Lent} {r used : �
 
   -- The piece of a number, its edges rising, and the pieces of some numbers.
   abbrev piece : ℕ → Tree
-  piece i = risen (treeAt (z .starts) (z .cuts) (z .flat) i)
+  piece i = risen (treeAt (z .starts) (z .cuts) (z .members) i)
 
-  held : (places : List ℕ) → map risen (treesAt (z .starts) (z .cuts) (z .flat) places) ≡ map piece places
+  held : (places : List ℕ) → map risen (treesAt (z .starts) (z .cuts) (z .members) places) ≡ map piece places
   unfolding treesAt
-  held places = map-map risen (treeAt (z .starts) (z .cuts) (z .flat)) places
+  held places = map-map risen (treeAt (z .starts) (z .cuts) (z .members)) places
 
   all : map piece (from 0 r) ≡ piecesFor g H trees
   unfolding piecesOf below
   all = sym (held (below r)) ∙ x .pieces
 
   -- The parts of all trees stand at their numbers,
-  pub parts-are : map risen (treesAt (z .starts) (z .cuts) (z .flat) (partPlaces 0 pieces)) ≡ allParts pieces
+  pub parts-are : map risen (treesAt (z .starts) (z .cuts) (z .members) (partPlaces 0 pieces)) ≡ allParts pieces
   parts-are = held (partPlaces 0 pieces) ∙ parts-placed g H piece trees 0 r all
 
   -- There is a tree for each root, and a leftover for each tree.

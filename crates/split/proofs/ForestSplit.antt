@@ -34,7 +34,7 @@ use Rattle.split.proofs.RootsSplit.{ByRules, emptied, RootsSplit}
 
 -- The arrays when the first bound is stored,
 abbrev pub bounded : Lent → Lent
-bounded a = record { starts = a .starts; cuts = set (a .cuts) 0 0; flat = a .flat; lefts = a .lefts }
+bounded a = record { starts = a .starts; cuts = set (a .cuts) 0 0; members = a .members; lefts = a .lefts }
 
 -- and the state before the first root.
 abbrev pub unwalked : List ℕ → List ℕ → Lent → State
@@ -54,7 +54,7 @@ module _ {bounds arcs roots marks stack : List ℕ} {a : Lent} (c : Unwalked bou
         few = asked .around .few;
         starts-room = omega (arith, asked .starts-room);
         cuts-room = rw length-set (omega (arith, asked .cuts-room));
-        flat-room = asked .flat-room;
+        members-room = asked .members-room;
         used-few = omega arith;
         starts-inside = λ i l. absurd (omega arith);
         first = first-zero;
@@ -102,17 +102,17 @@ module _ {bounds arcs roots marks stack : List ℕ} {a : Lent} (c : Unwalked bou
       }
 
 -- Each edge in the pieces held is an edge of one of them.
-in-held : {n : ℕ} {s : Store} → Sound n s → (i : ℕ) → i < s .used → (t : Tree) × (t ∈ heldIn s) × (getD (s .flat) i 0 ∈ t .edges)
+in-held : {n : ℕ} {s : Store} → Sound n s → (i : ℕ) → i < s .used → (t : Tree) × (t ∈ heldIn s) × (getD (s .members) i 0 ∈ t .edges)
 unfolding heldIn treesAt treeAt risen
 in-held {s = s} h i l =
-    let (q, m, e) = in-some-segment (h .bounded) (h .first) i (s .flat) 0 l (omega (arith, h .used-few, h .flat-room)) in
-    (risen (treeAt (s .starts) (s .cuts) (s .flat) q), in-map risen (in-map (treeAt (s .starts) (s .cuts) (s .flat)) (in-below (s .pieces) m)), in-rise e)
+    let (q, m, e) = in-some-segment (h .bounded) (h .first) i (s .members) 0 l (omega (arith, h .used-few, h .members-room)) in
+    (risen (treeAt (s .starts) (s .cuts) (s .members) q), in-map risen (in-map (treeAt (s .starts) (s .cuts) (s .members)) (in-below (s .pieces) m)), in-rise e)
 
 module _ {n : ℕ} {bounds arcs roots : List ℕ} {H : ℕ} (a : Lent) {s : State} {lefts : List ℕ}
     (k : RootsSplit n bounds arcs roots H (bounded a) (length roots) s lefts) where
   -- the arrays at the end
   abbrev ends : Lent
-  ends = lent (s .store .starts) (s .store .cuts) (s .store .flat) lefts
+  ends = lent (s .store .starts) (s .store .cuts) (s .store .members) lefts
 
   -- the trees grown are all
   all-grown : {g : Graph} {edges : List ℕ} {held : List Tree} {places : List ℕ} (b : ByRules g edges roots H (length roots) (s .marks) held places) → b .trees ≡ grow g edges roots
@@ -126,7 +126,7 @@ module _ {n : ℕ} {bounds arcs roots : List ℕ} {H : ℕ} (a : Lent) {s : Stat
 
   -- and their edges are the forest's.
   edges-all : {g : Graph} {edges places : List ℕ} → ByRules g edges roots H (length roots) (s .marks) (k .held) places
-      → (i : ℕ) → i < s .store .used → getD (s .store .flat) i 0 ∈ edges
+      → (i : ℕ) → i < s .store .used → getD (s .store .members) i 0 ∈ edges
   edges-all {g} {edges} b i l =
       let (t, m, e) = in-held (k .room .sound) i l in
       piece-edge-known g H edges roots (rw (held-all b) at m) e
@@ -153,6 +153,6 @@ module _ {n : ℕ} {bounds arcs roots : List ℕ} {H : ℕ} (a : Lent) {s : Stat
         starts-rest = k .added .starts-rest;
         cuts-rest =
             only-first-then (only-first-store (only-first-none 1 (a .cuts)) 0 0 (omega arith)) (k .added .cuts-rest) (omega arith);
-        flat-rest = k .added .flat-rest;
+        members-rest = k .added .members-rest;
         lefts-rest = put-only-first (k .lefts-put);
       }

@@ -55,7 +55,7 @@ pub record ByRules (g : Graph) (edges roots : List ℕ) (H j : ℕ) (marks : Lis
 
 -- The arrays with no piece.
 abbrev pub emptied : Lent → Store
-emptied a = record { starts = a .starts; cuts = a .cuts; flat = a .flat; pieces = 0; used = 0 }
+emptied a = record { starts = a .starts; cuts = a .cuts; members = a .members; pieces = 0; used = 0 }
 
 -- Before a root: the first j roots' trees were grown and split, and their pieces were added to the arrays a; the stack is empty, there is
 -- room for a piece more for each root that is left, and each edge in a piece led to a vertex that has a mark now, as the first root has.

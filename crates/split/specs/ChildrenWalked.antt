@@ -22,7 +22,7 @@ pub record State : Type 0 where
 
 -- The arrays, with the numbers of the code's progress.
 abbrev pub stateOf : List ℕ → List ℕ → List ℕ → List ℕ → List ℕ → Progress → State
-stateOf marks stack starts cuts flat p = record { marks = marks; stack = stack; top = p .top; store = storeOf starts cuts flat p }
+stateOf marks stack starts cuts members p = record { marks = marks; stack = stack; top = p .top; store = storeOf starts cuts members p }
 
 -- There is a mark and a place on the stack for each of n vertices, and room: each edge in a piece or on the stack led to a vertex
 -- that has a mark now.

@@ -20,12 +20,12 @@ use Rattle.split.specs.Pieces.{piecesOf, leftPlaces}
 pub record Lent : Type 0 where
   pub starts : List ℕ
   pub cuts : List ℕ
-  pub flat : List ℕ
+  pub members : List ℕ
   pub lefts : List ℕ
 
 -- The same, array by array.
 abbrev pub lent : List ℕ → List ℕ → List ℕ → List ℕ → Lent
-lent starts cuts flat lefts = record { starts = starts; cuts = cuts; flat = flat; lefts = lefts }
+lent starts cuts members lefts = record { starts = starts; cuts = cuts; members = members; lefts = lefts }
 
 -- What is asked: the arcs are those of n vertices, the roots are vertices and not too many, and there is room for a piece and an edge
 -- for each vertex, and for a piece and its number for each root.
@@ -35,7 +35,7 @@ pub record Splittable (n : ℕ) (bounds arcs roots : List ℕ) (a : Lent) : Type
   pub roots-few : length roots ≤ 256
   pub starts-room : n + length roots ≤ length (a .starts)
   pub cuts-room : n + length roots < length (a .cuts)
-  pub flat-room : n ≤ length (a .flat)
+  pub members-room : n ≤ length (a .members)
   pub lefts-room : length roots ≤ length (a .lefts)
 
 -- The same, where there is a mark and a place on the stack for each vertex, and no mark is set.
@@ -47,9 +47,9 @@ pub record Unwalked (bounds arcs roots marks stack : List ℕ) (a : Lent) : Type
 -- What is promised where the arrays hold the edges around each vertex of a graph, over the edges of a forest:
 -- the r pieces are those that the rules make, `lefts` has the number of each root's leftover, and all edges in the pieces are the forest's.
 pub record Splits (g : Graph) (edges roots : List ℕ) (H : ℕ) (a z : Lent) (r used : ℕ) : Type 0 where
-  pub pieces : map risen (treesAt (z .starts) (z .cuts) (z .flat) (below r)) ≡ piecesOf g H edges roots
+  pub pieces : map risen (treesAt (z .starts) (z .cuts) (z .members) (below r)) ≡ piecesOf g H edges roots
   pub lefts : PutTo 0 (leftPlaces 0 (map (split g H) (grow g edges roots))) (a .lefts) (z .lefts) (length roots)
-  pub edges-of : (i : ℕ) → i < used → getD (z .flat) i 0 ∈ edges
+  pub edges-of : (i : ℕ) → i < used → getD (z .members) i 0 ∈ edges
 
 -- What is promised of the arrays at the end, z, which were a, and of the answer r, the number of pieces:
 -- `used`: how many edges are in the pieces, fewer than there are vertices;
@@ -66,7 +66,7 @@ pub record ForestSplit (n : ℕ) (bounds arcs roots : List ℕ) (H : ℕ) (a z :
   pub bounded : Bounded (z .cuts) r used
   pub starts-rest : OnlyFirst r (a .starts) (z .starts)
   pub cuts-rest : OnlyFirst (r + 1) (a .cuts) (z .cuts)
-  pub flat-rest : OnlyFirst used (a .flat) (z .flat)
+  pub members-rest : OnlyFirst used (a .members) (z .members)
   pub lefts-rest : OnlyFirst (length roots) (a .lefts) (z .lefts)
 
 -- The same, where marks and a stack are lent besides, as scratch.

@@ -21,14 +21,14 @@ fn split_roots(
     stack: &mut [u16],
     starts: &mut [u16],
     cuts: &mut [u16],
-    flat: &mut [u16],
+    members: &mut [u16],
     lefts: &mut [u16],
 ) -> usize
-    requires { ⌜ Unwalked (now bounds) (now arcs) (now roots) (now passed) (now stack) (lent (now starts) (now cuts) (now flat) (now lefts)) ⌝ }
+    requires { ⌜ Unwalked (now bounds) (now arcs) (now roots) (now passed) (now stack) (lent (now starts) (now cuts) (now members) (now lefts)) ⌝ }
     ensures { λ r. ⌜ RootsWalked (now (bounds .entry)) (now (arcs .entry)) (now (roots .entry)) h
         (now (passed .entry)) (now (passed .exit)) (now (stack .entry)) (now (stack .exit))
-        (lent (now (starts .entry)) (now (cuts .entry)) (now (flat .entry)) (now (lefts .entry)))
-        (lent (now (starts .exit)) (now (cuts .exit)) (now (flat .exit)) (now (lefts .exit))) r ⌝ }
+        (lent (now (starts .entry)) (now (cuts .entry)) (now (members .entry)) (now (lefts .entry)))
+        (lent (now (starts .exit)) (now (cuts .exit)) (now (members .exit)) (now (lefts .exit))) r ⌝ }
 {
     cuts[0] = 0;
     let mut s = Progress {
@@ -40,9 +40,9 @@ fn split_roots(
     let mut j = 0;
     while j < roots.len() {
         let root = roots[j] as usize;
-        let left = walk_node(bounds, arcs, h, root, s, passed, stack, starts, cuts, flat);
+        let left = walk_node(bounds, arcs, h, root, s, passed, stack, starts, cuts, members);
         lefts[j] = left.pieces as u16;
-        s = put_piece(root, 0, 0, left, stack, starts, cuts, flat);
+        s = put_piece(root, 0, 0, left, stack, starts, cuts, members);
         j += 1;
     }
     s.pieces
@@ -62,13 +62,13 @@ pub fn split_forest(
     h: u64,
     starts: &mut [u16],
     cuts: &mut [u16],
-    flat: &mut [u16],
+    members: &mut [u16],
     lefts: &mut [u16],
 ) -> usize
-    requires { ⌜ Splittable n (now bounds) (now arcs) (now roots) (lent (now starts) (now cuts) (now flat) (now lefts)) ⌝ }
+    requires { ⌜ Splittable n (now bounds) (now arcs) (now roots) (lent (now starts) (now cuts) (now members) (now lefts)) ⌝ }
     ensures { λ r. ⌜ ForestSplit n (now (bounds .entry)) (now (arcs .entry)) (now (roots .entry)) h
-        (lent (now (starts .entry)) (now (cuts .entry)) (now (flat .entry)) (now (lefts .entry)))
-        (lent (now (starts .exit)) (now (cuts .exit)) (now (flat .exit)) (now (lefts .exit))) r ⌝ }
+        (lent (now (starts .entry)) (now (cuts .entry)) (now (members .entry)) (now (lefts .entry)))
+        (lent (now (starts .exit)) (now (cuts .exit)) (now (members .exit)) (now (lefts .exit))) r ⌝ }
 {
     let mut passed = [0u8; 256];
     let mut stack = [0u16; 256];
@@ -81,7 +81,7 @@ pub fn split_forest(
         &mut stack[..n],
         starts,
         cuts,
-        flat,
+        members,
         lefts,
     )
 }

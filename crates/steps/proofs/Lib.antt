@@ -12,7 +12,7 @@ pub mod StepSwept
 -- one pass over the steps tells the parts below a vertex
 pub mod StepsSwept
 -- so the parts of all trees are told
-pub mod WalkSwept
+pub mod TreesSwept
 -- the vertices of the steps
 pub mod StepsInside
 -- the child-list walk that writes the steps below a vertex, under way

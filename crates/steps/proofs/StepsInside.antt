@@ -12,7 +12,7 @@ use Rattle.edges.specs.Around.{arcHead, arcWeight}
 use Rattle.split.specs.SplitBelow.{passing}
 use Rattle.steps.specs.Steps.{stepOf, stepChild, stepAbove}
 use Rattle.steps.specs.StepsBelow.{StepsBelow, steps-done, steps-past, steps-child, StepsFrom, no-roots, steps-root}
-use Rattle.steps.specs.WalkPut.{StepsInside}
+use Rattle.steps.specs.StepsPut.{StepsInside}
 use Rattle.steps.proofs.StepsMark.{steps-close}
 use Rattle.steps.proofs.StepSwept.{step-child, step-above}
 

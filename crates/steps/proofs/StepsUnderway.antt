@@ -15,41 +15,41 @@ use Rattle.edges.specs.Around.{arcEdge, arcHead, arcWeight}
 use Rattle.split.specs.SplitBelow.{unmarked, unvisited, passing}
 use Rattle.steps.specs.Steps.{stepOf}
 use Rattle.steps.specs.StepsBelow.{StepsBelow, steps-done, steps-past, steps-child}
-use Rattle.steps.specs.WalkPut.{StepsAsked, StepsPut}
+use Rattle.steps.specs.StepsPut.{StepsAsked, StepsPut}
 use Rattle.split.proofs.Unvisited.{unvisited-less}
 use Rattle.split.proofs.ChildWalked.{IsChild}
 
 -- The writing began with the marks `first` at the place `at`, and has come to the place `next`: whatever steps the arcs from i up to `to` give,
 -- they stand behind those that are written.
-pub record StepsUnderway (bounds arcs : List ℕ) (v at : ℕ) (first walk₀ : List ℕ) (i to : ℕ) (marks walk : List ℕ) (next : ℕ) : Type 0 where
+pub record StepsUnderway (bounds arcs : List ℕ) (v at : ℕ) (first array₀ : List ℕ) (i to : ℕ) (marks array : List ℕ) (next : ℕ) : Type 0 where
   pub onward : getD bounds v 0 ≤ i
   pub within : i ≤ to
   pub size : length marks ≡ length first
   pub steps : List ℕ
-  pub put : PutTo at steps walk₀ walk next
+  pub put : PutTo at steps array₀ array next
   pub fits : next + unvisited (length first) marks ≤ at + unvisited (length first) first
   pub rest : (later last : List ℕ) → StepsBelow bounds arcs v (slice i to arcs) marks later last
       → StepsBelow bounds arcs v (segment bounds arcs v) first (steps ++ later) last
 
 -- It begins with all arcs.
-pub steps-first : {bounds arcs : List ℕ} {v at : ℕ} {first walk : List ℕ} → StepsAsked bounds arcs v at first walk
-    → StepsUnderway bounds arcs v at first walk (getD bounds v 0) (getD bounds (v + 1) 0) first walk at
+pub steps-first : {bounds arcs : List ℕ} {v at : ℕ} {first array : List ℕ} → StepsAsked bounds arcs v at first array
+    → StepsUnderway bounds arcs v at first array (getD bounds v 0) (getD bounds (v + 1) 0) first array at
 unfolding segment
-steps-first {v = v} {at = at} {walk = walk} a =
+steps-first {v = v} {at = at} {array = array} a =
     record {
       onward = omega arith;
       within = a .around .rising v (a .inside);
       size = refl;
       steps = [];
-      put = put-to-none walk at (omega (arith, a .room));
+      put = put-to-none array at (omega (arith, a .room));
       fits = omega arith;
       rest = λ later last x. x;
     }
 
-module _ {bounds arcs : List ℕ} {v at : ℕ} {first walk₀ : List ℕ} {i to : ℕ} {marks walk : List ℕ} {next : ℕ}
-    (u : StepsUnderway bounds arcs v at first walk₀ i to marks walk next) where
+module _ {bounds arcs : List ℕ} {v at : ℕ} {first array₀ : List ℕ} {i to : ℕ} {marks array : List ℕ} {next : ℕ}
+    (u : StepsUnderway bounds arcs v at first array₀ i to marks array next) where
   -- Where no arc is left, all steps are written.
-  pub steps-all : to ≤ i → StepsPut bounds arcs v at first walk₀ marks walk next
+  pub steps-all : to ≤ i → StepsPut bounds arcs v at first array₀ marks array next
   steps-all h =
       let q : i ≡ to = omega (arith, u .within) in
       let whole : u .steps ++ [] ≡ u .steps = append-nil (u .steps) in
@@ -64,7 +64,7 @@ module _ {bounds arcs : List ℕ} {v at : ℕ} {first walk₀ : List ℕ} {i to 
   module _ (more : i < to) (all : to ≤ length arcs) where
     -- It goes on behind an arc whose head has a mark,
     pub steps-past-by : {head : ℕ} → head ≡ arcHead (getD arcs i 0) → unmarked marks head ≡ false
-        → StepsUnderway bounds arcs v at first walk₀ (i + 1) to marks walk next
+        → StepsUnderway bounds arcs v at first array₀ (i + 1) to marks array next
     steps-past-by {head} head-is old =
         record {
           onward = omega (arith, u .onward);
@@ -87,7 +87,7 @@ module _ {bounds arcs : List ℕ} {v at : ℕ} {first walk₀ : List ℕ} {i to 
       pub below-fewer : unvisited (length (passing head marks)) (passing head marks) < unvisited (length first) first
       below-fewer = rw same-size (omega (arith, one-fewer, u .fits, u .put .behind))
 
-      pub below-asked : StepsAsked bounds arcs v at first walk₀ → StepsAsked bounds arcs head next (passing head marks) walk
+      pub below-asked : StepsAsked bounds arcs v at first array₀ → StepsAsked bounds arcs head next (passing head marks) array
       below-asked a =
           record {
             around = rw same-size (a .around);
@@ -95,21 +95,21 @@ module _ {bounds arcs : List ℕ} {v at : ℕ} {first walk₀ : List ℕ} {i to 
             room = rw same-size (omega (arith, one-fewer, u .fits, a .room, put-length (u .put .put)));
           }
 
-      module _ (room : at + unvisited (length first) first ≤ length walk₀) {marks′ walk′ : List ℕ} {end : ℕ}
-          (below : StepsPut bounds arcs head next (passing head marks) walk marks′ walk′ end) where
+      module _ (room : at + unvisited (length first) first ≤ length array₀) {marks′ array′ : List ℕ} {end : ℕ}
+          (below : StepsPut bounds arcs head next (passing head marks) array marks′ array′ end) where
         fits-then : end + unvisited (length first) marks′ ≤ next + unvisited (length first) (passing head marks)
         fits-then = rw same-size at (below .fits)
 
         -- there is room for the child's step
-        pub step-room : end < length walk₀
+        pub step-room : end < length array₀
         step-room = omega (arith, fits-then, one-fewer, u .fits, room)
 
-        pub step-fits : end < length walk′
+        pub step-fits : end < length array′
         step-fits = omega (arith, step-room, put-length (u .put .put), put-length (below .put .put))
 
         -- which is written behind them.
         pub steps-child-by : {step : ℕ} → step ≡ stepOf head v (arcWeight (getD arcs i 0))
-            → StepsUnderway bounds arcs v at first walk₀ (i + 1) to marks′ (set walk′ end step) (end + 1)
+            → StepsUnderway bounds arcs v at first array₀ (i + 1) to marks′ (set array′ end step) (end + 1)
         steps-child-by {step} step-is =
             record {
               onward = omega (arith, u .onward);

@@ -12,35 +12,35 @@ use Rattle.lists.proofs.Put.{put-length, put-behind, put-to-none}
 use Rattle.split.specs.SplitBelow.{unvisited, passing}
 use Rattle.steps.specs.Touched.{nowhere, partsCounted}
 use Rattle.steps.specs.StepsBelow.{StepsFrom, no-roots, steps-root}
-use Rattle.steps.specs.WalkPut.{StepsAsked, StepsPut, WalkReady, WalkPut}
+use Rattle.steps.specs.StepsPut.{StepsAsked, StepsPut, AllStepsReady, AllStepsPut}
 use Rattle.split.proofs.Unvisited.{unvisited-fewer, unvisited-most}
 use Rattle.steps.proofs.StepsInside.{steps-inside}
-use Rattle.steps.proofs.WalkSwept.{walk-touched}
+use Rattle.steps.proofs.TreesSwept.{walk-touched}
 
 -- The steps of the first j roots' trees are written: whatever steps the other roots give, they stand behind them.
-pub record TreesUnderway (bounds arcs roots first walk₀ : List ℕ) (j : ℕ) (marks walk : List ℕ) (next : ℕ) : Type 0 where
+pub record TreesUnderway (bounds arcs roots first array₀ : List ℕ) (j : ℕ) (marks array : List ℕ) (next : ℕ) : Type 0 where
   pub within : j ≤ length roots
   pub size : length marks ≡ length first
   pub steps : List ℕ
-  pub put : PutTo 0 steps walk₀ walk next
+  pub put : PutTo 0 steps array₀ array next
   pub fits : next + unvisited (length first) marks ≤ length first
   pub rest : (later : List ℕ) → StepsFrom bounds arcs (drop j roots) marks later → StepsFrom bounds arcs roots first (steps ++ later)
 
-pub trees-first : (bounds arcs roots first walk : List ℕ) → TreesUnderway bounds arcs roots first walk 0 first walk 0
-trees-first bounds arcs roots first walk =
+pub trees-first : (bounds arcs roots first array : List ℕ) → TreesUnderway bounds arcs roots first array 0 first array 0
+trees-first bounds arcs roots first array =
     record {
       within = omega arith;
       size = refl;
       steps = [];
-      put = put-to-none walk 0 (omega arith);
+      put = put-to-none array 0 (omega arith);
       fits = omega (arith, unvisited-most (length first) first);
       rest = λ later x. x;
     }
 
-module _ {bounds arcs roots first walk₀ : List ℕ} {j : ℕ} {marks walk : List ℕ} {next : ℕ} (u : TreesUnderway bounds arcs roots first walk₀ j marks walk next)
-    (ready : WalkReady bounds arcs roots first walk₀) where
-  -- When all roots are done, the walk is written.
-  pub trees-done : length roots ≤ j → WalkPut (length first) bounds arcs roots walk₀ walk next
+module _ {bounds arcs roots first array₀ : List ℕ} {j : ℕ} {marks array : List ℕ} {next : ℕ} (u : TreesUnderway bounds arcs roots first array₀ j marks array next)
+    (ready : AllStepsReady bounds arcs roots first array₀) where
+  -- When all roots are done, the steps are written.
+  pub trees-done : length roots ≤ j → AllStepsPut (length first) bounds arcs roots array₀ array next
   unfolding partsCounted
   trees-done h =
       let q : j ≡ length roots = omega (arith, u .within) in
@@ -66,7 +66,7 @@ module _ {bounds arcs roots first walk₀ : List ℕ} {j : ℕ} {marks walk : Li
     same-size : length (passing root marks) ≡ length first
     same-size = length-set marks root 1 ∙ u .size
 
-    pub root-asked : StepsAsked bounds arcs root next (passing root marks) walk
+    pub root-asked : StepsAsked bounds arcs root next (passing root marks) array
     root-asked =
         record {
           around = rw same-size (ready .asked .around);
@@ -75,8 +75,8 @@ module _ {bounds arcs roots first walk₀ : List ℕ} {j : ℕ} {marks walk : Li
         }
 
     -- and stand behind the others then.
-    pub trees-more : {marks′ walk′ : List ℕ} {end : ℕ} → StepsPut bounds arcs root next (passing root marks) walk marks′ walk′ end
-        → TreesUnderway bounds arcs roots first walk₀ (j + 1) marks′ walk′ end
+    pub trees-more : {marks′ array′ : List ℕ} {end : ℕ} → StepsPut bounds arcs root next (passing root marks) array marks′ array′ end
+        → TreesUnderway bounds arcs roots first array₀ (j + 1) marks′ array′ end
     trees-more below =
         let fits-then = rw same-size at (below .fits) in
         let rest : drop j roots ≡ root ∷ drop (j + 1) roots = drop-cons roots j 0 more ∙ ap (λ k. root ∷ drop k roots) (sym (add-one j)) in

@@ -6,4 +6,4 @@ pub mod Touched
 -- growing what hangs below a vertex as steps, over arcs
 pub mod StepsBelow
 -- what writing the steps and counting the parts promise
-pub mod WalkPut
+pub mod StepsPut

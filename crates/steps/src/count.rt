@@ -4,12 +4,12 @@ use crate::step::step_child;
 use crate::step::step_weight;
 ghost use mathlib.Core.Path.{_≡_};
 ghost use Rattle.steps.specs.Touched.{partsCounted};
-ghost use Rattle.steps.specs.WalkPut.{Countable};
+ghost use Rattle.steps.specs.StepsPut.{Countable};
 
 // The number of parts that the trees are split into with threshold h. What is left at a vertex is kept by its weight alone.
-pub fn count_parts(walk: &[u64], h: u64) -> usize
-    requires { ⌜ Countable h (now walk) ⌝ }
-    ensures { λ r. ⌜ r ≡ partsCounted h (now (walk .entry)) ⌝ }
+pub fn count_parts(steps: &[u64], h: u64) -> usize
+    requires { ⌜ Countable h (now steps) ⌝ }
+    ensures { λ r. ⌜ r ≡ partsCounted h (now (steps .entry)) ⌝ }
 {
     if h == 0 {
         return 0;
@@ -17,8 +17,8 @@ pub fn count_parts(walk: &[u64], h: u64) -> usize
     let mut left = [0u64; 256];
     let mut parts = 0;
     let mut i = 0;
-    while i < walk.len() {
-        let step = walk[i];
+    while i < steps.len() {
+        let step = steps[i];
         let piece = step_weight(step) + left[step_child(step)];
         i += 1;
         if h <= piece {

@@ -5,7 +5,7 @@ use crate::step::step_of;
 use edges::arc::arc_head;
 use edges::arc::arc_weight;
 ghost use Rattle.split.specs.SplitBelow.{passing};
-ghost use Rattle.steps.specs.WalkPut.{StepsAsked, StepsPut};
+ghost use Rattle.steps.specs.StepsPut.{StepsAsked, StepsPut};
 
 // The node walk: v is passed, then the steps below it are written from the place `at` on. The answer is where they end.
 pub fn put_node(
@@ -14,14 +14,14 @@ pub fn put_node(
     v: usize,
     at: usize,
     passed: &mut [u8],
-    walk: &mut [u64],
+    steps: &mut [u64],
 ) -> usize
-    requires { ⌜ StepsAsked (now bounds) (now arcs) v at (passing v (now passed)) (now walk) ⌝ }
+    requires { ⌜ StepsAsked (now bounds) (now arcs) v at (passing v (now passed)) (now steps) ⌝ }
     ensures { λ r. ⌜ StepsPut (now (bounds .entry)) (now (arcs .entry)) v at
-        (passing v (now (passed .entry))) (now (walk .entry)) (now (passed .exit)) (now (walk .exit)) r ⌝ }
+        (passing v (now (passed .entry))) (now (steps .entry)) (now (passed .exit)) (now (steps .exit)) r ⌝ }
 {
     passed[v] = 1;
-    put_children(bounds, arcs, v, at, passed, walk)
+    put_children(bounds, arcs, v, at, passed, steps)
 }
 
 // The child-list walk: the children of v, by their arcs. At each child its own node is walked, then the child's step is written.
@@ -31,11 +31,11 @@ fn put_children(
     v: usize,
     at: usize,
     passed: &mut [u8],
-    walk: &mut [u64],
+    steps: &mut [u64],
 ) -> usize
-    requires { ⌜ StepsAsked (now bounds) (now arcs) v at (now passed) (now walk) ⌝ }
+    requires { ⌜ StepsAsked (now bounds) (now arcs) v at (now passed) (now steps) ⌝ }
     ensures { λ r. ⌜ StepsPut (now (bounds .entry)) (now (arcs .entry)) v at
-        (now (passed .entry)) (now (walk .entry)) (now (passed .exit)) (now (walk .exit)) r ⌝ }
+        (now (passed .entry)) (now (steps .entry)) (now (passed .exit)) (now (steps .exit)) r ⌝ }
 {
     let mut next = at;
     let mut i = bounds[v] as usize;
@@ -47,8 +47,8 @@ fn put_children(
         if passed[head] != 0 {
             continue;
         }
-        let end = put_node(bounds, arcs, head, next, passed, walk);
-        walk[end] = step_of(head, v, arc_weight(a));
+        let end = put_node(bounds, arcs, head, next, passed, steps);
+        steps[end] = step_of(head, v, arc_weight(a));
         next = end + 1;
     }
     next

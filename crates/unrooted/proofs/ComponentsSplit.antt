@@ -31,7 +31,7 @@ module _ {g : Graph} {edges : List ℕ} {limit : ℕ} (f : ForestGiven g edges l
   pub forest-edges-inside : (e : ℕ) → e ∈ edges → e < edgeCount g
   forest-edges-inside e m = forest-light g apart limit e (rw (f .are) at m) .0
 
-module _ {g : Graph} {edges : List ℕ} {limit : ℕ} {starts cuts flat lefts roots₀ roots bounds₀ bounds arcs₀ arcs : List ℕ} {k n : ℕ} (a : SplitAsked g edges limit starts cuts flat lefts)
+module _ {g : Graph} {edges : List ℕ} {limit : ℕ} {starts cuts members lefts roots₀ roots bounds₀ bounds arcs₀ arcs : List ℕ} {k n : ℕ} (a : SplitAsked g edges limit starts cuts members lefts)
     (w : RootsWritten g edges roots₀ roots k) (p : AroundPut g (rise edges) bounds₀ bounds arcs₀ arcs) (q : n ≡ g .vertices) where
   abbrev lows : List ℕ
   lows = lowest g (labelsAt g apart limit)
@@ -46,7 +46,7 @@ module _ {g : Graph} {edges : List ℕ} {limit : ℕ} {starts cuts flat lefts ro
   small = omega (arith, q, a .forest-given .valid .vertices-most)
 
   -- What the splitting asks,
-  pub splittable : Splittable n bounds arcs (take k roots) (lent starts cuts flat lefts)
+  pub splittable : Splittable n bounds arcs (take k roots) (lent starts cuts members lefts)
   splittable =
       let count : length (take k roots) ≡ k = ap length roots-are ∙ sym roots-count in
       record {
@@ -57,20 +57,20 @@ module _ {g : Graph} {edges : List ℕ} {limit : ℕ} {starts cuts flat lefts ro
         roots-few = omega (arith, count, w .few, q, small);
         starts-room = omega (arith, count, w .few, q, small, a .starts-room);
         cuts-room = omega (arith, count, w .few, q, small, a .cuts-room);
-        flat-room = omega (arith, small, a .flat-room);
+        members-room = omega (arith, small, a .members-room);
         lefts-room = omega (arith, count, w .few, q, small, a .lefts-room);
       }
 
   -- and what it gives.
   module _ {starts′ cuts′ flat′ lefts′ : List ℕ} {r : ℕ}
-      (f : ForestSplit n bounds arcs (take k roots) (2 * limit) (lent starts cuts flat lefts) (lent starts′ cuts′ flat′ lefts′) r) where
-    splits : Splits g (rise (forest g apart limit)) lows (2 * limit) (lent starts cuts flat lefts) (lent starts′ cuts′ flat′ lefts′) r (f .used)
+      (f : ForestSplit n bounds arcs (take k roots) (2 * limit) (lent starts cuts members lefts) (lent starts′ cuts′ flat′ lefts′) r) where
+    splits : Splits g (rise (forest g apart limit)) lows (2 * limit) (lent starts cuts members lefts) (lent starts′ cuts′ flat′ lefts′) r (f .used)
     splits = rw (a .forest-given .are, roots-are) at (f .of-graph g (rise edges) (p .around) (sym q))
 
     few : r ≤ 511
     few = omega (arith, f .few, f .used-few, ap length roots-are, roots-count, w .few, q, small)
 
-    pub components-split : ComponentsSplit g limit starts starts′ cuts cuts′ flat flat′ lefts lefts′ (record { pieces = r; roots = k })
+    pub components-split : ComponentsSplit g limit starts starts′ cuts cuts′ members flat′ lefts lefts′ (record { pieces = r; roots = k })
     unfolding components
     components-split =
         let count : length (take k roots) ≡ k = ap length roots-are ∙ sym roots-count in
@@ -87,7 +87,7 @@ module _ {g : Graph} {edges : List ℕ} {limit : ℕ} {starts cuts flat lefts ro
                           λ i h.
                           record {
                             forward = f .bounded .rising i h;
-                            inside = omega (arith, f .bounded .within (i + 1) (omega arith), f .used-few, small, only-first-length (f .flat-rest), a .flat-room);
+                            inside = omega (arith, f .bounded .within (i + 1) (omega arith), f .used-few, small, only-first-length (f .members-rest), a .members-room);
                           };
                     };
                 starts-room = omega (arith, few, only-first-length (f .starts-rest), a .starts-room);
@@ -95,6 +95,6 @@ module _ {g : Graph} {edges : List ℕ} {limit : ℕ} {starts cuts flat lefts ro
           few = omega (arith, few);
           starts-rest = f .starts-rest;
           cuts-rest = f .cuts-rest;
-          flat-rest = only-first-of-more (f .flat-rest) (g .vertices) (omega (arith, f .used-few, q));
+          members-rest = only-first-of-more (f .members-rest) (g .vertices) (omega (arith, f .used-few, q));
           lefts-rest = rw count at (f .lefts-rest);
         }

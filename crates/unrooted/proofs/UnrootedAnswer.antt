@@ -19,7 +19,7 @@ use Rattle.unrooted_pieces.specs.TreePlaces.{treePlaces}
 use Rattle.unrooted.specs.Unrooted.{TreesOrdered}
 
 -- The same pieces, in arrays that are as long.
-pub given-on : {starts other cuts flat flat′ : List ℕ} {k : ℕ} → PiecesGiven starts cuts flat k → length flat′ ≡ length flat → k ≤ length other → PiecesGiven other cuts flat′ k
+pub given-on : {starts other cuts members flat′ : List ℕ} {k : ℕ} → PiecesGiven starts cuts members k → length flat′ ≡ length members → k ≤ length other → PiecesGiven other cuts flat′ k
 given-on g q h =
     record {
       pieces =
@@ -31,10 +31,10 @@ given-on g q h =
     }
 
 -- The steps that put the trees in order.
-pub trees-ordered : {g : Graph} {pieces : ℕ} {lefts starts₀ starts₁ cuts flat₀ flat₁ keys came mid last : List ℕ} {t : ℕ}
-    → SegmentsRisen cuts pieces flat₀ flat₁ → LowestSet g cuts flat₁ pieces starts₀ starts₁ → Keyed starts₁ cuts flat₁ pieces keys
+pub trees-ordered : {g : Graph} {pieces : ℕ} {lefts starts₀ starts₁ cuts members₀ flat₁ keys came mid last : List ℕ} {t : ℕ}
+    → SegmentsRisen cuts pieces members₀ flat₁ → LowestSet g cuts flat₁ pieces starts₀ starts₁ → Keyed starts₁ cuts flat₁ pieces keys
     → PutTo 0 (treePlaces cuts 0 lefts) came mid t → last ≡ sortBy (byKey keys) (take t mid)
-    → TreesOrdered g pieces lefts starts₀ starts₁ cuts flat₀ flat₁ came (last ++ drop t mid) t
+    → TreesOrdered g pieces lefts starts₀ starts₁ cuts members₀ flat₁ came (last ++ drop t mid) t
 trees-ordered {lefts = lefts} {cuts = cuts} {keys = keys} {mid = mid} {last = last} {t = t} risen low keyed put sorted =
     let places : List ℕ = treePlaces cuts 0 lefts in
     let is : last ≡ sortBy (byKey keys) places = sorted ∙ ap (sortBy (byKey keys)) (put-taken put) in

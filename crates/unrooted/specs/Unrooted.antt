@@ -25,36 +25,36 @@ use Rattle.unrooted.specs.declared.unrooted.Split.{Split}
 use Rattle.unrooted.specs.declared.unrooted.Written.{Written}
 
 -- The forest at the limit, and room for the pieces of any.
-pub record SplitAsked (g : Graph) (edges : List ℕ) (limit : ℕ) (starts cuts flat lefts : List ℕ) : Type 0 where
+pub record SplitAsked (g : Graph) (edges : List ℕ) (limit : ℕ) (starts cuts members lefts : List ℕ) : Type 0 where
   pub forest-given : ForestGiven g edges limit
   pub limit-most : limit ≤ mostLimit
   pub starts-room : 512 ≤ length starts
   pub cuts-room : 512 < length cuts
-  pub flat-room : 256 ≤ length flat
+  pub members-room : 256 ≤ length members
   pub lefts-room : 256 ≤ length lefts
 
 -- The arrays hold the pieces of the components' trees, and the number of each component's leftover. What stands behind them is as it came.
-pub record ComponentsSplit (g : Graph) (limit : ℕ) (starts₀ starts cuts₀ cuts flat₀ flat lefts₀ lefts : List ℕ) (r : Split) : Type 0 where
-  pub pieces-are : map risen (treesAt starts cuts flat (below (r .pieces))) ≡ piecesOf g (2 * limit) (rise (forest g apart limit)) (lowest g (labelsAt g apart limit))
+pub record ComponentsSplit (g : Graph) (limit : ℕ) (starts₀ starts cuts₀ cuts members₀ members lefts₀ lefts : List ℕ) (r : Split) : Type 0 where
+  pub pieces-are : map risen (treesAt starts cuts members (below (r .pieces))) ≡ piecesOf g (2 * limit) (rise (forest g apart limit)) (lowest g (labelsAt g apart limit))
   pub lefts-are : take (r .roots) lefts ≡ leftPlaces 0 (map (rules.split g (2 * limit)) (components g limit))
   pub roots-room : r .roots ≤ length lefts
-  pub given : PiecesGiven starts cuts flat (r .pieces)
+  pub given : PiecesGiven starts cuts members (r .pieces)
   pub few : r .pieces ≤ 512
   pub starts-rest : OnlyFirst (r .pieces) starts₀ starts
   pub cuts-rest : OnlyFirst (r .pieces + 1) cuts₀ cuts
-  pub flat-rest : OnlyFirst (g .vertices) flat₀ flat
+  pub members-rest : OnlyFirst (g .vertices) members₀ members
   pub lefts-rest : OnlyFirst (r .roots) lefts₀ lefts
 
 -- Pieces, and room for the numbers of those that are trees.
-pub record OrderAsked (pieces : ℕ) (lefts starts cuts flat chosen : List ℕ) : Type 0 where
-  pub given : PiecesGiven starts cuts flat pieces
+pub record OrderAsked (pieces : ℕ) (lefts starts cuts members chosen : List ℕ) : Type 0 where
+  pub given : PiecesGiven starts cuts members pieces
   pub few : pieces ≤ 512
   pub places : PlacesAsked lefts cuts chosen
 
 -- The edges of each piece rise, each starts at its lowest vertex, and the first t chosen are the pieces that are trees, by their keys.
 -- What stands behind these is as it came.
-pub record TreesOrdered (g : Graph) (pieces : ℕ) (lefts starts₀ starts₁ cuts flat₀ flat₁ chosen₀ chosen : List ℕ) (t : ℕ) : Type 0 where
-  pub rising : SegmentsRisen cuts pieces flat₀ flat₁
+pub record TreesOrdered (g : Graph) (pieces : ℕ) (lefts starts₀ starts₁ cuts members₀ flat₁ chosen₀ chosen : List ℕ) (t : ℕ) : Type 0 where
+  pub rising : SegmentsRisen cuts pieces members₀ flat₁
   pub from-lowest : LowestSet g cuts flat₁ pieces starts₀ starts₁
   pub keys : List ℕ
   pub keyed : Keyed starts₁ cuts flat₁ pieces keys

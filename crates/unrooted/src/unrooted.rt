@@ -32,12 +32,12 @@ fn split_components(
     limit: u64,
     starts: &mut [u16],
     cuts: &mut [u16],
-    flat: &mut [u16],
+    members: &mut [u16],
     lefts: &mut [u16],
 ) -> Split
-    requires { ⌜ SplitAsked (graphOf (now b)) (now edges) limit (now starts) (now cuts) (now flat) (now lefts) ⌝ }
+    requires { ⌜ SplitAsked (graphOf (now b)) (now edges) limit (now starts) (now cuts) (now members) (now lefts) ⌝ }
     ensures { λ r. ⌜ ComponentsSplit (graphOf (now (b .entry))) limit (now (starts .entry)) (now (starts .exit)) (now (cuts .entry)) (now (cuts .exit))
-        (now (flat .entry)) (now (flat .exit)) (now (lefts .entry)) (now (lefts .exit)) r ⌝ }
+        (now (members .entry)) (now (members .exit)) (now (lefts .entry)) (now (lefts .exit)) r ⌝ }
 {
     let mut roots = [0u16; 256];
     let mut bounds = [0u16; 257];
@@ -53,7 +53,7 @@ fn split_components(
         2 * limit,
         starts,
         cuts,
-        flat,
+        members,
         lefts,
     );
     Split { pieces, roots: k }
@@ -66,18 +66,18 @@ fn order_trees(
     lefts: &[u16],
     starts: &mut [u16],
     cuts: &[u16],
-    flat: &mut [u16],
+    members: &mut [u16],
     chosen: &mut [u16],
 ) -> usize
-    requires { ⌜ OrderAsked pieces (now lefts) (now starts) (now cuts) (now flat) (now chosen) ⌝ }
+    requires { ⌜ OrderAsked pieces (now lefts) (now starts) (now cuts) (now members) (now chosen) ⌝ }
     ensures { λ r. ⌜ TreesOrdered (graphOf (now (b .entry))) pieces (now (lefts .entry)) (now (starts .entry)) (now (starts .exit)) (now (cuts .entry))
-        (now (flat .entry)) (now (flat .exit)) (now (chosen .entry)) (now (chosen .exit)) r ⌝ }
+        (now (members .entry)) (now (members .exit)) (now (chosen .entry)) (now (chosen .exit)) r ⌝ }
 {
     let mut keys = [0u32; 512];
     let t = tree_places(lefts, cuts, chosen);
-    rise_segments(cuts, pieces, flat);
-    set_lowest(b, starts, cuts, flat, pieces);
-    write_keys(starts, cuts, flat, pieces, &mut keys);
+    rise_segments(cuts, pieces, members);
+    set_lowest(b, starts, cuts, members, pieces);
+    write_keys(starts, cuts, members, pieces, &mut keys);
     sort_chosen(&keys, &mut chosen[..t]);
     t
 }
@@ -90,7 +90,7 @@ pub(crate) fn unrooted_trees(b: &[u8], edges: &[u16], limit: u64, buf: &mut [u8]
 {
     let mut starts = [0u16; 512];
     let mut cuts = [0u16; 513];
-    let mut flat = [0u16; 256];
+    let mut members = [0u16; 256];
     let mut lefts = [0u16; 256];
     let mut chosen = [0u16; 32];
     let s = split_components(
@@ -99,7 +99,7 @@ pub(crate) fn unrooted_trees(b: &[u8], edges: &[u16], limit: u64, buf: &mut [u8]
         limit,
         &mut starts,
         &mut cuts,
-        &mut flat,
+        &mut members,
         &mut lefts,
     );
     let left = &lefts[..s.roots];
@@ -109,10 +109,10 @@ pub(crate) fn unrooted_trees(b: &[u8], edges: &[u16], limit: u64, buf: &mut [u8]
         left,
         &mut starts,
         &cuts,
-        &mut flat,
+        &mut members,
         &mut chosen,
     );
-    let heaviest = heaviest_chosen(b, &cuts, &flat, &chosen[..t]);
-    write_cover(buf, &starts, &cuts, &flat, &chosen[..t]);
+    let heaviest = heaviest_chosen(b, &cuts, &members, &chosen[..t]);
+    write_cover(buf, &starts, &cuts, &members, &chosen[..t]);
     Written { heaviest, trees: t }
 }

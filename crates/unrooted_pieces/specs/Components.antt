@@ -29,23 +29,23 @@ pub record LowestFound (g : Graph) (start : ℕ) (edges : List ℕ) (r : ℕ) : 
   pub low : r ≤ start
 
 -- The bounds of piece i are there, and its edges lie between them.
-pub record PieceHeld (cuts flat : List ℕ) (i : ℕ) : Type 0 where
+pub record PieceHeld (cuts members : List ℕ) (i : ℕ) : Type 0 where
   pub cut : i + 1 < length cuts
-  pub held : IsHeld cuts flat i
+  pub held : IsHeld cuts members i
 
 -- So are those of the first k pieces,
-pub record PiecesHeld (cuts flat : List ℕ) (k : ℕ) : Type 0 where
+pub record PiecesHeld (cuts members : List ℕ) (k : ℕ) : Type 0 where
   pub cut : k < length cuts
-  pub held : (i : ℕ) → i < k → IsHeld cuts flat i
+  pub held : (i : ℕ) → i < k → IsHeld cuts members i
 
 -- and their starts,
-pub record PiecesGiven (starts cuts flat : List ℕ) (k : ℕ) : Type 0 where
-  pub pieces : PiecesHeld cuts flat k
+pub record PiecesGiven (starts cuts members : List ℕ) (k : ℕ) : Type 0 where
+  pub pieces : PiecesHeld cuts members k
   pub starts-room : k ≤ length starts
 
 -- and there is room for their keys.
-pub record KeysAsked (starts cuts flat : List ℕ) (k : ℕ) (keys : List ℕ) : Type 0 where
-  pub given : PiecesGiven starts cuts flat k
+pub record KeysAsked (starts cuts members : List ℕ) (k : ℕ) (keys : List ℕ) : Type 0 where
+  pub given : PiecesGiven starts cuts members k
   pub room : k ≤ length keys
 
 -- The edges of piece i rise now, and everything else is as it came.
@@ -59,16 +59,16 @@ pub record SegmentsRisen (cuts : List ℕ) (k : ℕ) (before after : List ℕ) :
   pub rest : OnlyFirst (getD cuts k 0) before after
 
 -- Each of the first k pieces starts at its lowest vertex now; the other starts are as they came.
-pub record LowestSet (g : Graph) (cuts flat : List ℕ) (k : ℕ) (before after : List ℕ) : Type 0 where
+pub record LowestSet (g : Graph) (cuts members : List ℕ) (k : ℕ) (before after : List ℕ) : Type 0 where
   pub size : length after ≡ length before
-  pub each : (i : ℕ) → i < k → getD after i 0 ≡ lowestOf g (treeAt before cuts flat i)
+  pub each : (i : ℕ) → i < k → getD after i 0 ≡ lowestOf g (treeAt before cuts members i)
   pub rest : OnlyFirst k before after
 
 -- The keys are those of the first k pieces.
-pub record Keyed (starts cuts flat : List ℕ) (k : ℕ) (keys : List ℕ) : Type 0 where
-  pub each : (i : ℕ) → i < k → getD keys i 0 ≡ keyOf (treeAt starts cuts flat i)
+pub record Keyed (starts cuts members : List ℕ) (k : ℕ) (keys : List ℕ) : Type 0 where
+  pub each : (i : ℕ) → i < k → getD keys i 0 ≡ keyOf (treeAt starts cuts members i)
 
 -- They were written, and nothing behind them.
-pub record KeysWritten (starts cuts flat : List ℕ) (k : ℕ) (before after : List ℕ) : Type 0 where
-  pub keyed : Keyed starts cuts flat k after
+pub record KeysWritten (starts cuts members : List ℕ) (k : ℕ) (before after : List ℕ) : Type 0 where
+  pub keyed : Keyed starts cuts members k after
   pub rest : OnlyFirst k before after

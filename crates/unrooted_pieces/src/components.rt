@@ -37,64 +37,64 @@ fn lowest_vertex(b: &[u8], start: usize, edges: &[u16]) -> usize
 }
 
 // The edges of a piece, rising.
-fn rise_segment(cuts: &[u16], i: usize, flat: &mut [u16])
-    requires { ⌜ PieceHeld (now cuts) (now flat) i ⌝ }
-    ensures { λ _. ⌜ SegmentRisen (now (cuts .entry)) i (now (flat .entry)) (now (flat .exit)) ⌝ }
+fn rise_segment(cuts: &[u16], i: usize, members: &mut [u16])
+    requires { ⌜ PieceHeld (now cuts) (now members) i ⌝ }
+    ensures { λ _. ⌜ SegmentRisen (now (cuts .entry)) i (now (members .entry)) (now (members .exit)) ⌝ }
 {
     let from = wide(cuts[i]);
     let to = wide(cuts[i + 1]);
-    rise_edges(&mut flat[from..to]);
+    rise_edges(&mut members[from..to]);
 }
 
 // The edges of each of the first k pieces, rising.
-pub fn rise_segments(cuts: &[u16], k: usize, flat: &mut [u16])
-    requires { ⌜ PiecesHeld (now cuts) (now flat) k ⌝ }
-    ensures { λ _. ⌜ SegmentsRisen (now (cuts .entry)) k (now (flat .entry)) (now (flat .exit)) ⌝ }
+pub fn rise_segments(cuts: &[u16], k: usize, members: &mut [u16])
+    requires { ⌜ PiecesHeld (now cuts) (now members) k ⌝ }
+    ensures { λ _. ⌜ SegmentsRisen (now (cuts .entry)) k (now (members .entry)) (now (members .exit)) ⌝ }
 {
     let mut i = 0;
     while i < k {
-        rise_segment(cuts, i, flat);
+        rise_segment(cuts, i, members);
         i += 1;
     }
 }
 
 // The lowest vertex of a piece that has the given start.
-fn piece_lowest(b: &[u8], start: u16, cuts: &[u16], flat: &[u16], i: usize) -> u16
-    requires { ⌜ PieceHeld (now cuts) (now flat) i ⌝ }
-    ensures { λ r. ⌜ LowestFound (graphOf (now (b .entry))) start (segment (now (cuts .entry)) (now (flat .entry)) i) r ⌝ }
+fn piece_lowest(b: &[u8], start: u16, cuts: &[u16], members: &[u16], i: usize) -> u16
+    requires { ⌜ PieceHeld (now cuts) (now members) i ⌝ }
+    ensures { λ r. ⌜ LowestFound (graphOf (now (b .entry))) start (segment (now (cuts .entry)) (now (members .entry)) i) r ⌝ }
 {
-    lowest_vertex(b, wide(start), edges_at(cuts, flat, i)) as u16
+    lowest_vertex(b, wide(start), edges_at(cuts, members, i)) as u16
 }
 
 // Each of the first k pieces starts at its lowest vertex now.
-pub fn set_lowest(b: &[u8], starts: &mut [u16], cuts: &[u16], flat: &[u16], k: usize)
-    requires { ⌜ PiecesGiven (now starts) (now cuts) (now flat) k ⌝ }
-    ensures { λ _. ⌜ LowestSet (graphOf (now (b .entry))) (now (cuts .entry)) (now (flat .entry)) k (now (starts .entry)) (now (starts .exit)) ⌝ }
+pub fn set_lowest(b: &[u8], starts: &mut [u16], cuts: &[u16], members: &[u16], k: usize)
+    requires { ⌜ PiecesGiven (now starts) (now cuts) (now members) k ⌝ }
+    ensures { λ _. ⌜ LowestSet (graphOf (now (b .entry))) (now (cuts .entry)) (now (members .entry)) k (now (starts .entry)) (now (starts .exit)) ⌝ }
 {
     let mut i = 0;
     while i < k {
-        starts[i] = piece_lowest(b, starts[i], cuts, flat, i);
+        starts[i] = piece_lowest(b, starts[i], cuts, members, i);
         i += 1;
     }
 }
 
 // A piece's key: its start, then its smallest edge, which is its first; 0 stands for it where there is none.
-fn piece_key(start: u16, cuts: &[u16], flat: &[u16], i: usize) -> u32
-    requires { ⌜ PieceHeld (now cuts) (now flat) i ⌝ }
-    ensures { λ r. ⌜ r ≡ keyOf (treeOf start (segment (now (cuts .entry)) (now (flat .entry)) i)) ⌝ }
+fn piece_key(start: u16, cuts: &[u16], members: &[u16], i: usize) -> u32
+    requires { ⌜ PieceHeld (now cuts) (now members) i ⌝ }
+    ensures { λ r. ⌜ r ≡ keyOf (treeOf start (segment (now (cuts .entry)) (now (members .entry)) i)) ⌝ }
 {
     let by_start = wide(start) * 65536;
-    (by_start + number_at(edges_at(cuts, flat, i), 0)) as u32
+    (by_start + number_at(edges_at(cuts, members, i), 0)) as u32
 }
 
 // The keys of the first k pieces.
-pub fn write_keys(starts: &[u16], cuts: &[u16], flat: &[u16], k: usize, keys: &mut [u32])
-    requires { ⌜ KeysAsked (now starts) (now cuts) (now flat) k (now keys) ⌝ }
-    ensures { λ _. ⌜ KeysWritten (now (starts .entry)) (now (cuts .entry)) (now (flat .entry)) k (now (keys .entry)) (now (keys .exit)) ⌝ }
+pub fn write_keys(starts: &[u16], cuts: &[u16], members: &[u16], k: usize, keys: &mut [u32])
+    requires { ⌜ KeysAsked (now starts) (now cuts) (now members) k (now keys) ⌝ }
+    ensures { λ _. ⌜ KeysWritten (now (starts .entry)) (now (cuts .entry)) (now (members .entry)) k (now (keys .entry)) (now (keys .exit)) ⌝ }
 {
     let mut i = 0;
     while i < k {
-        keys[i] = piece_key(starts[i], cuts, flat, i);
+        keys[i] = piece_key(starts[i], cuts, members, i);
         i += 1;
     }
 }

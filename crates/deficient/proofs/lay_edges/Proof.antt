@@ -23,19 +23,19 @@ use Rattle.deficient.proofs.lay_edges.Statement.{statement}
 use Rattle.deficient.proofs.lay_edges.Tie as tie
 
 abbrev Inv-loop : tie.InvT-loop
-Inv-loop cuts flat chosen bounds₀ edges₀ at₀ i₀ bounds edges at i =
+Inv-loop cuts members chosen bounds₀ edges₀ at₀ i₀ bounds edges at i =
     record {
       within : i ≤ length chosen;
-      left : at + edgesOf cuts flat (drop i chosen) ≡ edgesOf cuts flat chosen;
-      laid : Laid (λ h. rise (segment cuts flat (getD chosen h 0))) i at bounds edges;
+      left : at + edgesOf cuts members (drop i chosen) ≡ edgesOf cuts members chosen;
+      laid : Laid (λ h. rise (segment cuts members (getD chosen h 0))) i at bounds edges;
       bounds-size : length bounds ≡ length bounds₀;
       edges-size : length edges ≡ length edges₀;
       bounds-rest : OnlyFirst (length chosen + 1) bounds₀ bounds;
-      edges-rest : OnlyFirst (edgesOf cuts flat chosen) edges₀ edges;
+      edges-rest : OnlyFirst (edgesOf cuts members chosen) edges₀ edges;
     }
 
 abbrev μ-loop : tie.MeasureT-loop
-μ-loop cuts flat chosen bounds₀ edges₀ at₀ i₀ bounds edges at i = length chosen - i
+μ-loop cuts members chosen bounds₀ edges₀ at₀ i₀ bounds edges at i = length chosen - i
 
 -- What came, from the head of the loop.
 abbrev came : tie.At-loop Inv-loop μ-loop → tie.Start Inv-loop μ-loop
@@ -47,11 +47,11 @@ module _ (t : tie.In-loop Inv-loop μ-loop) where
   s = came (t .before)
 
   abbrev here : List ℕ
-  here = segment (s .args .cuts .now) (s .args .flat .now) (getD (s .args .chosen .now) (t .before .loop .i) 0)
+  here = segment (s .args .cuts .now) (s .args .members .now) (getD (s .args .chosen .now) (t .before .loop .i) 0)
 
-  next : edgesOf (s .args .cuts .now) (s .args .flat .now) (drop (t .before .loop .i) (s .args .chosen .now))
-      ≡ length here + edgesOf (s .args .cuts .now) (s .args .flat .now) (drop (t .before .loop .i + 1) (s .args .chosen .now))
-  next = sum-next (λ c. length (segment (s .args .cuts .now) (s .args .flat .now) c)) (s .args .chosen .now) (t .before .loop .i) (t .loop-test .taken)
+  next : edgesOf (s .args .cuts .now) (s .args .members .now) (drop (t .before .loop .i) (s .args .chosen .now))
+      ≡ length here + edgesOf (s .args .cuts .now) (s .args .members .now) (drop (t .before .loop .i + 1) (s .args .chosen .now))
+  next = sum-next (λ c. length (segment (s .args .cuts .now) (s .args .members .now) c)) (s .args .chosen .now) (t .before .loop .i) (t .loop-test .taken)
 
 -- Where its edges are known.
 module _ (p : tie.After-put-risen-arg Inv-loop μ-loop) where
@@ -141,7 +141,7 @@ loop-again c =
       bounds-rest = only-first-store (v .bounds-rest) (l .loop .i + 1) _ (omega (arith, t .loop-test .taken));
       edges-rest =
           only-first-on (v .edges-rest)
-          (only-first-put (p .put-risen .ensures .put) (edgesOf (s t .args .cuts .now) (s t .args .flat .now) (s t .args .chosen .now))
+          (only-first-put (p .put-risen .ensures .put) (edgesOf (s t .args .cuts .now) (s t .args .members .now) (s t .args .chosen .now))
           (omega (arith, p .put-risen .ensures .behind, long p, next t, v .left)));
     }
 

@@ -35,9 +35,9 @@ module _ (m : tie.After-marked-places) where
   taken-are : take (m .marked-places .result) (m .marked-places .last .1 .1 .0) ≡ placesMarked places marks
   taken-are = put-taken (m .marked-places .ensures .places-are)
 
-  given : ChosenGiven (start .args .cuts .now) (start .args .flat .now) (placesMarked places marks) (length (start .args .buf .now))
+  given : ChosenGiven (start .args .cuts .now) (start .args .members .now) (placesMarked places marks) (length (start .args .buf .now))
   given =
-      marked-given (start .args .starts .now) (start .args .cuts .now) (start .args .flat .now) places marks (start .pre .held) (omega (arith, size, start .pre .few))
+      marked-given (start .args .starts .now) (start .args .cuts .now) (start .args .members .now) places marks (start .pre .held) (omega (arith, size, start .pre .few))
       (start .pre .light) (start .pre .most)
 
 slice-aggregate-marked-places : tie.Need-slice-aggregate-marked-places
@@ -77,7 +77,7 @@ returns c =
     let s = start m in
     record {
       bytes = w .write-parts .result;
-      written = rw (marked-in-order (s .args .starts .now) (s .args .cuts .now) (s .args .flat .now) (places m) (marks m)) at (rw (taken-are m) at (w .write-parts .ensures));
+      written = rw (marked-in-order (s .args .starts .now) (s .args .cuts .now) (s .args .members .now) (places m) (marks m)) at (rw (taken-are m) at (w .write-parts .ensures));
       parts-are = rw (size m) at (m .marked-places .ensures .count);
       roots-are = c .count-allowed .ensures;
     }

@@ -87,12 +87,12 @@ module _ (o : tie.After-sort-chosen) where
 
   writable : Writable laidStarts bounds edges order (length (s .args .buf .now))
   writable =
-      laid-writable (s .args .starts .now) (s .args .cuts .now) (s .args .flat .now) (chosen u) (laid u .before .before .before .before .take-starts .ensures)
+      laid-writable (s .args .starts .now) (s .args .cuts .now) (s .args .members .now) (chosen u) (laid u .before .before .before .before .take-starts .ensures)
       (laid u .lay-edges .ensures .laid) (keyed u .take-keys .ensures .keyed) (s .pre .few) (omega (arith, laid u .lay-edges .kept .1 .1 .1 .1 .0)) (s .pre .most)
 
-  in-order : treesAt laidStarts bounds edges order ≡ bySmallest (map risen (treesAt (s .args .starts .now) (s .args .cuts .now) (s .args .flat .now) (chosen u)))
+  in-order : treesAt laidStarts bounds edges order ≡ bySmallest (map risen (treesAt (s .args .starts .now) (s .args .cuts .now) (s .args .members .now) (chosen u)))
   in-order =
-      laid-in-order (s .args .starts .now) (s .args .cuts .now) (s .args .flat .now) (chosen u) (laid u .before .before .before .before .take-starts .ensures)
+      laid-in-order (s .args .starts .now) (s .args .cuts .now) (s .args .members .now) (chosen u) (laid u .before .before .before .before .take-starts .ensures)
       (laid u .lay-edges .ensures .laid) (keyed u .take-keys .ensures .keyed)
 
 slice-aggregate-take-starts : tie.Need-slice-aggregate-take-starts

@@ -76,7 +76,7 @@ fill-table-requires c κs =
     record {
       sound = rw n (p v .put-around .ensures .around .sound);
       roots-inside = λ j h. rw n (asked .given .inside j h);
-      table-room = rw n (asked .table-room);
+      distances-room = rw n (asked .distances-room);
       lasts-room = rw n (asked .lasts-room);
     }
 
@@ -105,7 +105,7 @@ returns c =
       numbers-rest = numbers-only (u v);
       bounds-rest = p v .put-around .ensures .bounds-only;
       all-rest = rw (size (u v)) at (p v .put-around .ensures .arcs-only);
-      table-rest = rw n at (t .fill-table .ensures .table-rest);
+      distances-rest = rw n at (t .fill-table .ensures .distances-rest);
       lasts-rest = rw n at (t .fill-table .ensures .lasts-rest);
     }
 

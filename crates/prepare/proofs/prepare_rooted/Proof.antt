@@ -119,7 +119,7 @@ returns c =
       forest-room = kept .forest-room;
       prepared =
           record {
-            decidable = record { given = s k .pre .given; forest = kept .forest; distances = tabled .distances };
+            decidable = record { given = s k .pre .given; forest = kept .forest; distances-are = tabled .distances-are };
             around = rw (kept .forest) at (around .around);
             in-order = kept .in-order;
             last-edges = tabled .last-edges;
@@ -131,7 +131,7 @@ returns c =
       arcs-rest =
           only-first-on (only-first-of-more (kept .spare-rest) twice (omega arith))
           (only-first-of-more (around .arcs-only) twice (omega (arith, rise-length (take (k .keep-forest .result .forest) (k .keep-forest .last .1 .1 .1 .1 .1 .0)), size k, few-kept k)));
-      table-rest = distances .table-rest;
+      distances-rest = distances .distances-rest;
       lasts-rest = distances .lasts-rest;
     }
 

@@ -16,7 +16,7 @@ use Rattle.rooted_answer.proofs.answer_parts.Statement.{statement}
 use Rattle.rooted_answer.proofs.answer_parts.Tie as tie
 
 -- Where the arrays are: what came,
-abbrev start : tie.After-out → tie.Start
+abbrev start : tie.After-assignment → tie.Start
 start c =
     let a = c .before .before .before .before in
     let k = a .before .before .before .before in

@@ -44,7 +44,7 @@ module _ (v : tie.After-vertex-count) where
   looked = v .before .before .before .before
 
   asked : JoinedAsked (graphOf (s looked .args .b .now)) (s looked .args .roots .now) (s looked .args .limit) (s looked .args .order .now) (s looked .args .bounds .now)
-      (s looked .args .arcs .now) (s looked .args .table .now) (s looked .args .lasts .now) (length (s looked .args .buf .now))
+      (s looked .args .arcs .now) (s looked .args .distances .now) (s looked .args .lasts .now) (length (s looked .args .buf .now))
   asked = joined-asked (s looked .pre) (found-is looked ∙ ap vertexIn (v .before .enum-told .given .1))
 
 light-forest-requires : tie.Need-light-forest-requires

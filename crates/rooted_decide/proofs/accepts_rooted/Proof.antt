@@ -36,7 +36,7 @@ returns c =
     heavy-refused (g l) (s l .args .roots .now) (d .forest) (l .light-forest .ensures) (d .given .valid) (omega arith)
 
 parts-assigned-requires : tie.Need-parts-assigned-requires
-parts-assigned-requires c κs = let l = c .before in record { ready = parts-ready (s l .pre .asked) (joined l (omega arith)); walked = s l .pre .walked }
+parts-assigned-requires c κs = let l = c .before in record { ready = parts-ready (s l .pre .asked) (joined l (omega arith)); stepped = s l .pre .stepped }
 
 returns-2 : tie.Need-returns-2
 returns-2 c =

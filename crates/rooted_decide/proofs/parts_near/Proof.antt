@@ -1,4 +1,4 @@
--- `rooted_decide::parts_near` meets its contract: the vertices' words are made, and the parts' by one pass over the walk. Assumes nothing.
+-- `rooted_decide::parts_near` meets its contract: the vertices' words are made, and the parts' by one pass over the steps. Assumes nothing.
 use native.Mathlib.Omega.{arith}
 use borrow.Author.Needs.{needs}
 use Rattle.rooted_state.proofs.RootsReady.{limit-ready}

@@ -15,11 +15,11 @@ use Rattle.split.proofs.split_roots.Statement.{statement}
 use Rattle.split.proofs.split_roots.Tie as tie
 
 abbrev Inv-loop : tie.InvT-loop
-Inv-loop bounds arcs roots h passed₀ stack₀ starts₀ cuts₀ flat₀ lefts₀ s₀ j₀ passed stack starts cuts flat lefts s j =
-    RootsSplit (length stack₀) bounds arcs roots h (lent starts₀ cuts₀ flat₀ lefts₀) j (stateOf passed stack starts cuts flat s) lefts
+Inv-loop bounds arcs roots h passed₀ stack₀ starts₀ cuts₀ members₀ lefts₀ s₀ j₀ passed stack starts cuts members lefts s j =
+    RootsSplit (length stack₀) bounds arcs roots h (lent starts₀ cuts₀ members₀ lefts₀) j (stateOf passed stack starts cuts members s) lefts
 
 abbrev μ-loop : tie.MeasureT-loop
-μ-loop bounds arcs roots h passed₀ stack₀ starts₀ cuts₀ flat₀ lefts₀ s₀ j₀ passed stack starts cuts flat lefts s j = length roots - j
+μ-loop bounds arcs roots h passed₀ stack₀ starts₀ cuts₀ members₀ lefts₀ s₀ j₀ passed stack starts cuts members lefts s j = length roots - j
 
 -- The entry, seen from the first store.
 abbrev entry : tie.After-slice-known6 Inv-loop μ-loop → tie.Start Inv-loop μ-loop
@@ -122,7 +122,7 @@ same-length-4 : tie.Need-same-length-4 Inv-loop μ-loop
 same-length-4 c = only-first-length (c .before .loop .inv .added .cuts-rest) ∙ length-set (entry (c .before .before) .args .cuts .now) 0 0
 
 same-length-5 : tie.Need-same-length-5 Inv-loop μ-loop
-same-length-5 c = only-first-length (c .before .loop .inv .added .flat-rest)
+same-length-5 c = only-first-length (c .before .loop .inv .added .members-rest)
 
 same-length-6 : tie.Need-same-length-6 Inv-loop μ-loop
 same-length-6 c = put-length (c .before .loop .inv .lefts-put .put)
@@ -134,7 +134,7 @@ returns c =
     let a = s .args in
     let q : at .loop .j ≡ length (a .roots .now) = omega (arith, at .loop .inv .within, c .loop-test .left) in
     record {
-      split = all-split (lent (a .starts .now) (a .cuts .now) (a .flat .now) (a .lefts .now)) (rw q at (at .loop .inv));
+      split = all-split (lent (a .starts .now) (a .cuts .now) (a .members .now) (a .lefts .now)) (rw q at (at .loop .inv));
       marks-scratch = same-length c;
       stack-scratch = same-length-2 c;
     }

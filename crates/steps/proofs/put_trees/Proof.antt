@@ -10,10 +10,10 @@ use Rattle.steps.proofs.put_trees.Statement.{statement}
 use Rattle.steps.proofs.put_trees.Tie as tie
 
 abbrev Inv-loop : tie.InvT-loop
-Inv-loop bounds arcs roots passed₀ walk₀ next₀ j₀ passed walk next j = TreesUnderway bounds arcs roots passed₀ walk₀ j passed walk next
+Inv-loop bounds arcs roots passed₀ array₀ next₀ j₀ passed array next j = TreesUnderway bounds arcs roots passed₀ array₀ j passed array next
 
 abbrev μ-loop : tie.MeasureT-loop
-μ-loop bounds arcs roots passed₀ walk₀ next₀ j₀ passed walk next j = length roots - j
+μ-loop bounds arcs roots passed₀ array₀ next₀ j₀ passed array next j = length roots - j
 
 -- The entry, seen from the loop; and at a root: what was asked, the steps so far, and that there is a root more.
 abbrev entry : tie.After-slice-known2 Inv-loop μ-loop → tie.Start Inv-loop μ-loop
@@ -37,7 +37,7 @@ abbrev written : tie.After-slice-known4 Inv-loop μ-loop → tie.After-put-node 
 written c = c .before .before .before .before
 
 loop-holds : tie.Need-loop-holds Inv-loop μ-loop
-loop-holds c = let a = entry c .args in trees-first (a .bounds .now) (a .arcs .now) (a .roots .now) (a .passed .now) (a .walk .now)
+loop-holds c = let a = entry c .args in trees-first (a .bounds .now) (a .arcs .now) (a .roots .now) (a .passed .now) (a .steps .now)
 
 mul-root : tie.Need-mul-root Inv-loop μ-loop
 mul-root c = search needs
@@ -71,7 +71,7 @@ same-length-2 c = put-length (c .before .loop .inv .put .put)
 
 returns : tie.Need-returns Inv-loop μ-loop
 returns c =
-    record { walk-put = trees-done (c .before .loop .inv) (entry (c .before .before) .pre) (c .loop-test .left); marks-scratch = same-length c }
+    record { steps-put = trees-done (c .before .loop .inv) (entry (c .before .before) .pre) (c .loop-test .left); marks-scratch = same-length c }
 
 pub put-trees-spec : {M : Type 1} → statement M
 put-trees-spec =

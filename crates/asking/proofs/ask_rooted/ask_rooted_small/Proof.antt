@@ -41,7 +41,7 @@ ask-rooted-in-requires c κs =
             all-room = omega arith;
             arcs-room = omega arith;
             spare-room = omega arith;
-            table-room = omega arith;
+            distances-room = omega arith;
             lasts-room = omega arith;
           });
     }

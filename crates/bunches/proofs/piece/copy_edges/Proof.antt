@@ -24,20 +24,20 @@ slice-more stack from i h l =
     ∙ ap (λ (l : List ℕ). getD stack i 0 ∷ l) (slice-empty (i + 1) stack))
 
 -- The edges up to i stand behind the others.
-record Copied (stack : List ℕ) (from to : ℕ) (flat₀ : List ℕ) (used : ℕ) (flat : List ℕ) (i at : ℕ) : Type 0 where
+record Copied (stack : List ℕ) (from to : ℕ) (members₀ : List ℕ) (used : ℕ) (members : List ℕ) (i at : ℕ) : Type 0 where
   onward : from ≤ i
   within : i ≤ to
   place : at + from ≡ used + i
-  put : PutTo used (slice from i stack) flat₀ flat at
+  put : PutTo used (slice from i stack) members₀ members at
 
-module _ {stack : List ℕ} {from to : ℕ} {flat₀ : List ℕ} {used : ℕ} {flat : List ℕ} {i at : ℕ} (c : Copied stack from to flat₀ used flat i at)
-    (more : i < to) (fits : used + to ≤ length flat₀ + from) where
+module _ {stack : List ℕ} {from to : ℕ} {members₀ : List ℕ} {used : ℕ} {members : List ℕ} {i at : ℕ} (c : Copied stack from to members₀ used members i at)
+    (more : i < to) (fits : used + to ≤ length members₀ + from) where
   -- there is room for the edge at i
-  room : at < length flat
+  room : at < length members
   room = omega (arith, c .place, put-length (c .put .put))
 
   -- and with it one edge more is copied
-  copied-more : to ≤ length stack → Copied stack from to flat₀ used (set flat at (getD stack i 0)) (i + 1) (at + 1)
+  copied-more : to ≤ length stack → Copied stack from to members₀ used (set members at (getD stack i 0)) (i + 1) (at + 1)
   copied-more h =
       record {
         onward = omega (arith, c .onward);
@@ -47,10 +47,10 @@ module _ {stack : List ℕ} {from to : ℕ} {flat₀ : List ℕ} {used : ℕ} {f
       }
 
 abbrev Inv-loop : tie.InvT-loop
-Inv-loop stack from to flat₀ used i₀ at₀ flat i at = Copied stack from to flat₀ used flat i at
+Inv-loop stack from to members₀ used i₀ at₀ members i at = Copied stack from to members₀ used members i at
 
 abbrev μ-loop : tie.MeasureT-loop
-μ-loop stack from to flat₀ used i₀ at₀ flat i at = to - i
+μ-loop stack from to members₀ used i₀ at₀ members i at = to - i
 
 loop-holds : tie.Need-loop-holds Inv-loop μ-loop
 loop-holds c =
@@ -59,20 +59,20 @@ loop-holds c =
       onward = omega arith;
       within = omega arith;
       place = omega arith;
-      put = rw slice-empty (put-to-none (a .flat .now) (a .used) (omega arith));
+      put = rw slice-empty (put-to-none (a .members .now) (a .used) (omega arith));
     }
 
-mul-flat : tie.Need-mul-flat Inv-loop μ-loop
-mul-flat c = search needs
+mul-members : tie.Need-mul-members Inv-loop μ-loop
+mul-members c = search needs
 
-shared-slice-read-flat : tie.Need-shared-slice-read-flat Inv-loop μ-loop
-shared-slice-read-flat c = omega arith
+shared-slice-read-members : tie.Need-shared-slice-read-members Inv-loop μ-loop
+shared-slice-read-members c = omega arith
 
-mul-flat-2 : tie.Need-mul-flat-2 Inv-loop μ-loop
-mul-flat-2 c = search needs
+mul-members-2 : tie.Need-mul-members-2 Inv-loop μ-loop
+mul-members-2 c = search needs
 
-slice-write-flat : tie.Need-slice-write-flat Inv-loop μ-loop
-slice-write-flat c = let at = c .before .before in room (at .loop .inv) (omega arith) (omega arith)
+slice-write-members : tie.Need-slice-write-members Inv-loop μ-loop
+slice-write-members c = let at = c .before .before in room (at .loop .inv) (omega arith) (omega arith)
 
 add-i : tie.Need-add-i Inv-loop μ-loop
 add-i c = omega arith
@@ -102,10 +102,10 @@ copy-edges-spec =
     Inv-loop
     μ-loop
     loop-holds
-    mul-flat
-    shared-slice-read-flat
-    mul-flat-2
-    slice-write-flat
+    mul-members
+    shared-slice-read-members
+    mul-members-2
+    slice-write-members
     add-i
     add-at
     loop-less

@@ -12,10 +12,10 @@ use Rattle.distance_table.proofs.table.fill_table.Statement.{statement}
 use Rattle.distance_table.proofs.table.fill_table.Tie as tie
 
 abbrev Inv-loop : tie.InvT-loop
-Inv-loop n bounds arcs roots table₀ lasts₀ j₀ table lasts j = TableUnderway n bounds arcs roots j table₀ table lasts₀ lasts
+Inv-loop n bounds arcs roots distances₀ lasts₀ j₀ distances lasts j = TableUnderway n bounds arcs roots j distances₀ distances lasts₀ lasts
 
 abbrev μ-loop : tie.MeasureT-loop
-μ-loop n bounds arcs roots table₀ lasts₀ j₀ table lasts j = length roots - j
+μ-loop n bounds arcs roots distances₀ lasts₀ j₀ distances lasts j = length roots - j
 
 -- In a turn: the room for root j's row, in either array.
 module _ (t : tie.In-loop Inv-loop μ-loop) where
@@ -34,8 +34,8 @@ module _ (t : tie.In-loop Inv-loop μ-loop) where
   fits : {size : ℕ} → length (s .args .roots .now) * n ≤ size → j * n + n ≤ size
   fits {size} room = row-room j (length (s .args .roots .now)) n size (t .loop-test .taken) room
 
-  in-table : j * n + n ≤ length (l .loop .table)
-  in-table = fits (omega (arith, s .pre .table-room, l .loop .inv .table-size))
+  in-table : j * n + n ≤ length (l .loop .distances)
+  in-table = fits (omega (arith, s .pre .distances-room, l .loop .inv .table-size))
 
   in-lasts : j * n + n ≤ length (l .loop .lasts)
   in-lasts = fits (omega (arith, s .pre .lasts-room, l .loop .inv .lasts-size))
@@ -104,7 +104,7 @@ distances-from-requires c κs =
     record {
       sound = p .sound;
       root-inside = omega (arith, root-is w, p .roots-inside (j u) (u .loop-test .taken));
-      dist-room = omega (arith, row-is u (l u .loop .table) (in-table u));
+      dist-room = omega (arith, row-is u (l u .loop .distances) (in-table u));
       last-room = omega (arith, row-is u (l u .loop .lasts) (in-lasts u));
     }
 
@@ -132,7 +132,7 @@ returns c =
     let l = c .before in
     let x = l .before .before .before in
     let s = x .before .before .before in
-    table-all _ _ _ _ (l .loop .inv) (omega (arith, c .loop-test .left)) (s .pre .table-room) (s .pre .lasts-room)
+    table-all _ _ _ _ (l .loop .inv) (omega (arith, c .loop-test .left)) (s .pre .distances-room) (s .pre .lasts-room)
 
 pub fill-table-spec : {M : Type 1} → statement M
 fill-table-spec =

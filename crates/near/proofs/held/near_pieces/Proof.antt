@@ -19,16 +19,16 @@ use Rattle.near.proofs.held.near_pieces.Statement.{statement}
 use Rattle.near.proofs.held.near_pieces.Tie as tie
 
 abbrev Inv-loop : tie.InvT-loop
-Inv-loop b near starts cuts flat places words₀ i₀ words i = Wording (graphOf b) near starts cuts flat places i words₀ words
+Inv-loop b near starts cuts members places words₀ i₀ words i = Wording (graphOf b) near starts cuts members places i words₀ words
 
 abbrev μ-loop : tie.MeasureT-loop
-μ-loop b near starts cuts flat places words₀ i₀ words i = length places - i
+μ-loop b near starts cuts members places words₀ i₀ words i = length places - i
 
 -- The start and the edges that were read are those of tree c.
-the-tree : (starts cuts flat : List ℕ) (c : ℕ) {g : Graph} {near edges : List ℕ} {start word : ℕ} → start ≡ getD starts c 0 → edges ≡ segment cuts flat c
-    → NearTree g near (treeOf start edges) word → NearTree g near (treeAt starts cuts flat c) word
+the-tree : (starts cuts members : List ℕ) (c : ℕ) {g : Graph} {near edges : List ℕ} {start word : ℕ} → start ≡ getD starts c 0 → edges ≡ segment cuts members c
+    → NearTree g near (treeOf start edges) word → NearTree g near (treeAt starts cuts members c) word
 unfolding treeAt
-the-tree starts cuts flat c {g} {near} {edges} {start} {word} p q t =
+the-tree starts cuts members c {g} {near} {edges} {start} {word} p q t =
     subst (λ x. NearTree g near (treeOf (getD starts c 0) x) word) q (subst (λ x. NearTree g near (treeOf x edges) word) p t)
 
 -- In a turn: the tree of place i.
@@ -42,7 +42,7 @@ module _ (t : tie.In-loop Inv-loop μ-loop) where
   abbrev c₀ : ℕ
   c₀ = getD (s .args .places .now) (l .loop .i) 0
 
-  tree : TreeHeld (graphOf (s .args .b .now) .vertices) (s .args .starts .now) (s .args .cuts .now) (s .args .flat .now) c₀
+  tree : TreeHeld (graphOf (s .args .b .now) .vertices) (s .args .starts .now) (s .args .cuts .now) (s .args .members .now) c₀
   tree = s .pre .trees (l .loop .i) (t .loop-test .taken)
 
   room : l .loop .i < length (l .loop .words)
@@ -97,7 +97,7 @@ loop-again c =
     let t = turn w in
     let a = s t .args in
     wording-more _ _ _ _ _ _ (l t .loop .inv) (t .loop-test .taken) (room t)
-    (the-tree (a .starts .now) (a .cuts .now) (a .flat .now) (c₀ t) (start-is w) (held-edges (w .before .wide .ensures) (c .before .edges-at .ensures)) (c .near-piece .ensures))
+    (the-tree (a .starts .now) (a .cuts .now) (a .members .now) (c₀ t) (start-is w) (held-edges (w .before .wide .ensures) (c .before .edges-at .ensures)) (c .near-piece .ensures))
 
 same-length : tie.Need-same-length Inv-loop μ-loop
 same-length c = omega (arith, only-first-length (c .before .loop .inv .only))

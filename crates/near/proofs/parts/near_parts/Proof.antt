@@ -14,10 +14,10 @@ use Rattle.near.proofs.parts.near_parts.Statement.{statement}
 use Rattle.near.proofs.parts.near_parts.Tie as tie
 
 abbrev Inv-loop : tie.InvT-loop
-Inv-loop walk h near parts₀ left₀ beside₀ r₀ i₀ parts left beside r i = Marking h walk near parts₀ parts left beside r i
+Inv-loop steps h near parts₀ left₀ beside₀ r₀ i₀ parts left beside r i = Marking h steps near parts₀ parts left beside r i
 
 abbrev μ-loop : tie.MeasureT-loop
-μ-loop walk h near parts₀ left₀ beside₀ r₀ i₀ parts left beside r i = length walk - i
+μ-loop steps h near parts₀ left₀ beside₀ r₀ i₀ parts left beside r i = length steps - i
 
 -- At a step whose child, vertex above and weight are read: what was asked, that there is a step more, and that its two vertices are below 256.
 module _ (c : tie.After-step-weight Inv-loop μ-loop) where
@@ -28,9 +28,9 @@ module _ (c : tie.After-step-weight Inv-loop μ-loop) where
   start = loop .before .before .before .before
 
   abbrev step : ℕ
-  step = getD (start .args .walk .now) (loop .loop .i) 0
+  step = getD (start .args .steps .now) (loop .loop .i) 0
 
-  more : loop .loop .i < length (start .args .walk .now)
+  more : loop .loop .i < length (start .args .steps .now)
   more = c .before .before .before .before .loop-test .taken
 
   child-inside : c .before .before .step-child .result < 256
@@ -84,7 +84,7 @@ full-room c =
     room-full (loop d .loop .inv) (start d .pre) (more d) (looked (h .before)) (above-inside d) (h .if1 .left) refl refl (c .if2 .taken)
 
 loop-holds : tie.Need-loop-holds Inv-loop μ-loop
-loop-holds c = let d = c .before .before .before in marking-first (d .args .walk .now) (d .args .near .now) (d .args .parts .now) (d .pre .threshold-some)
+loop-holds c = let d = c .before .before .before in marking-first (d .args .steps .now) (d .args .near .now) (d .args .parts .now) (d .pre .threshold-some)
 
 mul-step : tie.Need-mul-step Inv-loop μ-loop
 mul-step c = search needs

@@ -11,10 +11,10 @@ use Rattle.near.proofs.vertices.near_vertices.Statement.{statement}
 use Rattle.near.proofs.vertices.near_vertices.Tie as tie
 
 abbrev Inv-loop : tie.InvT-loop
-Inv-loop table k limit near₀ n j₀ near j = RootsAdding k limit table j near₀ near
+Inv-loop distances k limit near₀ n j₀ near j = RootsAdding k limit distances j near₀ near
 
 abbrev μ-loop : tie.MeasureT-loop
-μ-loop table k limit near₀ n j₀ near j = j
+μ-loop distances k limit near₀ n j₀ near j = j
 
 -- In a turn: the table has the row of the root before j.
 module _ (t : tie.In-loop Inv-loop μ-loop) where
@@ -30,14 +30,14 @@ module _ (t : tie.In-loop Inv-loop μ-loop) where
   abbrev from : ℕ
   from = (l .loop .j - 1) * n
 
-  fits : from + n ≤ length (s .args .table .now)
+  fits : from + n ≤ length (s .args .distances .now)
   fits = row-room (l .loop .j - 1) (s .args .k) n _ (omega (arith, t .loop-test .taken, l .loop .inv .within)) (s .pre .room)
 
   size : from + n - from ≡ n
   size = omega arith
 
-  row-is : length (take (from + n - from) (drop from (s .args .table .now))) ≡ n
-  row-is = rw size (row-length (s .args .table .now) from n fits)
+  row-is : length (take (from + n - from) (drop from (s .args .distances .now))) ≡ n
+  row-is = rw size (row-length (s .args .distances .now) from n fits)
 
 loop-holds : tie.Need-loop-holds Inv-loop μ-loop
 loop-holds c = roots-none (c .before .before .pre)

@@ -19,11 +19,11 @@ use Rattle.rooted_cover.proofs.cover_trees.lay_trees.Statement.{stateme
 use Rattle.rooted_cover.proofs.cover_trees.lay_trees.Tie as tie
 
 abbrev Inv-loop : tie.InvT-loop
-Inv-loop b order table lasts roots starts cuts flat lefts places out bounds₀ edges₀ at₀ j₀ bounds edges at j =
+Inv-loop b order distances lasts roots starts cuts members lefts places assignment bounds₀ edges₀ at₀ j₀ bounds edges at j =
     record {
       within : j ≤ length roots;
       few : at ≤ j * graphOf b .vertices;
-      laid : TreesLaid (graphOf b) table lasts roots (arraysOf starts cuts flat lefts places) out j at bounds edges;
+      laid : TreesLaid (graphOf b) distances lasts roots (arraysOf starts cuts members lefts places) assignment j at bounds edges;
       bounds-size : length bounds ≡ length bounds₀;
       edges-size : length edges ≡ length edges₀;
       bounds-rest : OnlyFirst (length roots + 1) bounds₀ bounds;
@@ -31,7 +31,7 @@ Inv-loop b order table lasts roots starts cuts flat lefts places out bounds₀ e
     }
 
 abbrev μ-loop : tie.MeasureT-loop
-μ-loop b order table lasts roots starts cuts flat lefts places out bounds₀ edges₀ at₀ j₀ bounds edges at j = length roots - j
+μ-loop b order distances lasts roots starts cuts members lefts places assignment bounds₀ edges₀ at₀ j₀ bounds edges at j = length roots - j
 
 -- What came, from the head of the loop.
 abbrev came : tie.At-loop Inv-loop μ-loop → tie.Start Inv-loop μ-loop

@@ -38,8 +38,8 @@ module _ (e : tie.After-number-at) where
   left-is = e .number-at .ensures .is
 
   -- The root's row lies in either array.
-  in-table : s .args .j * n + n ≤ length (s .args .table .now)
-  in-table = row-fits (s .args .j) (length (s .args .roots .now)) n _ (length (s .args .table .now)) count (s .pre .root) (s .pre .given .table-room)
+  in-table : s .args .j * n + n ≤ length (s .args .distances .now)
+  in-table = row-fits (s .args .j) (length (s .args .roots .now)) n _ (length (s .args .distances .now)) count (s .pre .root) (s .pre .given .distances-room)
 
   in-lasts : s .args .j * n + n ≤ length (s .args .lasts .now)
   in-lasts = row-fits (s .args .j) (length (s .args .roots .now)) n _ (length (s .args .lasts .now)) count (s .pre .root) (s .pre .given .last-room)

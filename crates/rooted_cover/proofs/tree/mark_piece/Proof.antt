@@ -12,7 +12,7 @@ module _ (c : tie.After-mark-edges-arg) where
   abbrev s : tie.Start
   s = c .before .before .before .before .before .before
 
-  taken : c .before .edges-at .result .now ≡ segment (s .args .cuts .now) (s .args .flat .now) (s .args .c)
+  taken : c .before .edges-at .result .now ≡ segment (s .args .cuts .now) (s .args .members .now) (s .args .c)
   taken = held-edges (c .before .before .wide .ensures) (c .before .edges-at .ensures)
 
 wide-requires : tie.Need-wide-requires

@@ -83,7 +83,7 @@ assign-roots-requires c κs =
     let w = c .before .before .before .before in
     let a = s (q w) .pre in
     let h = a .held in
-    assign-asked (near (q w)) (put w) (a .rows-room) (omega (arith, few h, h .ready .given .valid .vertices-most)) (h .ready .given .some) (h .ready .given .few) (a .out-room)
+    assign-asked (near (q w)) (put w) (a .rows-room) (omega (arith, few h, h .ready .given .valid .vertices-most)) (h .ready .given .some) (h .ready .given .few) (a .assignment-room)
 
 same-length : tie.Need-same-length
 same-length c = search needs
@@ -98,7 +98,7 @@ returns c =
     record {
       placed = rows-assigned (near (q w)) (put w) (s (q w) .pre .rows-room) (i .assign-roots .ensures);
       rows-rest = rw (many (q w)) at (put w .rest);
-      out-rest = i .assign-roots .ensures .rest;
+      assignment-rest = i .assign-roots .ensures .rest;
     }
 
 pub assign-parts-spec : {M : Type 1} → statement M

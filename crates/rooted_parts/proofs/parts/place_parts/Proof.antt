@@ -28,7 +28,7 @@ assign-parts-requires c κs =
     let q = placed c in
     let p = start q .pre in
     let held = asked-held p (q .place-pieces .ensures .placed) in
-    record { held = held; rows-room = rows-enough held (p .rows-room); out-room = out-enough held (p .out-room) }
+    record { held = held; rows-room = rows-enough held (p .rows-room); assignment-room = out-enough held (p .assignment-room) }
 
 same-length : tie.Need-same-length
 same-length c = search needs
@@ -61,7 +61,7 @@ returns c =
       placed = record { pieces = pieces .placed; rows = rows .placed };
       pieces-rest = pieces .rest;
       rows-rest = rows .rows-rest;
-      out-rest = rows .out-rest;
+      assignment-rest = rows .assignment-rest;
     }
 
 pub place-parts-spec : {M : Type 1} → statement M

@@ -10,10 +10,10 @@ use Rattle.search.proofs.limit.search.Statement.{statement}
 use Rattle.search.proofs.limit.search.Tie as tie
 
 abbrev Inv-loop : tie.InvT-loop
-Inv-loop kind k b roots kept table total until walk sum budget low₀ high₀ left₀ low high left = SearchUnderway (graphOf b) (crewsWith kind k roots) sum budget low high left
+Inv-loop kind k b roots kept distances total until steps sum budget low₀ high₀ left₀ low high left = SearchUnderway (graphOf b) (crewsWith kind k roots) sum budget low high left
 
 abbrev μ-loop : tie.MeasureT-loop
-μ-loop kind k b roots kept table total until walk sum budget low₀ high₀ left₀ low high left = left
+μ-loop kind k b roots kept distances total until steps sum budget low₀ high₀ left₀ low high left = left
 
 -- Where a turn begins: what was asked.
 module _ (l : tie.At-loop Inv-loop μ-loop) where
@@ -38,7 +38,7 @@ add-middle c = let l = c .before .before in omega (arith, l .loop .inv .in-order
 accepts-at-requires : tie.Need-accepts-at-requires Inv-loop μ-loop
 accepts-at-requires c κs =
     let l = c .before .before in
-    record { crews = s l .pre .crews; walked = s l .pre .walked; limit-most = omega (arith, l .loop .inv .in-order, l .loop .inv .most, s l .pre .sum-most) }
+    record { crews = s l .pre .crews; stepped = s l .pre .stepped; limit-most = omega (arith, l .loop .inv .in-order, l .loop .inv .most, s l .pre .sum-most) }
 
 loop-less : tie.Need-loop-less Inv-loop μ-loop
 loop-less c = omega (arith, c .before .before .before .loop-test .taken)

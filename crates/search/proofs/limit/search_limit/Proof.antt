@@ -47,7 +47,7 @@ edges-weight-requires c κs = omega (arith, order-few (valid (c .before)) (s (c 
 
 search-requires : tie.Need-search-requires
 search-requires c κs =
-    record { crews = s (tried c) .pre .crews; walked = s (tried c) .pre .walked; sum-most = omega (arith, sum-is c, sum-bounded (valid (tried c))) }
+    record { crews = s (tried c) .pre .crews; stepped = s (tried c) .pre .stepped; sum-most = omega (arith, sum-is c, sum-bounded (valid (tried c))) }
 
 returns-2 : tie.Need-returns-2
 returns-2 c =

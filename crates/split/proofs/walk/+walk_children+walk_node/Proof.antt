@@ -48,11 +48,11 @@ abbrev node-below : ℕ → In 7 walk-node-kinds.ps
 node-below t = and 7 walk-node-kinds.ps (falls 7 walk-node-kinds.ps _<_ μ-node t) walk-node.Pre
 
 abbrev Inv : list.InvT-loop
-Inv bounds arcs h v passed₀ stack₀ starts₀ cuts₀ flat₀ base at₀ i₀ to passed stack starts cuts flat at i =
-    Underway (length stack₀) bounds arcs h v base (stateOf passed₀ stack₀ starts₀ cuts₀ flat₀ at₀) i to (stateOf passed stack starts cuts flat at) (at .weight)
+Inv bounds arcs h v passed₀ stack₀ starts₀ cuts₀ members₀ base at₀ i₀ to passed stack starts cuts members at i =
+    Underway (length stack₀) bounds arcs h v base (stateOf passed₀ stack₀ starts₀ cuts₀ members₀ at₀) i to (stateOf passed stack starts cuts members at) (at .weight)
 
 abbrev μ-loop : list.MeasureT-loop
-μ-loop bounds arcs h v passed₀ stack₀ starts₀ cuts₀ flat₀ base at₀ i₀ to passed stack starts cuts flat at i = to - i
+μ-loop bounds arcs h v passed₀ stack₀ starts₀ cuts₀ members₀ base at₀ i₀ to passed stack starts cuts members at i = to - i
 
 -- What the child-list walk calls.
 abbrev calls : ℕ → list.Claims
@@ -263,7 +263,7 @@ module _ (t : ℕ) where
   same-length-4 c = only-first-length (underway-done (c .before .loop .inv) (c .loop-test .left) .added .cuts-rest)
 
   same-length-5 : list.Need-same-length-5 (calls t) (list-at t) walk-children.Post Inv μ-loop
-  same-length-5 c = only-first-length (underway-done (c .before .loop .inv) (c .loop-test .left) .added .flat-rest)
+  same-length-5 c = only-first-length (underway-done (c .before .loop .inv) (c .loop-test .left) .added .members-rest)
 
   returns : list.Need-returns (calls t) (list-at t) walk-children.Post Inv μ-loop
   returns c = underway-done (c .before .loop .inv) (c .loop-test .left)
@@ -305,7 +305,7 @@ module _ (t : ℕ) where
   node-same-length-4 c = only-first-length (node-walked c .walk-children .ensures .added .cuts-rest)
 
   node-same-length-5 : node.Need-same-length-5 (list-below t, walk-children.Post) (node-at t) walk-node.Post
-  node-same-length-5 c = only-first-length (node-walked c .walk-children .ensures .added .flat-rest)
+  node-same-length-5 c = only-first-length (node-walked c .walk-children .ensures .added .members-rest)
 
   node-returns : node.Need-returns (list-below t, walk-children.Post) (node-at t) walk-node.Post
   node-returns c = node-walked c .walk-children .ensures

@@ -12,10 +12,10 @@ use Rattle.steps.proofs.count.count_parts.Statement.{statement}
 use Rattle.steps.proofs.count.count_parts.Tie as tie
 
 abbrev Inv-loop : tie.InvT-loop
-Inv-loop walk h left₀ parts₀ i₀ left parts i = Counting walk h left parts i
+Inv-loop array h left₀ parts₀ i₀ left parts i = Counting array h left parts i
 
 abbrev μ-loop : tie.MeasureT-loop
-μ-loop walk h left₀ parts₀ i₀ left parts i = length walk - i
+μ-loop array h left₀ parts₀ i₀ left parts i = length array - i
 
 -- At a step whose child is read: what was asked, that there is a step more, its piece, and that its two vertices are below 256.
 module _ (c : tie.After-step-child Inv-loop μ-loop) where
@@ -26,9 +26,9 @@ module _ (c : tie.After-step-child Inv-loop μ-loop) where
   start = loop .before .before .before
 
   abbrev step : ℕ
-  step = getD (start .args .walk .now) (loop .loop .i) 0
+  step = getD (start .args .steps .now) (loop .loop .i) 0
 
-  more : loop .loop .i < length (start .args .walk .now)
+  more : loop .loop .i < length (start .args .steps .now)
   more = c .before .before .before .loop-test .taken
 
   threshold : 0 < start .args .h
@@ -62,10 +62,10 @@ module _ (c : tie.After-step-above Inv-loop μ-loop) where
   inside = omega (arith, c .step-above .ensures, above-inside child)
 
 returns : tie.Need-returns Inv-loop μ-loop
-returns c = none-counted (c .before .before .args .walk .now) (c .if1 .taken)
+returns c = none-counted (c .before .before .args .steps .now) (c .if1 .taken)
 
 loop-holds : tie.Need-loop-holds Inv-loop μ-loop
-loop-holds c = counting-first (c .before .before .args .walk .now) (omega (arith, c .if1 .left))
+loop-holds c = counting-first (c .before .before .args .steps .now) (omega (arith, c .if1 .left))
 
 mul-step : tie.Need-mul-step Inv-loop μ-loop
 mul-step c = search needs

@@ -52,10 +52,10 @@ abbrev node-below : ℕ → In 4 put-node-kinds.ps
 node-below t = and 4 put-node-kinds.ps (falls 4 put-node-kinds.ps _<_ μ-node t) put-node.Pre
 
 abbrev Inv : list.InvT-loop
-Inv bounds arcs v at passed₀ walk₀ next₀ i₀ to passed walk next i = StepsUnderway bounds arcs v at passed₀ walk₀ i to passed walk next
+Inv bounds arcs v at passed₀ array₀ next₀ i₀ to passed array next i = StepsUnderway bounds arcs v at passed₀ array₀ i to passed array next
 
 abbrev μ-loop : list.MeasureT-loop
-μ-loop bounds arcs v at passed₀ walk₀ next₀ i₀ to passed walk next i = to - i
+μ-loop bounds arcs v at passed₀ array₀ next₀ i₀ to passed array next i = to - i
 
 -- What the child-list walk calls.
 abbrev calls : ℕ → list.Claims
@@ -125,7 +125,7 @@ module _ (t : ℕ) where
   below c = let d = c .before .before .before .before in d .before
 
   -- There is room for the step.
-  fits : (c : list.After-arc-weight (calls t) (list-at t) put-children.Post Inv μ-loop) → below c .put-node .result < length (args (head (called (below c .before))) .args .walk .now)
+  fits : (c : list.After-arc-weight (calls t) (list-at t) put-children.Post Inv μ-loop) → below c .put-node .result < length (args (head (called (below c .before))) .args .steps .now)
   fits c =
       let b = below c in
       let e = called (b .before) in
@@ -205,11 +205,11 @@ module _ (t : ℕ) where
         omega (arith, c .arc-weight .ensures, arc-small h),
       )
 
-  mul-walk : list.Need-mul-walk (calls t) (list-at t) put-children.Post Inv μ-loop
-  mul-walk c = omega (arith, fits (c .before), args (head (called (below (c .before) .before))) .good)
+  mul-steps : list.Need-mul-steps (calls t) (list-at t) put-children.Post Inv μ-loop
+  mul-steps c = omega (arith, fits (c .before), args (head (called (below (c .before) .before))) .good)
 
-  slice-write-walk : list.Need-slice-write-walk (calls t) (list-at t) put-children.Post Inv μ-loop
-  slice-write-walk c =
+  slice-write-steps : list.Need-slice-write-steps (calls t) (list-at t) put-children.Post Inv μ-loop
+  slice-write-steps c =
       let b = below (c .before) in
       let e = called (b .before) in
       let h = head e in
@@ -276,7 +276,7 @@ pub +put-children+put-node-spec : {M : Type 1} → statement M
     (λ t.
     list.spec (calls t) (list-at t) put-children.Post Inv μ-loop (mul-i t) (shared-slice-read-i t) (cast-i t) (add-to t) (mul-to t)
     (shared-slice-read-to t) (cast-to t) (loop-holds t) (mul-a t) (shared-slice-read-a t) (arc-head-requires t) (add-i t) (slice-read-if1 t)
-    (loop-less t) (loop-again t) (put-node-requires t) (arc-weight-requires t) (step-of-requires t) (mul-walk t) (slice-write-walk t) (add-next t)
+    (loop-less t) (loop-again t) (put-node-requires t) (arc-weight-requires t) (step-of-requires t) (mul-steps t) (slice-write-steps t) (add-next t)
     (loop-less-2 t) (loop-again-2 t) (same-length t) (same-length-2 t) (returns t))
     (λ t.
     node.spec (list-below t, put-children.Post) (node-at t) put-node.Post (node-slice-write-passed t) (node-put-children-requires t)

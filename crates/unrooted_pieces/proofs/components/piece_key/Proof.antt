@@ -33,7 +33,7 @@ unfolding smallestEdge
 returns c =
     let e = c .before in
     let s = e .before .before .before .before .args in
-    let edges = segment (s .cuts .now) (s .flat .now) (s .i) in
+    let edges = segment (s .cuts .now) (s .members .now) (s .i) in
     let first : c .number-at .result ≡ headD edges 0 =
     c .number-at .ensures .is ∙ ap (λ l. getD l 0 0) (e .edges-at .ensures .is) ∙ sym (head-at edges) in
     omega (arith, first, e .before .wide .ensures .is)

@@ -49,7 +49,7 @@ returns c =
     let w = r .before .before in
     let v = w .before .before in
     let s = v .before .before .before .before in
-    part-risen (s .args .cuts .now) (s .args .flat .now) (s .args .i) (s .pre .held) (v .wide .ensures .is) (w .wide2 .ensures .is)
+    part-risen (s .args .cuts .now) (s .args .members .now) (s .args .i) (s .pre .held) (v .wide .ensures .is) (w .wide2 .ensures .is)
     (r .rise-edges .ensures)
 
 pub rise-segment-spec : {M : Type 1} → statement M

@@ -8,10 +8,10 @@ use Rattle.unrooted_pieces.proofs.components.rise_segments.Statement.{s
 use Rattle.unrooted_pieces.proofs.components.rise_segments.Tie as tie
 
 abbrev Inv-loop : tie.InvT-loop
-Inv-loop cuts k flat₀ i₀ flat i = (i ≤ k) × RisenUpTo cuts k i flat₀ flat
+Inv-loop cuts k members₀ i₀ members i = (i ≤ k) × RisenUpTo cuts k i members₀ members
 
 abbrev μ-loop : tie.MeasureT-loop
-μ-loop cuts k flat₀ i₀ flat i = k - i
+μ-loop cuts k members₀ i₀ members i = k - i
 
 loop-holds : tie.Need-loop-holds Inv-loop μ-loop
 loop-holds c = (omega arith, risen-none (c .before .before .pre))

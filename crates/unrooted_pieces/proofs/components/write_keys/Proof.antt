@@ -14,10 +14,10 @@ use Rattle.unrooted_pieces.proofs.components.write_keys.Statement.{stat
 use Rattle.unrooted_pieces.proofs.components.write_keys.Tie as tie
 
 abbrev Inv-loop : tie.InvT-loop
-Inv-loop starts cuts flat k keys₀ i₀ keys i = (i ≤ k) × SetUpTo (λ j. keyOf (treeOf (getD starts j 0) (segment cuts flat j))) i keys₀ keys
+Inv-loop starts cuts members k keys₀ i₀ keys i = (i ≤ k) × SetUpTo (λ j. keyOf (treeOf (getD starts j 0) (segment cuts members j))) i keys₀ keys
 
 abbrev μ-loop : tie.MeasureT-loop
-μ-loop starts cuts flat k keys₀ i₀ keys i = k - i
+μ-loop starts cuts members k keys₀ i₀ keys i = k - i
 
 loop-holds : tie.Need-loop-holds Inv-loop μ-loop
 loop-holds c = (omega arith, set-none _)

@@ -1,20 +1,20 @@
--- `steps::put_walk` meets its contract: the first n of 256 zeros are no marks. Assumes nothing.
+-- `steps::put_steps` meets its contract: the first n of 256 zeros are no marks. Assumes nothing.
 use Prim.Native.Nat.{ℕ}
 use mathlib.Core.Path.{_≡_, sym}
 use mathlib.Core.List.{List}
 use borrow.Author.Needs.{needs}
 use lib.ListN.{take, replicate}
-use Rattle.steps.specs.WalkPut.{WalkAsked, WalkReady, WalkPut}
+use Rattle.steps.specs.StepsPut.{AllStepsAsked, AllStepsReady, AllStepsPut}
 use Rattle.split.proofs.NoMarks.{zeros-count, zeros-front}
-use Rattle.steps.proofs.put_walk.Statement.{statement}
-use Rattle.steps.proofs.put_walk.Tie as tie
+use Rattle.steps.proofs.put_steps.Statement.{statement}
+use Rattle.steps.proofs.put_steps.Tie as tie
 
 -- The zeros are no marks.
-no-marks : {n : ℕ} {bounds arcs roots walk : List ℕ} → WalkAsked n bounds arcs roots walk → WalkReady bounds arcs roots (take n (replicate 256 0)) walk
+no-marks : {n : ℕ} {bounds arcs roots array : List ℕ} → AllStepsAsked n bounds arcs roots array → AllStepsReady bounds arcs roots (take n (replicate 256 0)) array
 no-marks {n} a = record { asked = rw (zeros-count n (a .around .few)) a; none-marked = λ v. zeros-front 256 n v }
 
 -- What is promised of as many vertices is promised of n.
-walk-of : {m n : ℕ} {bounds arcs roots walk walk′ : List ℕ} {r : ℕ} → m ≡ n → WalkPut m bounds arcs roots walk walk′ r → WalkPut n bounds arcs roots walk walk′ r
+walk-of : {m n : ℕ} {bounds arcs roots array array′ : List ℕ} {r : ℕ} → m ≡ n → AllStepsPut m bounds arcs roots array array′ r → AllStepsPut n bounds arcs roots array array′ r
 walk-of {m} {n} same x = let q : m ≡ n = same in rw q at x
 
 -- The entry, seen from the marks; and the call, from what it returns.
@@ -40,8 +40,8 @@ returns : tie.Need-returns
 returns c =
     let r = returned c in
     let s = entry (r .before .before) in
-    walk-of (zeros-count (s .args .n) (s .pre .around .few)) (r .put-trees .ensures .walk-put)
+    walk-of (zeros-count (s .args .n) (s .pre .around .few)) (r .put-trees .ensures .steps-put)
 
-pub put-walk-spec : {M : Type 1} → statement M
-put-walk-spec =
+pub put-steps-spec : {M : Type 1} → statement M
+put-steps-spec =
     tie.close (tie.spec array-borrow-prefix-passed slice-aggregate-put-trees put-trees-requires same-length returns)

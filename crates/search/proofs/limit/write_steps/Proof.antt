@@ -1,4 +1,4 @@
--- `search::limit::write_walk` meets its contract: the kind decides whether there is a walk to write. Assumes nothing.
+-- `search::limit::write_steps` meets its contract: the kind decides whether there is a walk to write. Assumes nothing.
 use mathlib.Core.Path.{_≡_}
 use native.Mathlib.Omega.{arith}
 use Rattle.lists.proofs.Put.{put-only-first}
@@ -6,10 +6,10 @@ use Rattle.lists.proofs.OnlyFirst.{only-first-none}
 use Rattle.graph.specs.Bytes.{graphOf}
 use Rattle.rooted_state.specs.Prepared.{RootsGiven, WholeAround}
 use borrow.Author.Needs.{needs}
-use Rattle.search.proofs.WalkWritten.{walk-asked, walk-written, walk-fits}
+use Rattle.search.proofs.StepsWritten.{steps-asked, steps-written, steps-fit}
 use Rattle.search.proofs.KindDecides.{one-kind}
-use Rattle.search.proofs.limit.write_walk.Statement.{statement}
-use Rattle.search.proofs.limit.write_walk.Tie as tie
+use Rattle.search.proofs.limit.write_steps.Statement.{statement}
+use Rattle.search.proofs.limit.write_steps.Tie as tie
 
 -- Where the vertices are counted: crews have roots, and what was prepared for them is given.
 module _ (v : tie.After-vertex-count) where
@@ -31,8 +31,8 @@ enum-told c = search needs
 vertex-count-requires : tie.Need-vertex-count-requires
 vertex-count-requires c κs = search needs
 
-put-walk-requires : tie.Need-put-walk-requires
-put-walk-requires c κs = let v = c .before in walk-asked (given v) (around v) (n-is v) (s v .pre .room)
+put-steps-requires : tie.Need-put-steps-requires
+put-steps-requires c κs = let v = c .before in steps-asked (given v) (around v) (n-is v) (s v .pre .room)
 
 enum-told-2 : tie.Need-enum-told-2
 enum-told-2 c = search needs
@@ -45,21 +45,21 @@ returns c =
     let p = c .before .before in
     let v = p .before .before in
     record {
-      fits = walk-fits (p .put-walk .ensures);
-      walked = λ _. walk-written (given v) (around v) (n-is v) (p .put-walk .ensures);
-      rest = put-only-first (p .put-walk .ensures .put);
+      fits = steps-fit (p .put-steps .ensures);
+      stepped = λ _. steps-written (given v) (around v) (n-is v) (p .put-steps .ensures);
+      rest = put-only-first (p .put-steps .ensures .put);
     }
 
 returns-2 : tie.Need-returns-2
-returns-2 c = record { fits = omega arith; walked = λ q. absurd (one-kind q (c .enum-told2 .given .1)); rest = only-first-none 0 _ }
+returns-2 c = record { fits = omega arith; stepped = λ q. absurd (one-kind q (c .enum-told2 .given .1)); rest = only-first-none 0 _ }
 
-pub write-walk-spec : {M : Type 1} → statement M
-write-walk-spec =
+pub write-steps-spec : {M : Type 1} → statement M
+write-steps-spec =
     tie.close
     (tie.spec
     enum-told
     vertex-count-requires
-    put-walk-requires
+    put-steps-requires
     enum-told-2
     same-length
     returns

@@ -21,28 +21,28 @@ use Rattle.steps.specs.StepsBelow.{StepsBelow}
 
 -- What the node walk, with v passed, and the child-list walk ask: the arcs of as many vertices as there are marks, v one of them, and room
 -- for a step for each vertex without a mark, from the place `at` on.
-pub record StepsAsked (bounds arcs : List ℕ) (v at : ℕ) (marks walk : List ℕ) : Type 0 where
+pub record StepsAsked (bounds arcs : List ℕ) (v at : ℕ) (marks array : List ℕ) : Type 0 where
   pub around : Arcs (length marks) bounds arcs
   pub inside : v < length marks
-  pub room : at + unvisited (length marks) marks ≤ length walk
+  pub room : at + unvisited (length marks) marks ≤ length array
 
 -- What they promise: the steps below v stand from that place up to r, and each led to a vertex that has a mark now.
-pub record StepsPut (bounds arcs : List ℕ) (v at : ℕ) (marks walk marks′ walk′ : List ℕ) (r : ℕ) : Type 0 where
+pub record StepsPut (bounds arcs : List ℕ) (v at : ℕ) (marks array marks′ array′ : List ℕ) (r : ℕ) : Type 0 where
   pub steps : List ℕ
   pub below : StepsBelow bounds arcs v (segment bounds arcs v) marks steps marks′
-  pub put : PutTo at steps walk walk′ r
+  pub put : PutTo at steps array array′ r
   pub size : length marks′ ≡ length marks
   pub fits : r + unvisited (length marks) marks′ ≤ at + unvisited (length marks) marks
 
 -- What writing the steps of all trees asks: the arcs of n vertices, roots among them, and room for a step for each vertex.
-pub record WalkAsked (n : ℕ) (bounds arcs roots walk : List ℕ) : Type 0 where
+pub record AllStepsAsked (n : ℕ) (bounds arcs roots array : List ℕ) : Type 0 where
   pub around : Arcs n bounds arcs
   pub roots-inside : (j : ℕ) → j < length roots → getD roots j 0 < n
-  pub room : n ≤ length walk
+  pub room : n ≤ length array
 
 -- The same, where there is a mark for each vertex, and none is set.
-pub record WalkReady (bounds arcs roots marks walk : List ℕ) : Type 0 where
-  pub asked : WalkAsked (length marks) bounds arcs roots walk
+pub record AllStepsReady (bounds arcs roots marks array : List ℕ) : Type 0 where
+  pub asked : AllStepsAsked (length marks) bounds arcs roots array
   pub none-marked : (v : ℕ) → getD marks v 0 ≡ 0
 
 -- The vertices of the steps are below 256.
@@ -57,15 +57,15 @@ pub record TreeSteps (g : Graph) (edges roots steps : List ℕ) : Type 0 where
   pub counts : (H : ℕ) → partsCounted H steps ≡ length (allParts (map (split g H) (grow g edges roots)))
   pub touches : (H : ℕ) (test : ℕ → Bool) → partsTouched H test steps ≡ map (λ part. any test (treeVertices g part)) (allParts (map (split g H) (grow g edges roots)))
 
--- What is promised of the walk: it stands in the array's first r places, whatever graph's forest the arcs are of.
-pub record WalkPut (n : ℕ) (bounds arcs roots walk walk′ : List ℕ) (r : ℕ) : Type 0 where
+-- What is promised of the steps: they stand in the array's first r places, whatever graph's forest the arcs are of.
+pub record AllStepsPut (n : ℕ) (bounds arcs roots array array′ : List ℕ) (r : ℕ) : Type 0 where
   pub steps : List ℕ
-  pub put : PutTo 0 steps walk walk′ r
+  pub put : PutTo 0 steps array array′ r
   pub of-graph : (g : Graph) (edges : List ℕ) → Around g edges bounds arcs → g .vertices ≡ n → TreeSteps g edges roots steps
 
 -- The same, where marks are lent besides, as scratch.
-pub record TreesPut (bounds arcs roots marks marks′ walk walk′ : List ℕ) (r : ℕ) : Type 0 where
-  pub walk-put : WalkPut (length marks) bounds arcs roots walk walk′ r
+pub record TreesPut (bounds arcs roots marks marks′ array array′ : List ℕ) (r : ℕ) : Type 0 where
+  pub steps-put : AllStepsPut (length marks) bounds arcs roots array array′ r
   pub marks-scratch : Scratch marks marks′
 
 -- What counting asks: steps among 256 vertices, and a threshold below 2 to the 32nd, so that no sum wraps.
