@@ -41,8 +41,10 @@ pub fn answer_at(
     until: &[u16],
     buf: &mut [u8],
 ) -> Reply
-    requires { ⌜ LimitAsked kind k (graphOf (now b)) (now roots) limit (now order) (now kept) (now bounds) (now arcs) (now distances) (now lasts) (now total) (now until) (length (now buf)) ⌝ }
-    ensures { λ r. ⌜ Answers (graphOf (now (b .entry))) (crewsWith kind k (now (roots .entry))) limit (now (buf .entry)) (now (buf .exit)) r ⌝ }
+    requires { ⌜ LimitAsked kind k (graphOf (now b)) (now roots) limit (now order) (now kept) (now bounds) (now arcs)
+        (now distances) (now lasts) (now total) (now until) (length (now buf)) ⌝ }
+    ensures { λ r. ⌜ Answers (graphOf (now (b .entry))) (crewsWith kind k (now (roots .entry))) limit (now (buf .entry))
+        (now (buf .exit)) r ⌝ }
 {
     match kind {
         Kind::Rooted => answer_rooted(

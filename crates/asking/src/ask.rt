@@ -39,8 +39,10 @@ fn answer_best(
     until: &[u16],
     buf: &mut [u8],
 ) -> Reply
-    requires { ⌜ AnswerAsked kind k (graphOf (now b)) (now roots) (now order) (now kept) (now bounds) (now arcs) (now distances) (now lasts) (now total) (now until) (length (now buf)) ⌝ }
-    ensures { λ r. ⌜ Answered Best (graphOf (now (b .entry))) (crewsWith kind k (now (roots .entry))) (now (buf .entry)) (now (buf .exit)) r ⌝ }
+    requires { ⌜ AnswerAsked kind k (graphOf (now b)) (now roots) (now order) (now kept) (now bounds) (now arcs)
+        (now distances) (now lasts) (now total) (now until) (length (now buf)) ⌝ }
+    ensures { λ r. ⌜ Answered Best (graphOf (now (b .entry))) (crewsWith kind k (now (roots .entry))) (now (buf .entry))
+        (now (buf .exit)) r ⌝ }
 {
     if no_cover(kind, k, b, roots, kept) {
         return Reply::NoCover;
@@ -93,8 +95,10 @@ pub(crate) fn answer_asked(
     until: &[u16],
     buf: &mut [u8],
 ) -> Reply
-    requires { ⌜ AskedReady kind k (graphOf (now b)) (now roots) asked (now order) (now kept) (now bounds) (now arcs) (now distances) (now lasts) (now total) (now until) (length (now buf)) ⌝ }
-    ensures { λ r. ⌜ Answered asked (graphOf (now (b .entry))) (crewsWith kind k (now (roots .entry))) (now (buf .entry)) (now (buf .exit)) r ⌝ }
+    requires { ⌜ AskedReady kind k (graphOf (now b)) (now roots) asked (now order) (now kept) (now bounds) (now arcs)
+        (now distances) (now lasts) (now total) (now until) (length (now buf)) ⌝ }
+    ensures { λ r. ⌜ Answered asked (graphOf (now (b .entry))) (crewsWith kind k (now (roots .entry)))
+        (now (buf .entry)) (now (buf .exit)) r ⌝ }
 {
     match asked {
         Asked::At(limit) => answer_at(

@@ -1,5 +1,5 @@
-// A question by crews with roots: prepared in arrays, and answered. The arrays are small where that is enough, since setting them to zero is much of
-// what a question about a small graph costs.
+// A question by crews with roots: prepared in arrays, and answered. The arrays are small where that is enough, since
+// setting them to zero is much of what a question about a small graph costs.
 use crate::ask::Asked;
 use crate::ask::answer_asked;
 use admit::crews::Kind;
@@ -25,9 +25,12 @@ fn ask_rooted_in(
     lasts: &mut [u32],
     buf: &mut [u8],
 ) -> Reply
-    requires { ⌜ RootedLent (graphOf (now b)) (now roots) asked (now order) (now kept) (now bounds) (now all) (now arcs) (now distances) (now lasts) (length (now buf)) ⌝ }
-    ensures { λ r. ⌜ RootedAnswered asked (graphOf (now (b .entry))) (now (roots .entry)) (now (order .entry)) (now (order .exit)) (now (kept .entry)) (now (kept .exit))
-        (now (bounds .entry)) (now (bounds .exit)) (now (all .entry)) (now (all .exit)) (now (arcs .entry)) (now (arcs .exit))
+    requires { ⌜ RootedLent (graphOf (now b)) (now roots) asked (now order) (now kept) (now bounds) (now all) (now arcs)
+        (now distances) (now lasts) (length (now buf)) ⌝ }
+    ensures { λ r. ⌜ RootedAnswered asked (graphOf (now (b .entry))) (now (roots .entry)) (now (order .entry))
+        (now (order .exit)) (now (kept .entry)) (now (kept .exit))
+        (now (bounds .entry)) (now (bounds .exit)) (now (all .entry)) (now (all .exit)) (now (arcs .entry))
+        (now (arcs .exit))
         (now (distances .entry)) (now (distances .exit)) (now (lasts .entry)) (now (lasts .exit))
         (now (buf .entry)) (now (buf .exit)) r ⌝ }
 {
@@ -53,7 +56,8 @@ fn ask_rooted_in(
 // Lends arrays that a small graph and few crews fit in.
 fn ask_rooted_small(b: &[u8], roots: &[u16], asked: Asked, buf: &mut [u8]) -> Reply
     requires { ⌜ RootedSmall (graphOf (now b)) (now roots) asked (length (now buf)) ⌝ }
-    ensures { λ r. ⌜ Answered asked (graphOf (now (b .entry))) (rooted (now (roots .entry))) (now (buf .entry)) (now (buf .exit)) r ⌝ }
+    ensures { λ r. ⌜ Answered asked (graphOf (now (b .entry))) (rooted (now (roots .entry))) (now (buf .entry))
+        (now (buf .exit)) r ⌝ }
 {
     let mut order = [0u16; 512];
     let mut kept = [0u16; 64];
@@ -80,7 +84,8 @@ fn ask_rooted_small(b: &[u8], roots: &[u16], asked: Asked, buf: &mut [u8]) -> Re
 // Lends arrays that every graph and all crews fit in.
 fn ask_rooted_full(b: &[u8], roots: &[u16], asked: Asked, buf: &mut [u8]) -> Reply
     requires { ⌜ RootedAsked (graphOf (now b)) (now roots) asked (length (now buf)) ⌝ }
-    ensures { λ r. ⌜ Answered asked (graphOf (now (b .entry))) (rooted (now (roots .entry))) (now (buf .entry)) (now (buf .exit)) r ⌝ }
+    ensures { λ r. ⌜ Answered asked (graphOf (now (b .entry))) (rooted (now (roots .entry))) (now (buf .entry))
+        (now (buf .exit)) r ⌝ }
 {
     let mut order = [0u16; 2048];
     let mut kept = [0u16; 256];
@@ -120,7 +125,8 @@ fn is_small(b: &[u8], k: usize) -> bool
 // The answer to a question by crews with roots. The roots are a list of vertices, one for each crew.
 pub(crate) fn ask_rooted(b: &[u8], roots: &[u16], asked: Asked, buf: &mut [u8]) -> Reply
     requires { ⌜ RootedAsked (graphOf (now b)) (now roots) asked (length (now buf)) ⌝ }
-    ensures { λ r. ⌜ Answered asked (graphOf (now (b .entry))) (rooted (now (roots .entry))) (now (buf .entry)) (now (buf .exit)) r ⌝ }
+    ensures { λ r. ⌜ Answered asked (graphOf (now (b .entry))) (rooted (now (roots .entry))) (now (buf .entry))
+        (now (buf .exit)) r ⌝ }
 {
     if is_small(b, roots.len()) {
         return ask_rooted_small(b, roots, asked, buf);

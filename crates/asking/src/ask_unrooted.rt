@@ -1,4 +1,5 @@
-// A question by crews without roots: prepared in arrays, and answered. The arrays for the order are small where that is enough.
+// A question by crews without roots: prepared in arrays, and answered. The arrays for the order are small where that is
+// enough.
 use crate::ask::Asked;
 use crate::ask::answer_asked;
 use admit::crews::Kind;
@@ -19,8 +20,10 @@ fn ask_unrooted_in(
     order: &mut [u16],
     buf: &mut [u8],
 ) -> Reply
-    requires { ⌜ UnrootedLent k (graphOf (now b)) asked (length (now keys)) (length (now spare)) (length (now order)) (length (now buf)) ⌝ }
-    ensures { λ r. ⌜ UnrootedAnswered asked k (graphOf (now (b .entry))) (now (keys .entry)) (now (keys .exit)) (now (spare .entry)) (now (spare .exit)) (now (order .entry)) (now (order .exit))
+    requires { ⌜ UnrootedLent k (graphOf (now b)) asked (length (now keys)) (length (now spare)) (length (now order))
+        (length (now buf)) ⌝ }
+    ensures { λ r. ⌜ UnrootedAnswered asked k (graphOf (now (b .entry))) (now (keys .entry)) (now (keys .exit))
+        (now (spare .entry)) (now (spare .exit)) (now (order .entry)) (now (order .exit))
         (now (buf .entry)) (now (buf .exit)) r ⌝ }
 {
     let mut kept = [0u16; 256];

@@ -23,8 +23,8 @@ fn reaches(h: u64, weight: u64) -> bool
     h <= weight
 }
 
-// The child's piece, on the stack behind the bunch, meets the bunch at v: it becomes a part alone, or the bunch with it becomes
-// a part, or it joins the bunch. The weight of `s` is the piece's.
+// The child's piece, on the stack behind the bunch, meets the bunch at v: it becomes a part alone, or the bunch with it
+// becomes a part, or it joins the bunch. The weight of `s` is the piece's.
 pub fn settle(
     h: u64,
     v: usize,

@@ -35,8 +35,8 @@ fn larger(x: u64, y: u64) -> u64
     if x < y { y } else { x }
 }
 
-// The weight of the heaviest tree of a cover. The entries of one tree stand side by side, so that one walk through the entries serves all
-// trees.
+// The weight of the heaviest tree of a cover. The entries of one tree stand side by side, so that one walk through the
+// entries serves all trees.
 pub fn heaviest_tree(b: &[u8], c: &[u8]) -> u64
     requires { ⌜ CoverGiven (graphOf (now b)) (now c) ⌝ }
     ensures { λ r. ⌜ r ≡ heaviest (graphOf (now (b .entry))) (decode (now (c .entry))) ⌝ }
@@ -71,7 +71,8 @@ pub fn edges_weight(b: &[u8], edges: &[u16]) -> u64
 // The weight of the heaviest of the chosen trees.
 pub fn heaviest_chosen(b: &[u8], bounds: &[u16], edges: &[u16], chosen: &[u16]) -> u64
     requires { ⌜ AllHeld (now bounds) (now edges) (now chosen) ⌝ }
-    ensures { λ r. ⌜ HeaviestChosen (graphOf (now (b .entry))) (now (bounds .entry)) (now (edges .entry)) (now (chosen .entry)) r ⌝ }
+    ensures { λ r. ⌜ HeaviestChosen (graphOf (now (b .entry))) (now (bounds .entry)) (now (edges .entry))
+        (now (chosen .entry)) r ⌝ }
 {
     let mut most: u64 = 0;
     let mut j = 0;

@@ -66,7 +66,8 @@ fn entry_count(bounds: &[u16], chosen: &[u16]) -> usize
 // The starts of the chosen trees, from a place on.
 fn put_starts(buf: &mut [u8], at: usize, starts: &[u16], chosen: &[u16]) -> usize
     requires { ⌜ at + 2 * length (now chosen) ≤ length (now buf) ⌝ }
-    ensures { λ r. ⌜ PutTo at (u16List (startsAt (now (starts .entry)) (now (chosen .entry)))) (now (buf .entry)) (now (buf .exit)) r ⌝ }
+    ensures { λ r. ⌜ PutTo at (u16List (startsAt (now (starts .entry)) (now (chosen .entry)))) (now (buf .entry))
+        (now (buf .exit)) r ⌝ }
 {
     let mut next = at;
     let mut j = 0;
@@ -81,7 +82,8 @@ fn put_starts(buf: &mut [u8], at: usize, starts: &[u16], chosen: &[u16]) -> usiz
 // The tree number of each of their entries, from a place on.
 fn put_tree_numbers(buf: &mut [u8], at: usize, bounds: &[u16], chosen: &[u16]) -> usize
     requires { ⌜ at + 2 * entryCount (now bounds) (now chosen) ≤ length (now buf) ⌝ }
-    ensures { λ r. ⌜ PutTo at (u16List (treeNumbers 0 (now (bounds .entry)) (now (chosen .entry)))) (now (buf .entry)) (now (buf .exit)) r ⌝ }
+    ensures { λ r. ⌜ PutTo at (u16List (treeNumbers 0 (now (bounds .entry)) (now (chosen .entry)))) (now (buf .entry))
+        (now (buf .exit)) r ⌝ }
 {
     let mut next = at;
     let mut j = 0;
@@ -96,7 +98,8 @@ fn put_tree_numbers(buf: &mut [u8], at: usize, bounds: &[u16], chosen: &[u16]) -
 // The edge of each of their entries, from a place on.
 fn put_edges(buf: &mut [u8], at: usize, bounds: &[u16], edges: &[u16], chosen: &[u16]) -> usize
     requires { ⌜ EdgesWritable (now bounds) (now edges) (now chosen) at (length (now buf)) ⌝ }
-    ensures { λ r. ⌜ PutTo at (u16List (edgesAt (now (bounds .entry)) (now (edges .entry)) (now (chosen .entry)))) (now (buf .entry)) (now (buf .exit)) r ⌝ }
+    ensures { λ r. ⌜ PutTo at (u16List (edgesAt (now (bounds .entry)) (now (edges .entry)) (now (chosen .entry))))
+        (now (buf .entry)) (now (buf .exit)) r ⌝ }
 {
     let mut next = at;
     let mut j = 0;
@@ -108,8 +111,8 @@ fn put_edges(buf: &mut [u8], at: usize, bounds: &[u16], edges: &[u16], chosen: &
     next
 }
 
-// The bytes of the cover whose trees are the chosen ones of those that the arrays hold, in the order in which they are chosen, as the
-// buffer's first bytes. The answer is how many bytes.
+// The bytes of the cover whose trees are the chosen ones of those that the arrays hold, in the order in which they are
+// chosen, as the buffer's first bytes. The answer is how many bytes.
 pub fn write_cover(
     buf: &mut [u8],
     starts: &[u16],
@@ -118,7 +121,8 @@ pub fn write_cover(
     chosen: &[u16],
 ) -> usize
     requires { ⌜ Writable (now starts) (now bounds) (now edges) (now chosen) (length (now buf)) ⌝ }
-    ensures { λ r. ⌜ PutTo 0 (encode (treesAt (now (starts .entry)) (now (bounds .entry)) (now (edges .entry)) (now (chosen .entry)))) (now (buf .entry)) (now (buf .exit)) r ⌝ }
+    ensures { λ r. ⌜ PutTo 0 (encode (treesAt (now (starts .entry)) (now (bounds .entry)) (now (edges .entry))
+        (now (chosen .entry)))) (now (buf .entry)) (now (buf .exit)) r ⌝ }
 {
     let entries = entry_count(bounds, chosen);
     let behind_trees = put_u16(buf, 0, chosen.len());

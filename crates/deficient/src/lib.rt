@@ -1,5 +1,6 @@
-// The parts of a set that admits no assignment, written (document 01, step 5: "too low, parts T, yards D", the parts "ordered by smallest
-// line"). The pieces stand as the splitting left them; those chosen are laid out again with their edges rising.
+// The parts of a set that admits no assignment, written (document 01, step 5: "too low, parts T, yards D", the parts
+// "ordered by smallest line"). The pieces stand as the splitting left them; those chosen are laid out again with their
+// edges rising.
 // The words of the contracts stand in specs/ and in the definitions of the crate `rules`.
 use cover::index::edges_at;
 use cover::index::number_at;
@@ -30,7 +31,8 @@ pub struct Deficient {
 // The starts of the chosen pieces, written to the front of the array.
 fn take_starts(starts: &[u16], chosen: &[u16], laid: &mut [u16])
     requires { ⌜ length (now chosen) ≤ length (now laid) ⌝ }
-    ensures { λ _. ⌜ PutTo 0 (startsAt (now (starts .entry)) (now (chosen .entry))) (now (laid .entry)) (now (laid .exit)) (length (now (chosen .entry))) ⌝ }
+    ensures { λ _. ⌜ PutTo 0 (startsAt (now (starts .entry)) (now (chosen .entry))) (now (laid .entry))
+        (now (laid .exit)) (length (now (chosen .entry))) ⌝ }
 {
     let mut i = 0;
     while i < chosen.len() {
@@ -42,7 +44,8 @@ fn take_starts(starts: &[u16], chosen: &[u16], laid: &mut [u16])
 // The edges of the chosen pieces, each piece's rising, laid one piece after the other.
 fn lay_edges(cuts: &[u16], members: &[u16], chosen: &[u16], bounds: &mut [u16], edges: &mut [u16])
     requires { ⌜ LayGiven (now cuts) (now members) (now chosen) (length (now bounds)) (length (now edges)) ⌝ }
-    ensures { λ _. ⌜ EdgesLaid (now (cuts .entry)) (now (members .entry)) (now (chosen .entry)) (now (bounds .entry)) (now (bounds .exit)) (now (edges .entry)) (now (edges .exit)) ⌝ }
+    ensures { λ _. ⌜ EdgesLaid (now (cuts .entry)) (now (members .entry)) (now (chosen .entry)) (now (bounds .entry))
+        (now (bounds .exit)) (now (edges .entry)) (now (edges .exit)) ⌝ }
 {
     bounds[0] = 0;
     let mut at = 0;
@@ -67,9 +70,16 @@ fn take_keys(bounds: &[u16], edges: &[u16], t: usize, keys: &mut [u32])
 }
 
 // The bytes of the chosen pieces, ordered by smallest edge, as the buffer's first bytes. Says how many bytes.
-fn write_parts(starts: &[u16], cuts: &[u16], members: &[u16], chosen: &[u16], buf: &mut [u8]) -> usize
+fn write_parts(
+    starts: &[u16],
+    cuts: &[u16],
+    members: &[u16],
+    chosen: &[u16],
+    buf: &mut [u8],
+) -> usize
     requires { ⌜ ChosenGiven (now cuts) (now members) (now chosen) (length (now buf)) ⌝ }
-    ensures { λ r. ⌜ PutTo 0 (encode (bySmallest (map risen (treesAt (now (starts .entry)) (now (cuts .entry)) (now (members .entry)) (now (chosen .entry))))))
+    ensures { λ r. ⌜ PutTo 0 (encode (bySmallest (map risen (treesAt (now (starts .entry)) (now (cuts .entry))
+        (now (members .entry)) (now (chosen .entry))))))
         (now (buf .entry)) (now (buf .exit)) r ⌝ }
 {
     let mut laid = [0u16; 256];
@@ -99,7 +109,8 @@ fn write_deficient(
     buf: &mut [u8],
 ) -> Deficient
     requires { ⌜ SetGiven (now cuts) (now members) (now places) parts (now rows) (now marks) k (length (now buf)) ⌝ }
-    ensures { λ r. ⌜ SetWritten (now (starts .entry)) (now (cuts .entry)) (now (members .entry)) (now (places .entry)) parts (now (rows .entry)) (now (marks .entry)) k
+    ensures { λ r. ⌜ SetWritten (now (starts .entry)) (now (cuts .entry)) (now (members .entry)) (now (places .entry))
+        parts (now (rows .entry)) (now (marks .entry)) k
         (now (buf .entry)) (now (buf .exit)) r ⌝ }
 {
     let mut chosen = [0u16; 256];
@@ -122,7 +133,8 @@ pub fn reply_deficient(
     buf: &mut [u8],
 ) -> Reply
     requires { ⌜ SetGiven (now cuts) (now members) (now places) parts (now rows) (now marks) k (length (now buf)) ⌝ }
-    ensures { λ r. ⌜ SetReplied (now (starts .entry)) (now (cuts .entry)) (now (members .entry)) (now (places .entry)) parts (now (rows .entry)) (now (marks .entry)) k
+    ensures { λ r. ⌜ SetReplied (now (starts .entry)) (now (cuts .entry)) (now (members .entry)) (now (places .entry))
+        parts (now (rows .entry)) (now (marks .entry)) k
         (now (buf .entry)) (now (buf .exit)) r ⌝ }
 {
     let d = write_deficient(starts, cuts, members, places, parts, rows, marks, k, buf);

@@ -17,7 +17,8 @@ pub(crate) fn relax_arcs(
     low: &mut [u64],
 )
     requires { ⌜ Relaxable (now bounds) (now arcs) u (now dist) (now last) (now wait) (now low) ⌝ }
-    ensures { λ _. ⌜ AllRelaxed (now (bounds .entry)) (now (arcs .entry)) u (now (dist .entry)) (now (last .entry)) (now (wait .entry))
+    ensures { λ _. ⌜ AllRelaxed (now (bounds .entry)) (now (arcs .entry)) u (now (dist .entry)) (now (last .entry))
+        (now (wait .entry))
         (now (dist .exit)) (now (last .exit)) (now (wait .exit)) (now (low .exit)) ⌝ }
 {
     let d = wide_distance(dist[u]);

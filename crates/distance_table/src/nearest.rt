@@ -1,4 +1,5 @@
-// The vertex of a part that is nearest to a root (document 01, step 5: "the part's nearest stop"), by the distances of all vertices from it.
+// The vertex of a part that is nearest to a root (document 01, step 5: "the part's nearest stop"), by the distances of
+// all vertices from it.
 use edges::index::wide;
 ghost use mathlib.Core.Path.{_≡_};
 ghost use mathlib.Core.Bool.{cond};

@@ -1,5 +1,5 @@
-// The distances of all vertices from all roots, and the last edges of the shortest paths (document 01, step 5). Both stand root by root: the
-// distance and the last edge of vertex v for root j of n vertices at j * n + v.
+// The distances of all vertices from all roots, and the last edges of the shortest paths (document 01, step 5). Both
+// stand root by root: the distance and the last edge of vertex v for root j of n vertices at j * n + v.
 use distance::distances_from;
 use edges::index::wide;
 ghost use lib.ListN.{length};

@@ -1,7 +1,8 @@
-// Puts document 01's small districts and made graphs to the planner and to the check, and prints what the rules fix of the answers. Standard input
-// holds records, one behind the other: the question (2 bytes: 1 rooted trial, 2 unrooted trial, 3 rooted best, 4 unrooted best, 5 rooted check,
-// 6 unrooted check), k (2), the limit (4), how long the lent buffer is (2), whether the reply is printed whole (2: 1 if it is), the length of the
-// graph's bytes (2) and of the filed cover's (2), all lowest byte first, then these bytes. What it must print was printed by an unrelated
+// Puts document 01's small districts and made graphs to the planner and to the check, and prints what the rules fix of
+// the answers. Standard input holds records, one behind the other: the question (2 bytes: 1 rooted trial, 2 unrooted
+// trial, 3 rooted best, 4 unrooted best, 5 rooted check, 6 unrooted check), k (2), the limit (4), how long the lent
+// buffer is (2), whether the reply is printed whole (2: 1 if it is), the length of the graph's bytes (2) and of the
+// filed cover's (2), all lowest byte first, then these bytes. What it must print was printed by an unrelated
 // implementation. The replies in full go to standard error, as bytes, for a judge that knows which choices are free.
 mod text;
 
@@ -131,7 +132,8 @@ fn answer_one() -> bool {
     true
 }
 
-// Answers records until there is none left. Nothing says that the input ends, so the turns are counted down from a number that no input uses up.
+// Answers records until there is none left. Nothing says that the input ends, so the turns are counted down from a
+// number that no input uses up.
 fn main() {
     let mut turns = u64::MAX;
     while turns > 0 && answer_one() {

@@ -26,7 +26,8 @@ pub(crate) fn write_text(
     out: &mut [u8],
 ) -> usize
     requires { ⌜ TextAsked (graphOf (now b)) reply (now buf) (length (now out)) ⌝ }
-    ensures { λ r. ⌜ DistrictWritten whole (asks kind k (now (b .entry))) reply (now (buf .entry)) (now (out .entry)) (now (out .exit)) r ⌝ }
+    ensures { λ r. ⌜ DistrictWritten whole (asks kind k (now (b .entry))) reply (now (buf .entry)) (now (out .entry))
+        (now (out .exit)) r ⌝ }
 {
     if whole {
         return write_reply(b, reply, buf, out);

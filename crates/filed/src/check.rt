@@ -1,4 +1,5 @@
-// The check of a filed cover: the graph's bytes (11 to 16), the crews (21), then the cover's bytes (31 to 35), in that order.
+// The check of a filed cover: the graph's bytes (11 to 16), the crews (21), then the cover's bytes (31 to 35), in that
+// order.
 use crate::trees::trees_right;
 use admit::Admitted;
 use admit::crews::Kind;
@@ -49,7 +50,8 @@ fn starts_right(kind: Kind, k: usize, c: &[u8]) -> bool
 // The check of the trees and the vertices, where starts and entries passed their tests.
 fn check_trees(b: &[u8], c: &[u8]) -> Verdict
     requires { ⌜ CoverGiven (graphOf (now b)) (now c) ⌝ }
-    ensures { λ r. ⌜ says r ≡ answer (graphOf (now (b .entry))) (now (c .entry)) (treesFault (graphOf (now (b .entry))) (now (c .entry))) ⌝ }
+    ensures { λ r. ⌜ says r ≡ answer (graphOf (now (b .entry))) (now (c .entry))
+        (treesFault (graphOf (now (b .entry))) (now (c .entry))) ⌝ }
 {
     let mut parents = [0u8; 256];
     if !trees_right(b, c, &mut parents) {
@@ -64,7 +66,8 @@ fn check_trees(b: &[u8], c: &[u8]) -> Verdict
 // The check of the cover's bytes, for a graph.
 fn check_filed(kind: Kind, k: usize, b: &[u8], c: &[u8]) -> Verdict
     requires { ⌜ Valid (graphOf (now b)) ⌝ }
-    ensures { λ r. ⌜ says r ≡ answer (graphOf (now (b .entry))) (now (c .entry)) (coverFault (graphOf (now (b .entry))) (crewsOf kind k) (now (c .entry))) ⌝ }
+    ensures { λ r. ⌜ says r ≡ answer (graphOf (now (b .entry))) (now (c .entry))
+        (coverFault (graphOf (now (b .entry))) (crewsOf kind k) (now (c .entry))) ⌝ }
 {
     if c.len() < 4 {
         return Verdict::Refused(Refusal::Length);

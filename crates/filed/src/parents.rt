@@ -1,5 +1,5 @@
-// Vertices joined by parents, in an array that has one for each of the 256 vertices that a graph can have. No vertex's parent is higher
-// than the vertex, and a vertex that is its own parent stands for all that are joined to it.
+// Vertices joined by parents, in an array that has one for each of the 256 vertices that a graph can have. No vertex's
+// parent is higher than the vertex, and a vertex that is its own parent stands for all that are joined to it.
 ghost use mathlib.Core.Path.{_≡_};
 ghost use Prim.Native.Nat.{_<_};
 ghost use lib.ListN.{length, getD};
@@ -42,8 +42,8 @@ pub fn stands_for(parents: &mut [u8], v: usize) -> usize
     x
 }
 
-// Joins the ends of edge e, and says whether they were not yet joined: the higher of the two that stand for them takes the lower for its
-// parent.
+// Joins the ends of edge e, and says whether they were not yet joined: the higher of the two that stand for them takes
+// the lower for its parent.
 pub fn join_ends(b: &[u8], e: usize, parents: &mut [u8]) -> bool
     requires { ⌜ Joinable (graphOf (now b)) (now parents) ⌝ }
     ensures { λ r. ⌜ EndsJoined (graphOf (now (b .entry))) e (now (parents .entry)) (now (parents .exit)) r ⌝ }

@@ -1,5 +1,5 @@
-// The trees of a filed cover (34): no tree has a loop, or an edge that is not joined to its start. The entries of one tree stand side by
-// side, so that one walk through the entries serves all trees.
+// The trees of a filed cover (34): no tree has a loop, or an edge that is not joined to its start. The entries of one
+// tree stand side by side, so that one walk through the entries serves all trees.
 use crate::parents::join_ends;
 use crate::parents::set_apart;
 use crate::parents::stands_for;
@@ -14,10 +14,12 @@ ghost use Rattle.cover.specs.Runs.{runEdges};
 ghost use Rattle.filed.specs.Parents.{Joinable};
 ghost use Rattle.filed.specs.Trees.{RunTaken, RunJoined, TreeGiven, TreeTold, TreesGiven, TreesTold};
 
-// Joins the ends of the edges of a run of entries, one edge after the other, as long as they are not yet joined. Says whether none were.
+// Joins the ends of the edges of a run of entries, one edge after the other, as long as they are not yet joined. Says
+// whether none were.
 fn run_loop_free(b: &[u8], c: &[u8], from: usize, to: usize, parents: &mut [u8]) -> bool
     requires { ⌜ (from ≤ to) × Joinable (graphOf (now b)) (now parents) ⌝ }
-    ensures { λ r. ⌜ RunTaken (graphOf (now (b .entry))) (now (c .entry)) from to (now (parents .entry)) (now (parents .exit)) r ⌝ }
+    ensures { λ r. ⌜ RunTaken (graphOf (now (b .entry))) (now (c .entry)) from to (now (parents .entry))
+        (now (parents .exit)) r ⌝ }
 {
     let mut i = from;
     while i < to {
@@ -32,7 +34,8 @@ fn run_loop_free(b: &[u8], c: &[u8], from: usize, to: usize, parents: &mut [u8])
 // Says whether each edge of a run of entries is joined to the start.
 fn run_joined(b: &[u8], c: &[u8], from: usize, to: usize, start: usize, parents: &mut [u8]) -> bool
     requires { ⌜ (start < graphOf (now b) .vertices) × Joinable (graphOf (now b)) (now parents) ⌝ }
-    ensures { λ r. ⌜ RunJoined (graphOf (now (b .entry))) (now (c .entry)) from to start (now (parents .entry)) (now (parents .exit)) r ⌝ }
+    ensures { λ r. ⌜ RunJoined (graphOf (now (b .entry))) (now (c .entry)) from to start (now (parents .entry))
+        (now (parents .exit)) r ⌝ }
 {
     let home = stands_for(parents, start);
     let mut i = from;
@@ -49,7 +52,11 @@ fn run_joined(b: &[u8], c: &[u8], from: usize, to: usize, start: usize, parents:
 // Says whether tree j, whose entries are the run, has no loop and no edge that is not joined to its start.
 fn tree_right(b: &[u8], c: &[u8], j: usize, from: usize, to: usize, parents: &mut [u8]) -> bool
     requires { ⌜ TreeGiven (graphOf (now b)) (now c) j from to (now parents) ⌝ }
-    ensures { λ r. ⌜ TreeTold (graphOf (now (b .entry))) (record { start = startIn (now (c .entry)) j; edges = runEdges (now (c .entry)) from to })
+    ensures { λ r. ⌜ TreeTold (graphOf (now (b .entry))) (record {
+      start = startIn (now (c .entry)) j;
+      edges = runEdges
+          (now (c .entry)) from to;
+    })
         (now (parents .entry)) (now (parents .exit)) r ⌝ }
 {
     set_apart(parents);
@@ -62,7 +69,8 @@ fn tree_right(b: &[u8], c: &[u8], j: usize, from: usize, to: usize, parents: &mu
 // Says whether every tree is so. The parents are scratch.
 pub fn trees_right(b: &[u8], c: &[u8], parents: &mut [u8]) -> bool
     requires { ⌜ TreesGiven (graphOf (now b)) (now c) (now parents) ⌝ }
-    ensures { λ r. ⌜ TreesTold (graphOf (now (b .entry))) (decode (now (c .entry))) (now (parents .entry)) (now (parents .exit)) r ⌝ }
+    ensures { λ r. ⌜ TreesTold (graphOf (now (b .entry))) (decode (now (c .entry))) (now (parents .entry))
+        (now (parents .exit)) r ⌝ }
 {
     let t = trees_in(c);
     let mut from = 0;

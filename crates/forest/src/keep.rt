@@ -20,11 +20,12 @@ pub fn join_ends(b: &[u8], e: usize, label: &mut [u16]) -> bool
     true
 }
 
-// "Take lines .. and keep each whose ends are not yet joined": the edges in the order given, from the labels given. Says how many are
-// kept: fewer than there are vertices, however many edges are given.
+// "Take lines .. and keep each whose ends are not yet joined": the edges in the order given, from the labels given.
+// Says how many are kept: fewer than there are vertices, however many edges are given.
 pub fn keep_edges(b: &[u8], edges: &[u16], label: &mut [u16], kept: &mut [u16]) -> usize
     requires { ⌜ Keepable (graphOf (now b)) (now label) (now kept) ⌝ }
-    ensures { λ r. ⌜ KeptWritten (graphOf (now (b .entry))) (now (edges .entry)) (now (label .entry)) (now (label .exit)) (now (kept .entry)) (now (kept .exit)) r ⌝ }
+    ensures { λ r. ⌜ KeptWritten (graphOf (now (b .entry))) (now (edges .entry)) (now (label .entry))
+        (now (label .exit)) (now (kept .entry)) (now (kept .exit)) r ⌝ }
 {
     let mut r = 0;
     let mut i = 0;

@@ -34,7 +34,8 @@ fn first_label(roots: &[u16], v: usize) -> u16
     v as u16
 }
 
-// The labels at the start: all roots ("yards") are joined, and every other vertex is apart. With no roots all are apart.
+// The labels at the start: all roots ("yards") are joined, and every other vertex is apart. With no roots all are
+// apart.
 pub fn start_labels(roots: &[u16], n: usize, label: &mut [u16])
     requires { ⌜ (n ≤ 65536) × (n ≤ length (now label)) ⌝ }
     ensures { λ _. ⌜ Started (now (roots .entry)) n (now (label .entry)) (now (label .exit)) ⌝ }

@@ -1,4 +1,5 @@
-// Fields of several bytes, lowest byte first, written one behind the other. Each function answers with the place behind what it wrote.
+// Fields of several bytes, lowest byte first, written one behind the other. Each function answers with the place behind
+// what it wrote.
 ghost use Prim.Native.Nat.{_+_, _*_, _≤_};
 ghost use lib.ListN.{length};
 ghost use Rattle.lists.specs.Put.{PutTo};

@@ -1,4 +1,5 @@
-// The text of replies in which the rules leave a choice: only what they fix, and whether the check of a filed cover says yes to what was written.
+// The text of replies in which the rules leave a choice: only what they fix, and whether the check of a filed cover
+// says yes to what was written.
 use admit::crews::Kind;
 use cover::read::cover_length;
 use filed::check::Verdict;
@@ -67,7 +68,8 @@ pub fn write_fixed(
     out: &mut [u8],
 ) -> usize
     requires { ⌜ TextAsked (graphOf (now b)) reply (now buf) (length (now out)) ⌝ }
-    ensures { λ r. ⌜ FixedWritten (asks kind k (now (b .entry))) reply (now (buf .entry)) (now (out .entry)) (now (out .exit)) r ⌝ }
+    ensures { λ r. ⌜ FixedWritten (asks kind k (now (b .entry))) reply (now (buf .entry)) (now (out .entry))
+        (now (out .exit)) r ⌝ }
 {
     match reply {
         Reply::Cover(limit, heaviest, t) => {

@@ -1,4 +1,5 @@
-// A reply in full, as bytes: its number, its values, what was written to the buffer, and whether the buffer is otherwise as it came.
+// A reply in full, as bytes: its number, its values, what was written to the buffer, and whether the buffer is
+// otherwise as it came.
 use crate::fields::put_field;
 use crate::fields::put_values;
 use cover::read::cover_length;
@@ -108,10 +109,12 @@ fn number_of(is: bool) -> u64
     if is { 1 } else { 0 }
 }
 
-// The reply in full, as the first bytes: what it says, the front of its buffer, which it wrote, and whether the rest of that is as it came.
+// The reply in full, as the first bytes: what it says, the front of its buffer, which it wrote, and whether the rest of
+// that is as it came.
 fn write_front(reply: Reply, front: &[u8], rest: &[u8], out: &mut [u8]) -> usize
     requires { ⌜ 33 + length (now front) ≤ length (now out) ⌝ }
-    ensures { λ r. ⌜ PutTo 0 (fullOf (says reply) (now (front .entry)) (now (rest .entry))) (now (out .entry)) (now (out .exit)) r ⌝ }
+    ensures { λ r. ⌜ PutTo 0 (fullOf (says reply) (now (front .entry)) (now (rest .entry))) (now (out .entry))
+        (now (out .exit)) r ⌝ }
 {
     let behind_said = put_said(reply, out);
     let behind_length = put_field(4, front.len() as u64, out, behind_said);

@@ -1,6 +1,6 @@
-// The graph's bytes (document 01: a "sheet"): readers of its fields. The check of the bytes stands in the crate `graph_check`.
-// Everything is read from the caller's own bytes, and every public function of this file but `u16_within` takes any bytes. Edges are read through
-// a view.
+// The graph's bytes (document 01: a "sheet"): readers of its fields. The check of the bytes stands in the crate
+// `graph_check`. Everything is read from the caller's own bytes, and every public function of this file but
+// `u16_within` takes any bytes. Edges are read through a view.
 // The words of the contracts stand in specs/: `graphOf` is the graph that the bytes spell.
 pub mod view;
 
@@ -108,7 +108,8 @@ pub(crate) fn weight_at(b: &[u8], m: usize, e: usize) -> u64
     }
 }
 
-// One end of edge e; 0 past the last edge. Who has the counts at hand calls the reader of `view`, which does not count again.
+// One end of edge e; 0 past the last edge. Who has the counts at hand calls the reader of `view`, which does not count
+// again.
 pub fn one_end(b: &[u8], e: usize) -> usize
     ensures { λ r. ⌜ Reads (oneEnd (graphOf (now (b .entry))) e) (2 ^ 16) r ⌝ }
 {

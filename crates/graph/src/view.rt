@@ -1,5 +1,6 @@
-// A view of a graph's bytes: the caller's own bytes and the two counts, so that an edge is read without counting the edges again.
-// No byte is copied. A function whose parameters are plain makes the view and reads through it: whoever calls it sees no view.
+// A view of a graph's bytes: the caller's own bytes and the two counts, so that an edge is read without counting the
+// edges again. No byte is copied. A function whose parameters are plain makes the view and reads through it: whoever
+// calls it sees no view.
 ghost use Prim.Native.Nat.{_^_};
 ghost use Rattle.graph.specs.Graph.{oneEnd, otherEnd, weightOf};
 ghost use Rattle.graph.specs.Bytes.{graphOf, Reads};

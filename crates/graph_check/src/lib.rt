@@ -1,5 +1,5 @@
-// The check of a graph's bytes (document 01: a "sheet") with 11 to 16: whether they are a graph's, and what is wrong with them otherwise.
-// It takes any bytes. The words of the contracts stand in specs/: `checkOf` is the check.
+// The check of a graph's bytes (document 01: a "sheet") with 11 to 16: whether they are a graph's, and what is wrong
+// with them otherwise. It takes any bytes. The words of the contracts stand in specs/: `checkOf` is the check.
 use graph::view;
 ghost use mathlib.Core.Path.{_≡_};
 ghost use Rattle.graph.specs.Bytes.{graphOf};

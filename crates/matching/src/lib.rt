@@ -1,8 +1,9 @@
 // The assignment of parts to roots, alone, and the set of parts that admits none (document 01, step 5).
 //
 // `assign` is all that another program calls. Its promise stands in `specs/Promise.antt`, its words in
-// `specs/Assignment.antt`, `Assignable.antt` and `Input.antt`, and in `Put` of `lists`. The method is that of augmenting paths, one part after the other: `path` finds a path and
-// exchanges along it, and `deficient` marks the parts that were reached where there is none. No more than y + 1 parts are
+// `specs/Assignment.antt`, `Assignable.antt` and `Input.antt`, and in `Put` of `lists`. The method is that of
+// augmenting paths, one part after the other: `path` finds a path and exchanges along it, and `deficient` marks the
+// parts that were reached where there is none. No more than y + 1 parts are
 // tried, since no more than y can have a root, each by a search of at most (y + 1) · (y + 1) turns.
 mod deficient;
 mod input;
@@ -32,7 +33,8 @@ fn place(
     out: &mut [u8],
 ) -> bool
     requires { ⌜ Ready p y i (now allowed) (now owner) (now out) ⌝ }
-    ensures { λ r. ⌜ Placed p y i (now (allowed .entry)) r (now (owner .entry)) (now (owner .exit)) (now (out .entry)) (now (out .exit)) ⌝ }
+    ensures { λ r. ⌜ Placed p y i (now (allowed .entry)) r (now (owner .entry)) (now (owner .exit)) (now (out .entry))
+        (now (out .exit)) ⌝ }
 {
     let mut parts = [0usize; 33];
     let mut via = [0usize; 33];

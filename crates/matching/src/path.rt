@@ -26,7 +26,8 @@ pub fn find(
     from: &mut [usize; 32],
 ) -> Found
     requires { ⌜ Searchable y i (now allowed) (now owner) (now parts) (now via) (now from) ⌝ }
-    ensures { λ r. ⌜ SearchEnded y (allowedAt (now (allowed .entry)) y) i (now (owner .entry)) r (now (parts .entry)) (now (parts .exit))
+    ensures { λ r. ⌜ SearchEnded y (allowedAt (now (allowed .entry)) y) i (now (owner .entry)) r (now (parts .entry))
+        (now (parts .exit))
         (now (via .entry)) (now (via .exit)) (now (from .entry)) (now (from .exit)) ⌝ }
 {
     parts[0] = i;
@@ -72,7 +73,8 @@ pub fn exchange(
     out: &mut [u8],
 )
     requires { ⌜ Exchangeable i j (now parts) (now via) (now from) (now owner) (now out) ⌝ }
-    ensures { λ _. ⌜ Exchanged i (now (parts .entry)) (now (from .entry)) (now (out .entry)) (now (owner .exit)) (now (out .exit)) ⌝ }
+    ensures { λ _. ⌜ Exchanged i (now (parts .entry)) (now (from .entry)) (now (out .entry)) (now (owner .exit))
+        (now (out .exit)) ⌝ }
 {
     let mut root = j;
     let mut place = from[j];

@@ -1,5 +1,5 @@
-// The roots near each of several trees that three arrays hold, by those near each vertex. So an answer, which has its parts split, marks the roots
-// near them.
+// The roots near each of several trees that three arrays hold, by those near each vertex. So an answer, which has its
+// parts split, marks the roots near them.
 use cover::index::edges_at;
 use cover::index::number_at;
 use edges::index::wide;
@@ -34,8 +34,10 @@ pub fn near_pieces(
     places: &[u16],
     words: &mut [u32],
 )
-    requires { ⌜ NearPiecesAsked (graphOf (now b)) (now near) (now starts) (now cuts) (now members) (now places) (now words) ⌝ }
-    ensures { λ _. ⌜ NearPieces (graphOf (now (b .entry))) (now (near .entry)) (now (starts .entry)) (now (cuts .entry)) (now (members .entry)) (now (places .entry))
+    requires { ⌜ NearPiecesAsked (graphOf (now b)) (now near) (now starts) (now cuts) (now members) (now places)
+        (now words) ⌝ }
+    ensures { λ _. ⌜ NearPieces (graphOf (now (b .entry))) (now (near .entry)) (now (starts .entry)) (now (cuts .entry))
+        (now (members .entry)) (now (places .entry))
         (now (words .entry)) (now (words .exit)) ⌝ }
 {
     let mut i = 0;

@@ -1,5 +1,5 @@
-// The roots within the limit of each vertex, by the table of distances: that of vertex v from root j of n vertices stands at j * n + v.
-// So one root's bit is added for all vertices side by side, from the last root to the first.
+// The roots within the limit of each vertex, by the table of distances: that of vertex v from root j of n vertices
+// stands at j * n + v. So one root's bit is added for all vertices side by side, from the last root to the first.
 ghost use mathlib.Core.Bool.{cond};
 ghost use mathlib.Core.Path.{_≡_};
 ghost use lib.Dec.{leb};
@@ -12,7 +12,8 @@ fn within(distance: u32, limit: u32) -> u32
     if distance <= limit { 1 } else { 0 }
 }
 
-// One root more, by its row of distances: the bits of each vertex's word go up by one, and the first says whether this root is within the limit.
+// One root more, by its row of distances: the bits of each vertex's word go up by one, and the first says whether this
+// root is within the limit.
 fn add_root(row: &[u32], limit: u32, near: &mut [u32])
     requires { ⌜ RootAsked (now row) (now near) ⌝ }
     ensures { λ _. ⌜ RootAdded limit (now (row .entry)) (now (near .entry)) (now (near .exit)) ⌝ }

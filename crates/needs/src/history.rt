@@ -1,7 +1,8 @@
-// The history of merges of the whole forest's edges, recorded once a question: at any limit one pass over it tells how many trees the components need
-// (document 01, step 7), so that no edge is read or merged again for this.
-// Merges are numbered from 1 in the order of the edges. Of merge i, total[i] is the weight of the tree that it completes, and until[i] the number of
-// the merge that takes this tree up, or 256 where none does. Number 0 stands for "no merge yet": a tree without edges, which weighs 0.
+// The history of merges of the whole forest's edges, recorded once a question: at any limit one pass over it tells how
+// many trees the components need (document 01, step 7), so that no edge is read or merged again for this.
+// Merges are numbered from 1 in the order of the edges. Of merge i, total[i] is the weight of the tree that it
+// completes, and until[i] the number of the merge that takes this tree up, or 256 where none does. Number 0 stands for
+// "no merge yet": a tree without edges, which weighs 0.
 use edges::index::wide;
 use forest::keep::join_ends;
 use forest::labels::start_labels;
@@ -23,7 +24,8 @@ fn note_merge(
     until: &mut [u16],
 )
     requires { ⌜ NoteAsked a c weight number (now made) (now total) (now until) ⌝ }
-    ensures { λ _. ⌜ MergeNoted a c weight number (now (made .entry)) (now (made .exit)) (now (total .entry)) (now (total .exit)) (now (until .entry)) (now (until .exit)) ⌝ }
+    ensures { λ _. ⌜ MergeNoted a c weight number (now (made .entry)) (now (made .exit)) (now (total .entry))
+        (now (total .exit)) (now (until .entry)) (now (until .exit)) ⌝ }
 {
     let one = wide(made[a]);
     let other = wide(made[c]);
@@ -45,7 +47,8 @@ fn merge_edge(
     until: &mut [u16],
 )
     requires { ⌜ EdgeAsked (graphOf (now b)) e number (now label) (now made) (now total) (now until) ⌝ }
-    ensures { λ _. ⌜ EdgeMerged (graphOf (now (b .entry))) e number (now (label .entry)) (now (label .exit)) (now (made .entry)) (now (made .exit))
+    ensures { λ _. ⌜ EdgeMerged (graphOf (now (b .entry))) e number (now (label .entry)) (now (label .exit))
+        (now (made .entry)) (now (made .exit))
         (now (total .entry)) (now (total .exit)) (now (until .entry)) (now (until .exit)) ⌝ }
 {
     let a = wide(label[graph::one_end(b, e)]);
@@ -64,7 +67,8 @@ fn merge_all(
     until: &mut [u16],
 )
     requires { ⌜ MergesAsked (graphOf (now b)) (now kept) (now label) (now made) (now total) (now until) ⌝ }
-    ensures { λ _. ⌜ AllMerged (graphOf (now (b .entry))) (now (kept .entry)) (now (label .entry)) (now (label .exit)) (now (made .entry)) (now (made .exit))
+    ensures { λ _. ⌜ AllMerged (graphOf (now (b .entry))) (now (kept .entry)) (now (label .entry)) (now (label .exit))
+        (now (made .entry)) (now (made .exit))
         (now (total .entry)) (now (total .exit)) (now (until .entry)) (now (until .exit)) ⌝ }
 {
     let mut i = 0;
@@ -77,7 +81,8 @@ fn merge_all(
 // The history of the whole forest, where no vertex is a root.
 pub fn record_merges(b: &[u8], kept: &[u16], total: &mut [u64], until: &mut [u16])
     requires { ⌜ HistoryAsked (graphOf (now b)) (now kept) (now total) (now until) ⌝ }
-    ensures { λ _. ⌜ HistoryWritten (graphOf (now (b .entry))) (now (kept .entry)) (now (total .entry)) (now (total .exit)) (now (until .entry)) (now (until .exit)) ⌝ }
+    ensures { λ _. ⌜ HistoryWritten (graphOf (now (b .entry))) (now (kept .entry)) (now (total .entry))
+        (now (total .exit)) (now (until .entry)) (now (until .exit)) ⌝ }
 {
     let mut label = [0u16; 256];
     let mut made = [0u16; 256];
@@ -86,8 +91,8 @@ pub fn record_merges(b: &[u8], kept: &[u16], total: &mut [u64], until: &mut [u16
     merge_all(b, kept, &mut label, &mut made, total, until);
 }
 
-// What the tree of a merge needs besides its component's first tree, where it is there after `light` merges: one for each 2 B that it weighs. Halving
-// last, so that no limit is too large.
+// What the tree of a merge needs besides its component's first tree, where it is there after `light` merges: one for
+// each 2 B that it weighs. Halving last, so that no limit is too large.
 fn more_needs(weight: u64, until: u16, light: usize, limit: u64) -> u64
     ensures { λ r. ⌜ r ≡ cond (ltb light until) (weight / (2 * limit)) 0 ⌝ }
 {
@@ -100,7 +105,8 @@ fn more_needs(weight: u64, until: u16, light: usize, limit: u64) -> u64
     weight / limit / 2
 }
 
-// "The sum C" at a limit within which the first `light` edges of the whole forest are: each of them left one component fewer.
+// "The sum C" at a limit within which the first `light` edges of the whole forest are: each of them left one component
+// fewer.
 pub fn needed_by_history(n: usize, total: &[u64], until: &[u16], light: usize, limit: u64) -> u64
     requires { ⌜ ReadAsked n (now total) (now until) light ⌝ }
     ensures { λ r. ⌜ r ≡ neededBy n (now (total .entry)) (now (until .entry)) light limit ⌝ }

@@ -4,10 +4,12 @@ use pieces::whole::label_edges;
 ghost use Rattle.graph.specs.Bytes.{graphOf};
 ghost use Rattle.needs.specs.Roots.{RootsAsked, RootsWritten};
 
-// The lowest vertex of each component that the edges make, rising, written to the front of the array. Says how many components there are.
+// The lowest vertex of each component that the edges make, rising, written to the front of the array. Says how many
+// components there are.
 pub fn component_roots(b: &[u8], edges: &[u16], roots: &mut [u16]) -> usize
     requires { ⌜ RootsAsked (graphOf (now b)) (now roots) ⌝ }
-    ensures { λ r. ⌜ RootsWritten (graphOf (now (b .entry))) (now (edges .entry)) (now (roots .entry)) (now (roots .exit)) r ⌝ }
+    ensures { λ r. ⌜ RootsWritten (graphOf (now (b .entry))) (now (edges .entry)) (now (roots .entry))
+        (now (roots .exit)) r ⌝ }
 {
     let mut label = [0u16; 256];
     label_edges(b, &[], edges, &mut label);

@@ -1,5 +1,5 @@
-// The forest of the whole graph and the labels that edges make (document 01, steps 1 and 2). One forest serves all limits of a question: at a
-// limit it is the whole forest's edges within the limit.
+// The forest of the whole graph and the labels that edges make (document 01, steps 1 and 2). One forest serves all
+// limits of a question: at a limit it is the whole forest's edges within the limit.
 use edges::index::wide;
 use edges::light::light_count;
 use forest::keep::join_ends;
@@ -14,7 +14,8 @@ ghost use Rattle.pieces.specs.Whole.{AllJoined, EdgesLabelled, StopAsked
 // Joins the ends of each edge, one edge after the other, from the labels given.
 fn join_all(b: &[u8], edges: &[u16], label: &mut [u16])
     requires { ⌜ Labelable (graphOf (now b)) (now label) ⌝ }
-    ensures { λ _. ⌜ AllJoined (graphOf (now (b .entry))) (now (edges .entry)) (now (label .entry)) (now (label .exit)) ⌝ }
+    ensures { λ _. ⌜ AllJoined (graphOf (now (b .entry))) (now (edges .entry)) (now (label .entry)) (now (label .exit))
+        ⌝ }
 {
     let mut i = 0;
     while i < edges.len() {
@@ -26,7 +27,8 @@ fn join_all(b: &[u8], edges: &[u16], label: &mut [u16])
 // The labels that the edges make, where all roots ("yards") are joined from the start.
 pub fn label_edges(b: &[u8], roots: &[u16], edges: &[u16], label: &mut [u16])
     requires { ⌜ Labelable (graphOf (now b)) (now label) ⌝ }
-    ensures { λ _. ⌜ EdgesLabelled (graphOf (now (b .entry))) (now (roots .entry)) (now (edges .entry)) (now (label .entry)) (now (label .exit)) ⌝ }
+    ensures { λ _. ⌜ EdgesLabelled (graphOf (now (b .entry))) (now (roots .entry)) (now (edges .entry))
+        (now (label .entry)) (now (label .exit)) ⌝ }
 {
     start_labels(roots, graph::vertex_count(b), label);
     join_all(b, edges, label);
@@ -35,7 +37,8 @@ pub fn label_edges(b: &[u8], roots: &[u16], edges: &[u16], label: &mut [u16])
 // The lowest vertex that the edges join to no root ("stop v"), if there is one. The labels are scratch.
 pub fn stop_at(b: &[u8], roots: &[u16], edges: &[u16], label: &mut [u16]) -> Found
     requires { ⌜ StopAsked (graphOf (now b)) (now roots) (now label) ⌝ }
-    ensures { λ r. ⌜ StopFound (graphOf (now (b .entry))) (now (roots .entry)) (now (edges .entry)) (now (label .entry)) (now (label .exit)) r ⌝ }
+    ensures { λ r. ⌜ StopFound (graphOf (now (b .entry))) (now (roots .entry)) (now (edges .entry)) (now (label .entry))
+        (now (label .exit)) r ⌝ }
 {
     label_edges(b, roots, edges, label);
     lowest_unjoined(label, graph::vertex_count(b), wide(roots[0]))
@@ -50,7 +53,8 @@ pub fn keep_whole(
     kept: &mut [u16],
 ) -> usize
     requires { ⌜ WholeAsked (graphOf (now b)) (now order) (now label) (now kept) ⌝ }
-    ensures { λ r. ⌜ WholeForest (graphOf (now (b .entry))) (now (roots .entry)) (now (label .entry)) (now (label .exit)) (now (kept .entry)) (now (kept .exit)) r ⌝ }
+    ensures { λ r. ⌜ WholeForest (graphOf (now (b .entry))) (now (roots .entry)) (now (label .entry))
+        (now (label .exit)) (now (kept .entry)) (now (kept .exit)) r ⌝ }
 {
     start_labels(roots, graph::vertex_count(b), label);
     keep_edges(b, order, label, kept)

@@ -1,4 +1,5 @@
-// The questions that a user asks, on any input: refused in document 01's order ("Who causes which number"), and otherwise answered.
+// The questions that a user asks, on any input: refused in document 01's order ("Who causes which number"), and
+// otherwise answered.
 use admit::Admitted;
 use admit::crews::Kind;
 use admit::refusal::LEAST_ROOM;
@@ -22,8 +23,8 @@ fn limit_right(asked: Asked) -> bool
     }
 }
 
-// Tests the question, with so much room for what is written. The asking stands apart, called by both questions: so the arrays of an answer
-// are in none of these frames, and a refusal takes next to no stack.
+// Tests the question, with so much room for what is written. The asking stands apart, called by both questions: so the
+// arrays of an answer are in none of these frames, and a refusal takes next to no stack.
 fn test(kind: Kind, k: usize, asked: Asked, b: &[u8], room: usize) -> Admitted
     ensures { λ r. ⌜ faultIn r ≡ faultOf asked (asks kind k (now (b .entry))) room ⌝ }
 {

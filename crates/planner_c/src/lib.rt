@@ -19,7 +19,8 @@ pub extern "C" fn planner_trial(
     values: &mut [u64; 3],
     buffer: &mut [u8],
 ) -> u32
-    ensures { λ r. ⌜ TrialExported (asks (kindOf kind) k (now (graph .entry))) limit (now (values .entry)) (now (values .exit)) (now (buffer .entry)) (now (buffer .exit)) r ⌝ }
+    ensures { λ r. ⌜ TrialExported (asks (kindOf kind) k (now (graph .entry))) limit (now (values .entry))
+        (now (values .exit)) (now (buffer .entry)) (now (buffer .exit)) r ⌝ }
 {
     let reply = planner::question::trial(kind_of(kind), k, limit, graph, buffer);
     put_values(reply, values);
@@ -35,7 +36,8 @@ pub extern "C" fn planner_best(
     values: &mut [u64; 3],
     buffer: &mut [u8],
 ) -> u32
-    ensures { λ r. ⌜ BestExported (asks (kindOf kind) k (now (graph .entry))) (now (values .entry)) (now (values .exit)) (now (buffer .entry)) (now (buffer .exit)) r ⌝ }
+    ensures { λ r. ⌜ BestExported (asks (kindOf kind) k (now (graph .entry))) (now (values .entry)) (now (values .exit))
+        (now (buffer .entry)) (now (buffer .exit)) r ⌝ }
 {
     let reply = planner::question::best(kind_of(kind), k, graph, buffer);
     put_values(reply, values);
@@ -51,7 +53,8 @@ pub extern "C" fn planner_check(
     cover: &[u8],
     values: &mut [u64; 3],
 ) -> u32
-    ensures { λ r. ⌜ CheckExported (asks (kindOf kind) k (now (graph .entry))) (now (cover .entry)) (now (values .entry)) (now (values .exit)) r ⌝ }
+    ensures { λ r. ⌜ CheckExported (asks (kindOf kind) k (now (graph .entry))) (now (cover .entry))
+        (now (values .entry)) (now (values .exit)) r ⌝ }
 {
     let verdict = filed::check::check_cover(kind_of(kind), k, graph, cover);
     put_heaviest(verdict, values);

@@ -1,5 +1,6 @@
-// What depends on the graph and the crews alone, prepared once a question: the edges in order and the whole forest; with roots the edges around each
-// vertex of it and the distances from all roots; without roots the history of its merges. Each kind prepares only what it reads.
+// What depends on the graph and the crews alone, prepared once a question: the edges in order and the whole forest;
+// with roots the edges around each vertex of it and the distances from all roots; without roots the history of its
+// merges. Each kind prepares only what it reads.
 // The words of the contracts stand in specs/ and in the definitions of the crate `rules`.
 use distance_table::table::fill_table;
 use edges::around::put_around;
@@ -28,8 +29,10 @@ fn keep_forest(
     order: &mut [u16],
     kept: &mut [u16],
 ) -> Ready
-    requires { ⌜ ForestAsked (graphOf (now b)) (length (now keys)) (length (now spare)) (length (now order)) (length (now kept)) ⌝ }
-    ensures { λ r. ⌜ ForestPrepared (graphOf (now (b .entry))) (now (roots .entry)) (now (keys .entry)) (now (keys .exit)) (now (spare .entry)) (now (spare .exit))
+    requires { ⌜ ForestAsked (graphOf (now b)) (length (now keys)) (length (now spare)) (length (now order))
+        (length (now kept)) ⌝ }
+    ensures { λ r. ⌜ ForestPrepared (graphOf (now (b .entry))) (now (roots .entry)) (now (keys .entry))
+        (now (keys .exit)) (now (spare .entry)) (now (spare .exit))
         (now (order .entry)) (now (order .exit)) (now (kept .entry)) (now (kept .exit)) r ⌝ }
 {
     let mut label = [0u16; 256];
@@ -38,8 +41,8 @@ fn keep_forest(
     Ready { edges, forest }
 }
 
-// The distances of all vertices from all roots, and the last edges, over all edges of the graph. The edges by number, the bounds and the arcs around
-// each vertex are scratch.
+// The distances of all vertices from all roots, and the last edges, over all edges of the graph. The edges by number,
+// the bounds and the arcs around each vertex are scratch.
 fn prepare_distances(
     b: &[u8],
     roots: &[u16],
@@ -49,8 +52,10 @@ fn prepare_distances(
     distances: &mut [u32],
     lasts: &mut [u32],
 )
-    requires { ⌜ DistancesAsked (graphOf (now b)) (now roots) (length (now numbers)) (length (now bounds)) (length (now all)) (length (now distances)) (length (now lasts)) ⌝ }
-    ensures { λ _. ⌜ DistancesPrepared (graphOf (now (b .entry))) (now (roots .entry)) (now (numbers .entry)) (now (numbers .exit))
+    requires { ⌜ DistancesAsked (graphOf (now b)) (now roots) (length (now numbers)) (length (now bounds))
+        (length (now all)) (length (now distances)) (length (now lasts)) ⌝ }
+    ensures { λ _. ⌜ DistancesPrepared (graphOf (now (b .entry))) (now (roots .entry)) (now (numbers .entry))
+        (now (numbers .exit))
         (now (bounds .entry)) (now (bounds .exit)) (now (all .entry)) (now (all .exit))
         (now (distances .entry)) (now (distances .exit)) (now (lasts .entry)) (now (lasts .exit)) ⌝ }
 {
@@ -61,8 +66,8 @@ fn prepare_distances(
     fill_table(n, bounds, all, roots, distances, lasts);
 }
 
-// Everything that crews with roots read. The distances come first, so that the arrays of their scratch serve again: the arcs over all edges become
-// the keys of the order, and the arcs over the forest are its spare before they are put.
+// Everything that crews with roots read. The distances come first, so that the arrays of their scratch serve again: the
+// arcs over all edges become the keys of the order, and the arcs over the forest are its spare before they are put.
 pub fn prepare_rooted(
     b: &[u8],
     roots: &[u16],
@@ -74,9 +79,12 @@ pub fn prepare_rooted(
     distances: &mut [u32],
     lasts: &mut [u32],
 ) -> Ready
-    requires { ⌜ RootedPreparable (graphOf (now b)) (now roots) (now order) (now kept) (now bounds) (now all) (now arcs) (now distances) (now lasts) ⌝ }
-    ensures { λ r. ⌜ RootedPrepared (graphOf (now (b .entry))) (now (roots .entry)) (now (order .entry)) (now (order .exit)) (now (kept .entry)) (now (kept .exit))
-        (now (bounds .entry)) (now (bounds .exit)) (now (all .entry)) (now (all .exit)) (now (arcs .entry)) (now (arcs .exit))
+    requires { ⌜ RootedPreparable (graphOf (now b)) (now roots) (now order) (now kept) (now bounds) (now all) (now arcs)
+        (now distances) (now lasts) ⌝ }
+    ensures { λ r. ⌜ RootedPrepared (graphOf (now (b .entry))) (now (roots .entry)) (now (order .entry))
+        (now (order .exit)) (now (kept .entry)) (now (kept .exit))
+        (now (bounds .entry)) (now (bounds .exit)) (now (all .entry)) (now (all .exit)) (now (arcs .entry))
+        (now (arcs .exit))
         (now (distances .entry)) (now (distances .exit)) (now (lasts .entry)) (now (lasts .exit)) r ⌝ }
 {
     prepare_distances(b, roots, order, bounds, all, distances, lasts);
@@ -95,8 +103,10 @@ pub fn prepare_unrooted(
     total: &mut [u64],
     until: &mut [u16],
 ) -> Ready
-    requires { ⌜ UnrootedPreparable (graphOf (now b)) (now keys) (now spare) (now order) (now kept) (now total) (now until) ⌝ }
-    ensures { λ r. ⌜ UnrootedPrepared (graphOf (now (b .entry))) (now (keys .entry)) (now (keys .exit)) (now (spare .entry)) (now (spare .exit))
+    requires { ⌜ UnrootedPreparable (graphOf (now b)) (now keys) (now spare) (now order) (now kept) (now total)
+        (now until) ⌝ }
+    ensures { λ r. ⌜ UnrootedPrepared (graphOf (now (b .entry))) (now (keys .entry)) (now (keys .exit))
+        (now (spare .entry)) (now (spare .exit))
         (now (order .entry)) (now (order .exit)) (now (kept .entry)) (now (kept .exit))
         (now (total .entry)) (now (total .exit)) (now (until .entry)) (now (until .exit)) r ⌝ }
 {

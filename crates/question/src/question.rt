@@ -33,7 +33,8 @@ fn unknown(input: &[u8]) -> bool
 
 // The reply to a known question on a graph's bytes: 1 rooted trial, 2 unrooted trial, 3 rooted best, 4 unrooted best.
 fn reply_to(asked: usize, k: usize, limit: u64, b: &[u8], buf: &mut [u8]) -> Reply
-    ensures { λ r. ⌜ KnownAnswered (isTrial asked) (question (kindIn asked) k (now (b .entry))) limit (now (buf .entry)) (now (buf .exit)) r ⌝ }
+    ensures { λ r. ⌜ KnownAnswered (isTrial asked) (question (kindIn asked) k (now (b .entry))) limit (now (buf .entry))
+        (now (buf .exit)) r ⌝ }
 {
     if asked == 1 {
         return trial(Kind::Rooted, k, limit, b, buf);
@@ -50,7 +51,8 @@ fn reply_to(asked: usize, k: usize, limit: u64, b: &[u8], buf: &mut [u8]) -> Rep
 // The text of the answer, with a buffer for the cover.
 fn answer_in(input: &[u8], buf: &mut [u8], out: &mut [u8]) -> usize
     requires { ⌜ TextRoom (length (now buf)) (length (now out)) ⌝ }
-    ensures { λ r. ⌜ TextAnsweredIn (now (input .entry)) (now (buf .entry)) (now (buf .exit)) (now (out .entry)) (now (out .exit)) r ⌝ }
+    ensures { λ r. ⌜ TextAnsweredIn (now (input .entry)) (now (buf .entry)) (now (buf .exit)) (now (out .entry))
+        (now (out .exit)) r ⌝ }
 {
     if unknown(input) {
         return write_refused(41, out);
@@ -63,8 +65,8 @@ fn answer_in(input: &[u8], buf: &mut [u8], out: &mut [u8]) -> usize
     write_reply(b, reply, buf, out)
 }
 
-// All that the program does: the text of the answer, as the first bytes of `out`. Says how many. Where `out` is too small for any text, below
-// 65,536 bytes, it is left as it came, and 0 is said.
+// All that the program does: the text of the answer, as the first bytes of `out`. Says how many. Where `out` is too
+// small for any text, below 65,536 bytes, it is left as it came, and 0 is said.
 pub fn answer(input: &[u8], out: &mut [u8]) -> usize
     ensures { λ r. ⌜ AnswerPromise (now (input .entry)) (now (out .entry)) (now (out .exit)) r ⌝ }
 {

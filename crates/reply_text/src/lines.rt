@@ -20,7 +20,8 @@ pub fn put_word(word: &[u8], out: &mut [u8], at: usize) -> usize
     next
 }
 
-// The decimal digits of a number, from a place on: those of its tenth, then the last. It calls itself once for each digit, 20 times at most.
+// The decimal digits of a number, from a place on: those of its tenth, then the last. It calls itself once for each
+// digit, 20 times at most.
 pub(crate) fn put_number(x: u64, out: &mut [u8], at: usize) -> usize
     requires { ⌜ at + length (digits x) ≤ length (now out) ⌝ }
     ensures { λ r. ⌜ PutTo at (digits x) (now (out .entry)) (now (out .exit)) r ⌝ }

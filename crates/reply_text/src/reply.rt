@@ -34,7 +34,8 @@ pub fn write_refused(number: u64, out: &mut [u8]) -> usize
 // `too low parts` T `yards` D.
 fn write_parts(parts: u64, roots: u64, out: &mut [u8]) -> usize
     requires { ⌜ 62 ≤ length (now out) ⌝ }
-    ensures { λ r. ⌜ PutTo 0 (bytesOf "too low parts" ++ (spaced parts ++ line " yards" (roots ∷ []))) (now (out .entry)) (now (out .exit)) r ⌝ }
+    ensures { λ r. ⌜ PutTo 0 (bytesOf "too low parts" ++ (spaced parts ++ line " yards" (roots ∷ [])))
+        (now (out .entry)) (now (out .exit)) r ⌝ }
 {
     let behind_word = put_word(b"too low parts", out, 0);
     let behind_parts = put_spaced(parts, out, behind_word);
@@ -44,7 +45,8 @@ fn write_parts(parts: u64, roots: u64, out: &mut [u8]) -> usize
 // `cover` limit heaviest t, at most 69 bytes, then the lines of the trees.
 fn write_cover(b: &[u8], limit: u64, heaviest: u64, t: u64, c: &[u8], out: &mut [u8]) -> usize
     requires { ⌜ TreesAsked (graphOf (now b)) (now c) 69 (length (now out)) ⌝ }
-    ensures { λ r. ⌜ PutTo 0 (coverText (graphOf (now (b .entry))) limit heaviest t (now (c .entry))) (now (out .entry)) (now (out .exit)) r ⌝ }
+    ensures { λ r. ⌜ PutTo 0 (coverText (graphOf (now (b .entry))) limit heaviest t (now (c .entry))) (now (out .entry))
+        (now (out .exit)) r ⌝ }
 {
     let behind_word = put_word(b"cover", out, 0);
     let behind_limit = put_spaced(limit, out, behind_word);
@@ -56,7 +58,8 @@ fn write_cover(b: &[u8], limit: u64, heaviest: u64, t: u64, c: &[u8], out: &mut 
 // The text of a reply, as the first bytes of `out`. Says how many. A cover's trees are read from the buffer.
 pub fn write_reply(b: &[u8], reply: Reply, buf: &[u8], out: &mut [u8]) -> usize
     requires { ⌜ TextAsked (graphOf (now b)) reply (now buf) (length (now out)) ⌝ }
-    ensures { λ r. ⌜ TextWritten (graphOf (now (b .entry))) reply (now (buf .entry)) (now (out .entry)) (now (out .exit)) r ⌝ }
+    ensures { λ r. ⌜ TextWritten (graphOf (now (b .entry))) reply (now (buf .entry)) (now (out .entry))
+        (now (out .exit)) r ⌝ }
 {
     match reply {
         Reply::Refused(f) => {

@@ -1,5 +1,5 @@
-// The lines of a cover's trees (document 01: "per tree `tree` start weight and its lines"), from the bytes of the cover. The entries of one
-// tree stand side by side, so that one walk through the entries serves all trees.
+// The lines of a cover's trees (document 01: "per tree `tree` start weight and its lines"), from the bytes of the
+// cover. The entries of one tree stand side by side, so that one walk through the entries serves all trees.
 use crate::lines::put_spaced;
 use crate::lines::put_word;
 use cover::heaviest::run_weight;
@@ -42,7 +42,8 @@ fn put_tree(
     at: usize,
 ) -> usize
     requires { ⌜ TreeTextAsked (graphOf (now b)) (now c) j from to at (length (now out)) ⌝ }
-    ensures { λ r. ⌜ PutTo at (treeLine (graphOf (now (b .entry))) (runTree (now (c .entry)) j from to)) (now (out .entry)) (now (out .exit)) r ⌝ }
+    ensures { λ r. ⌜ PutTo at (treeLine (graphOf (now (b .entry))) (runTree (now (c .entry)) j from to))
+        (now (out .entry)) (now (out .exit)) r ⌝ }
 {
     let weight = run_weight(b, c, from, to);
     let behind_word = put_word(b"tree", out, at);
@@ -55,7 +56,8 @@ fn put_tree(
 // The lines of all trees of a cover, from a place on.
 pub(crate) fn put_trees(b: &[u8], c: &[u8], out: &mut [u8], at: usize) -> usize
     requires { ⌜ TreesAsked (graphOf (now b)) (now c) at (length (now out)) ⌝ }
-    ensures { λ r. ⌜ PutTo at (treeLines (graphOf (now (b .entry))) (decode (now (c .entry)))) (now (out .entry)) (now (out .exit)) r ⌝ }
+    ensures { λ r. ⌜ PutTo at (treeLines (graphOf (now (b .entry))) (decode (now (c .entry)))) (now (out .entry))
+        (now (out .exit)) r ⌝ }
 {
     let t = trees_in(c);
     let mut next = at;

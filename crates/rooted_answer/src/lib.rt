@@ -1,5 +1,6 @@
-// The answer of a trial by crews with roots at a limit (document 01, a "yard" trial, steps 2 to 6), over what is prepared once a question. Its parts
-// stand in the crate `rooted_parts`, its cover in `rooted_cover`, and those of a set without an assignment in `deficient`.
+// The answer of a trial by crews with roots at a limit (document 01, a "yard" trial, steps 2 to 6), over what is
+// prepared once a question. Its parts stand in the crate `rooted_parts`, its cover in `rooted_cover`, and those of a
+// set without an assignment in `deficient`.
 // The words of the contracts stand in specs/ and in the definitions of the crate `rules`.
 use deficient::reply_deficient;
 use forest::lowest::Found;
@@ -36,9 +37,11 @@ fn answer_placed(
     buf: &mut [u8],
 ) -> Reply
     requires { ⌜ PlacedGiven (graphOf (now b)) (now roots) limit (now order) (now distances) (now lasts)
-        (trialArrays (now starts) (now cuts) (now members) (now lefts) (now places) (now rows) (now assignment)) (placed .parts) (placed .assigned)
+        (trialArrays (now starts) (now cuts) (now members) (now lefts) (now places) (now rows) (now assignment))
+        (placed .parts) (placed .assigned)
         (length (now edges)) (length (now buf)) ⌝ }
-    ensures { λ r. ⌜ PlacedReplied (graphOf (now (b .entry))) (now (roots .entry)) limit (now (edges .entry)) (now (edges .exit)) (now (buf .entry)) (now (buf .exit)) r ⌝ }
+    ensures { λ r. ⌜ PlacedReplied (graphOf (now (b .entry))) (now (roots .entry)) limit (now (edges .entry))
+        (now (edges .exit)) (now (buf .entry)) (now (buf .exit)) r ⌝ }
 {
     let k = roots.len();
     if placed.assigned {
@@ -60,7 +63,17 @@ fn answer_placed(
         );
         return Reply::Cover(limit, heaviest, k);
     }
-    reply_deficient(starts, cuts, members, places, placed.parts, rows, assignment, k, buf)
+    reply_deficient(
+        starts,
+        cuts,
+        members,
+        places,
+        placed.parts,
+        rows,
+        assignment,
+        k,
+        buf,
+    )
 }
 
 // The answer where every vertex is joined to a root.
@@ -77,9 +90,11 @@ fn answer_parts(
     edges: &mut [u16],
     buf: &mut [u8],
 ) -> Reply
-    requires { ⌜ JoinedLent (graphOf (now b)) (now roots) limit (now order) (now bounds) (now arcs) (now distances) (now lasts) (now rows) (length (now edges))
+    requires { ⌜ JoinedLent (graphOf (now b)) (now roots) limit (now order) (now bounds) (now arcs) (now distances)
+        (now lasts) (now rows) (length (now edges))
         (length (now buf)) ⌝ }
-    ensures { λ r. ⌜ JoinedReplied (graphOf (now (b .entry))) (now (roots .entry)) limit (now (rows .entry)) (now (rows .exit)) (now (edges .entry)) (now (edges .exit))
+    ensures { λ r. ⌜ JoinedReplied (graphOf (now (b .entry))) (now (roots .entry)) limit (now (rows .entry))
+        (now (rows .exit)) (now (edges .entry)) (now (edges .exit))
         (now (buf .entry)) (now (buf .exit)) r ⌝ }
 {
     let mut starts = [0u16; 288];
@@ -135,8 +150,10 @@ fn answer_small(
     lasts: &[u32],
     buf: &mut [u8],
 ) -> Reply
-    requires { ⌜ JoinedSmall (graphOf (now b)) (now roots) limit (now order) (now bounds) (now arcs) (now distances) (now lasts) (length (now buf)) ⌝ }
-    ensures { λ r. ⌜ Answers (graphOf (now (b .entry))) (rooted (now (roots .entry))) limit (now (buf .entry)) (now (buf .exit)) r ⌝ }
+    requires { ⌜ JoinedSmall (graphOf (now b)) (now roots) limit (now order) (now bounds) (now arcs) (now distances)
+        (now lasts) (length (now buf)) ⌝ }
+    ensures { λ r. ⌜ Answers (graphOf (now (b .entry))) (rooted (now (roots .entry))) limit (now (buf .entry))
+        (now (buf .exit)) r ⌝ }
 {
     let mut rows = [0u8; 512];
     let mut edges = [0u16; 512];
@@ -167,8 +184,10 @@ fn answer_full(
     lasts: &[u32],
     buf: &mut [u8],
 ) -> Reply
-    requires { ⌜ JoinedAsked (graphOf (now b)) (now roots) limit (now order) (now bounds) (now arcs) (now distances) (now lasts) (length (now buf)) ⌝ }
-    ensures { λ r. ⌜ Answers (graphOf (now (b .entry))) (rooted (now (roots .entry))) limit (now (buf .entry)) (now (buf .exit)) r ⌝ }
+    requires { ⌜ JoinedAsked (graphOf (now b)) (now roots) limit (now order) (now bounds) (now arcs) (now distances)
+        (now lasts) (length (now buf)) ⌝ }
+    ensures { λ r. ⌜ Answers (graphOf (now (b .entry))) (rooted (now (roots .entry))) limit (now (buf .entry))
+        (now (buf .exit)) r ⌝ }
 {
     let mut rows = [0u8; 8192];
     let mut edges = [0u16; 8192];
@@ -187,7 +206,8 @@ fn answer_full(
     )
 }
 
-// The answer at a limit. Its arrays are small where that is enough, since setting them to zero is much of what an answer about a small graph costs.
+// The answer at a limit. Its arrays are small where that is enough, since setting them to zero is much of what an
+// answer about a small graph costs.
 pub fn answer_rooted(
     b: &[u8],
     roots: &[u16],
@@ -200,8 +220,10 @@ pub fn answer_rooted(
     lasts: &[u32],
     buf: &mut [u8],
 ) -> Reply
-    requires { ⌜ RootedAnswerAsked (graphOf (now b)) (now roots) limit (now order) (now kept) (now bounds) (now arcs) (now distances) (now lasts) (length (now buf)) ⌝ }
-    ensures { λ r. ⌜ Answers (graphOf (now (b .entry))) (rooted (now (roots .entry))) limit (now (buf .entry)) (now (buf .exit)) r ⌝ }
+    requires { ⌜ RootedAnswerAsked (graphOf (now b)) (now roots) limit (now order) (now kept) (now bounds) (now arcs)
+        (now distances) (now lasts) (length (now buf)) ⌝ }
+    ensures { λ r. ⌜ Answers (graphOf (now (b .entry))) (rooted (now (roots .entry))) limit (now (buf .entry))
+        (now (buf .exit)) r ⌝ }
 {
     let light = light_forest(b, kept, limit);
     let mut label = [0u16; 256];

@@ -1,4 +1,5 @@
-// The trees of an accepted rooted trial (document 01, step 6), made root by root, laid one after the other, and written as a cover's bytes.
+// The trees of an accepted rooted trial (document 01, step 6), made root by root, laid one after the other, and written
+// as a cover's bytes.
 use crate::tree::rooted_tree;
 use cover::heaviest::heaviest_chosen;
 use cover::index::number_at;
@@ -27,10 +28,13 @@ fn put_tree(
     edges: &mut [u16],
     at: usize,
 ) -> usize
-    requires { ⌜ TreeGivenAt (graphOf (now b)) (now order) (now distances) (now lasts) (now roots) (arraysOf (now starts) (now cuts) (now members) (now lefts) (now places)) (now assignment) j at
+    requires { ⌜ TreeGivenAt (graphOf (now b)) (now order) (now distances) (now lasts) (now roots)
+        (arraysOf (now starts) (now cuts) (now members) (now lefts) (now places)) (now assignment) j at
         (length (now edges)) ⌝ }
-    ensures { λ r. ⌜ TreePut (graphOf (now (b .entry))) (now (distances .entry)) (now (lasts .entry)) (now (roots .entry)) (arraysOf
-        (now (starts .entry)) (now (cuts .entry)) (now (members .entry)) (now (lefts .entry)) (now (places .entry))) (now (assignment .entry)) j at (now (edges .entry)) (now (edges .exit)) r ⌝ }
+    ensures { λ r. ⌜ TreePut (graphOf (now (b .entry))) (now (distances .entry)) (now (lasts .entry))
+        (now (roots .entry)) (arraysOf
+        (now (starts .entry)) (now (cuts .entry)) (now (members .entry)) (now (lefts .entry)) (now (places .entry)))
+        (now (assignment .entry)) j at (now (edges .entry)) (now (edges .exit)) r ⌝ }
 {
     let n = graph::vertex_count(b);
     let root = wide(roots[j]);
@@ -71,10 +75,13 @@ fn lay_trees(
     bounds: &mut [u16],
     edges: &mut [u16],
 )
-    requires { ⌜ LayRootsGiven (graphOf (now b)) (now order) (now distances) (now lasts) (now roots) (arraysOf (now starts) (now cuts) (now members) (now lefts) (now places)) (now assignment)
+    requires { ⌜ LayRootsGiven (graphOf (now b)) (now order) (now distances) (now lasts) (now roots)
+        (arraysOf (now starts) (now cuts) (now members) (now lefts) (now places)) (now assignment)
         (length (now bounds)) (length (now edges)) ⌝ }
-    ensures { λ _. ⌜ RootsLaid (graphOf (now (b .entry))) (now (distances .entry)) (now (lasts .entry)) (now (roots .entry)) (arraysOf
-        (now (starts .entry)) (now (cuts .entry)) (now (members .entry)) (now (lefts .entry)) (now (places .entry))) (now (assignment .entry))
+    ensures { λ _. ⌜ RootsLaid (graphOf (now (b .entry))) (now (distances .entry)) (now (lasts .entry))
+        (now (roots .entry)) (arraysOf
+        (now (starts .entry)) (now (cuts .entry)) (now (members .entry)) (now (lefts .entry)) (now (places .entry)))
+        (now (assignment .entry))
         (now (bounds .entry)) (now (bounds .exit)) (now (edges .entry)) (now (edges .exit)) ⌝ }
 {
     bounds[0] = 0;
@@ -102,8 +109,9 @@ fn lay_trees(
     }
 }
 
-// The cover of an accepted trial, one tree for each root, as the buffer's first bytes. Everything behind the bytes stays. Says the weight of
-// the heaviest tree. The trees' edges are laid in an array that is lent, since its size is the caller's to choose.
+// The cover of an accepted trial, one tree for each root, as the buffer's first bytes. Everything behind the bytes
+// stays. Says the weight of the heaviest tree. The trees' edges are laid in an array that is lent, since its size is
+// the caller's to choose.
 pub fn write_rooted(
     b: &[u8],
     order: &[u16],
@@ -120,10 +128,12 @@ pub fn write_rooted(
     edges: &mut [u16],
     buf: &mut [u8],
 ) -> u64
-    requires { ⌜ CoverAsked (graphOf (now b)) (now order) (now distances) (now lasts) (now roots) (arraysOf (now starts) (now cuts) (now members) (now lefts) (now places)) parts (now assignment)
+    requires { ⌜ CoverAsked (graphOf (now b)) (now order) (now distances) (now lasts) (now roots)
+        (arraysOf (now starts) (now cuts) (now members) (now lefts) (now places)) parts (now assignment)
         (length (now edges)) (length (now buf)) ⌝ }
     ensures { λ r. ⌜ RootedWritten (graphOf (now (b .entry))) (now (roots .entry)) (arraysOf
-        (now (starts .entry)) (now (cuts .entry)) (now (members .entry)) (now (lefts .entry)) (now (places .entry))) parts (now (assignment .entry))
+        (now (starts .entry)) (now (cuts .entry)) (now (members .entry)) (now (lefts .entry)) (now (places .entry)))
+        parts (now (assignment .entry))
         (now (edges .entry)) (now (edges .exit)) (now (buf .entry)) (now (buf .exit)) r ⌝ }
 {
     let mut bounds = [0u16; 33];

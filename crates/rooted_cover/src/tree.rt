@@ -1,5 +1,5 @@
-// The tree of one root (document 01, step 6): "a tree is the union of its part if any, a shortest path to it, and what is left at the yard".
-// The union's edges are marked, kept in order, and put by rising number.
+// The tree of one root (document 01, step 6): "a tree is the union of its part if any, a shortest path to it, and what
+// is left at the yard". The union's edges are marked, kept in order, and put by rising number.
 use cover::index::edges_at;
 use cover::index::number_at;
 use distance::path_back;
@@ -35,7 +35,8 @@ fn place_with(bytes: &[u8], bound: usize, j: usize) -> usize
 // Marks the edges of piece c.
 fn mark_piece(cuts: &[u16], members: &[u16], c: u16, marks: &mut [u8])
     requires { ⌜ PieceGiven (now cuts) (now members) c (length (now marks)) ⌝ }
-    ensures { λ _. ⌜ Marked (λ e. member e (segment (now (cuts .entry)) (now (members .entry)) c)) (now (marks .entry)) (now (marks .exit)) ⌝ }
+    ensures { λ _. ⌜ Marked (λ e. member e (segment (now (cuts .entry)) (now (members .entry)) c)) (now (marks .entry))
+        (now (marks .exit)) ⌝ }
 {
     mark_edges(edges_at(cuts, members, wide(c)), marks);
 }
@@ -43,14 +44,16 @@ fn mark_piece(cuts: &[u16], members: &[u16], c: u16, marks: &mut [u8])
 // Marks the edges of the path from vertex v back to the root.
 fn mark_back(last: &[u32], root: usize, v: usize, marks: &mut [u8])
     requires { ⌜ BackGiven (now last) root v (length (now marks)) ⌝ }
-    ensures { λ _. ⌜ Marked (λ e. member e (trailOf (now (last .entry)) root v)) (now (marks .entry)) (now (marks .exit)) ⌝ }
+    ensures { λ _. ⌜ Marked (λ e. member e (trailOf (now (last .entry)) root v)) (now (marks .entry))
+        (now (marks .exit)) ⌝ }
 {
     let mut path = [0u16; 256];
     let r = path_back(last, root, v, &mut path);
     mark_edges(&path[..r], marks);
 }
 
-// The marked edges in order, kept where their ends are not yet joined, written to the front of the array by rising number. Says how many.
+// The marked edges in order, kept where their ends are not yet joined, written to the front of the array by rising
+// number. Says how many.
 fn keep_risen(b: &[u8], order: &[u16], marks: &[u8], tree: &mut [u16]) -> usize
     requires { ⌜ TreeAsked (graphOf (now b)) (now order) (now tree) ⌝ }
     ensures { λ r. ⌜ TreeKept (graphOf (now (b .entry))) (now (marks .entry)) (now (tree .entry)) (now (tree .exit)) r ⌝ }
@@ -60,7 +63,8 @@ fn keep_risen(b: &[u8], order: &[u16], marks: &[u8], tree: &mut [u16]) -> usize
     r
 }
 
-// Marks the edges of a part, and of the path from its vertex nearest to the root back to the root, by the distances from the root and the last edges.
+// Marks the edges of a part, and of the path from its vertex nearest to the root back to the root, by the distances
+// from the root and the last edges.
 fn mark_reach(
     b: &[u8],
     dist: &[u32],
@@ -71,7 +75,8 @@ fn mark_reach(
     marks: &mut [u8],
 )
     requires { ⌜ ReachGiven (graphOf (now b)) (now dist) (now last) root start (now edges) (length (now marks)) ⌝ }
-    ensures { λ _. ⌜ ReachMarked (graphOf (now (b .entry))) (now (dist .entry)) (now (last .entry)) root start (now (edges .entry))
+    ensures { λ _. ⌜ ReachMarked (graphOf (now (b .entry))) (now (dist .entry)) (now (last .entry)) root start
+        (now (edges .entry))
         (now (marks .entry)) (now (marks .exit)) ⌝ }
 {
     let v = nearest_vertex(b, dist, start, edges);
@@ -93,8 +98,10 @@ fn mark_assigned(
     j: usize,
     marks: &mut [u8],
 )
-    requires { ⌜ AssignedGiven (graphOf (now b)) (now dist) (now last) root (now starts) (now cuts) (now members) (now places) (now assignment) j (length (now marks)) ⌝ }
-    ensures { λ _. ⌜ AssignedMarked (graphOf (now (b .entry))) (now (dist .entry)) (now (last .entry)) root (now (starts .entry)) (now (cuts .entry)) (now (members .entry))
+    requires { ⌜ AssignedGiven (graphOf (now b)) (now dist) (now last) root (now starts) (now cuts) (now members)
+        (now places) (now assignment) j (length (now marks)) ⌝ }
+    ensures { λ _. ⌜ AssignedMarked (graphOf (now (b .entry))) (now (dist .entry)) (now (last .entry)) root
+        (now (starts .entry)) (now (cuts .entry)) (now (members .entry))
         (now (places .entry)) (now (assignment .entry)) j (now (marks .entry)) (now (marks .exit)) ⌝ }
 {
     let i = place_with(assignment, places.len(), j);
@@ -103,11 +110,19 @@ fn mark_assigned(
     }
     let c = wide(places[i]);
     let start = number_at(starts, c);
-    mark_reach(b, dist, last, root, start, edges_at(cuts, members, c), marks);
+    mark_reach(
+        b,
+        dist,
+        last,
+        root,
+        start,
+        edges_at(cuts, members, c),
+        marks,
+    );
 }
 
-// The edges of root j's tree, written by rising number to the front of the array: of its part if it has one, a shortest path to it, and the
-// piece left at the root. Says how many.
+// The edges of root j's tree, written by rising number to the front of the array: of its part if it has one, a shortest
+// path to it, and the piece left at the root. Says how many.
 pub fn rooted_tree(
     b: &[u8],
     order: &[u16],
@@ -123,8 +138,10 @@ pub fn rooted_tree(
     j: usize,
     tree: &mut [u16],
 ) -> usize
-    requires { ⌜ RootGiven (graphOf (now b)) (now order) (now dist) (now last) root (now starts) (now cuts) (now members) left (now places) (now assignment) j (now tree) ⌝ }
-    ensures { λ r. ⌜ RootWritten (graphOf (now (b .entry))) (now (dist .entry)) (now (last .entry)) root (now (starts .entry)) (now (cuts .entry)) (now (members .entry)) left
+    requires { ⌜ RootGiven (graphOf (now b)) (now order) (now dist) (now last) root (now starts) (now cuts)
+        (now members) left (now places) (now assignment) j (now tree) ⌝ }
+    ensures { λ r. ⌜ RootWritten (graphOf (now (b .entry))) (now (dist .entry)) (now (last .entry)) root
+        (now (starts .entry)) (now (cuts .entry)) (now (members .entry)) left
         (now (places .entry)) (now (assignment .entry)) j (now (tree .entry)) (now (tree .exit)) r ⌝ }
 {
     let mut marks = [0u8; 2048];

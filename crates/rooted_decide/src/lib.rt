@@ -1,6 +1,6 @@
-// Whether there is a cover at all by crews with roots, and whether a limit is accepted (document 01, a "yard" trial, steps 2 to 5), over what is
-// prepared once a question. Where the whole graph joins every vertex to a root, all are joined within the limit exactly where no edge of the
-// whole forest is above it.
+// Whether there is a cover at all by crews with roots, and whether a limit is accepted (document 01, a "yard" trial,
+// steps 2 to 5), over what is prepared once a question. Where the whole graph joins every vertex to a root, all are
+// joined within the limit exactly where no edge of the whole forest is above it.
 // The words of the contracts stand in specs/ and in the definitions of the crate `rules`.
 use forest::lowest::Found;
 use near::parts::near_parts;
@@ -31,8 +31,8 @@ pub fn no_cover_rooted(b: &[u8], roots: &[u16], kept: &[u16]) -> bool
     }
 }
 
-// For each part of the trial a word, whose bit j says whether the part may go to root j. Says how many parts there are. No tree is split for them:
-// the steps pass the vertices of each part.
+// For each part of the trial a word, whose bit j says whether the part may go to root j. Says how many parts there are.
+// No tree is split for them: the steps pass the vertices of each part.
 fn parts_near(
     b: &[u8],
     roots: &[u16],
@@ -42,15 +42,16 @@ fn parts_near(
     parts: &mut [u32],
 ) -> usize
     requires { ⌜ NearReady (graphOf (now b)) (now roots) limit (now distances) (now steps) (now parts) ⌝ }
-    ensures { λ r. ⌜ PartsNearPut (graphOf (now (b .entry))) (now (roots .entry)) limit (now (parts .entry)) (now (parts .exit)) r ⌝ }
+    ensures { λ r. ⌜ PartsNearPut (graphOf (now (b .entry))) (now (roots .entry)) limit (now (parts .entry))
+        (now (parts .exit)) r ⌝ }
 {
     let mut near = [0u32; 256];
     roots_within(b, roots, limit, distances, &mut near);
     near_parts(steps, limit, &near, parts)
 }
 
-// Whether each part of the trial gets a root of its own, where there are some parts and no more than roots. So few have rows of at most 32 times 32
-// bytes.
+// Whether each part of the trial gets a root of its own, where there are some parts and no more than roots. So few have
+// rows of at most 32 times 32 bytes.
 fn few_assigned(b: &[u8], roots: &[u16], limit: u64, distances: &[u32], steps: &[u64]) -> bool
     requires { ⌜ FewReady (graphOf (now b)) (now roots) limit (now distances) (now steps) ⌝ }
     ensures { λ r. ⌜ r ≡ isAssignable (graphOf (now (b .entry))) (now (roots .entry)) limit ⌝ }
@@ -65,8 +66,9 @@ fn few_assigned(b: &[u8], roots: &[u16], limit: u64, distances: &[u32], steps: &
     assign_roots(p, k, &rows[..size], &mut assignment)
 }
 
-// Whether each part of the trial gets a root of its own, where every vertex is joined to a root. The parts are counted first: more than there are
-// roots never do, and where there is none nothing is needed, so that no distance is looked at for them.
+// Whether each part of the trial gets a root of its own, where every vertex is joined to a root. The parts are counted
+// first: more than there are roots never do, and where there is none nothing is needed, so that no distance is looked
+// at for them.
 fn parts_assigned(b: &[u8], roots: &[u16], limit: u64, distances: &[u32], steps: &[u64]) -> bool
     requires { ⌜ CountReady (graphOf (now b)) (now roots) limit (now distances) (now steps) ⌝ }
     ensures { λ r. ⌜ r ≡ isAssignable (graphOf (now (b .entry))) (now (roots .entry)) limit ⌝ }

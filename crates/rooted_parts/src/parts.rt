@@ -1,5 +1,6 @@
-// The parts of a rooted trial, placed (document 01, steps 4 and 5): the forest's trees are split with the limit as threshold, the roots near
-// each part are marked, and each part is given a root of its own; or else a set of parts is marked that has too few roots.
+// The parts of a rooted trial, placed (document 01, steps 4 and 5): the forest's trees are split with the limit as
+// threshold, the roots near each part are marked, and each part is given a root of its own; or else a set of parts is
+// marked that has too few roots.
 use crate::within::roots_within;
 use matching::Answer;
 use matching::assign;
@@ -31,10 +32,13 @@ fn place_pieces(
     lefts: &mut [u16],
     places: &mut [u16],
 ) -> usize
-    requires { ⌜ PiecesAsked (graphOf (now b)) (now roots) limit (now bounds) (now arcs) (arraysOf (now starts) (now cuts) (now members) (now lefts) (now places)) ⌝ }
+    requires { ⌜ PiecesAsked (graphOf (now b)) (now roots) limit (now bounds) (now arcs)
+        (arraysOf (now starts) (now cuts) (now members) (now lefts) (now places)) ⌝ }
     ensures { λ r. ⌜ PiecesPut (graphOf (now (b .entry))) (now (roots .entry)) limit
-        (arraysOf (now (starts .entry)) (now (cuts .entry)) (now (members .entry)) (now (lefts .entry)) (now (places .entry)))
-        (arraysOf (now (starts .exit)) (now (cuts .exit)) (now (members .exit)) (now (lefts .exit)) (now (places .exit))) r ⌝ }
+        (arraysOf (now (starts .entry)) (now (cuts .entry)) (now (members .entry)) (now (lefts .entry))
+        (now (places .entry)))
+        (arraysOf (now (starts .exit)) (now (cuts .exit)) (now (members .exit)) (now (lefts .exit))
+        (now (places .exit))) r ⌝ }
 {
     let n = graph::vertex_count(b);
     split_forest(n, bounds, arcs, roots, limit, starts, cuts, members, lefts);
@@ -67,8 +71,10 @@ fn pieces_near(
     parts: usize,
     words: &mut [u32],
 )
-    requires { ⌜ WordsAsked (graphOf (now b)) (now roots) limit (now distances) (now starts) (now cuts) (now members) (now places) parts (now words) ⌝ }
-    ensures { λ _. ⌜ PartsNearPut (graphOf (now (b .entry))) (now (roots .entry)) limit (now (words .entry)) (now (words .exit)) parts ⌝ }
+    requires { ⌜ WordsAsked (graphOf (now b)) (now roots) limit (now distances) (now starts) (now cuts) (now members)
+        (now places) parts (now words) ⌝ }
+    ensures { λ _. ⌜ PartsNearPut (graphOf (now (b .entry))) (now (roots .entry)) limit (now (words .entry))
+        (now (words .exit)) parts ⌝ }
 {
     let mut near = [0u32; 256];
     roots_within(b, roots, limit, distances, &mut near);
@@ -89,8 +95,10 @@ fn assign_parts(
     rows: &mut [u8],
     assignment: &mut [u8],
 ) -> bool
-    requires { ⌜ RowsAsked (graphOf (now b)) (now roots) limit (now distances) (now starts) (now cuts) (now members) (now places) parts (now rows) (now assignment) ⌝ }
-    ensures { λ r. ⌜ RowsPlaced (graphOf (now (b .entry))) (now (roots .entry)) limit parts (now (rows .entry)) (now (rows .exit))
+    requires { ⌜ RowsAsked (graphOf (now b)) (now roots) limit (now distances) (now starts) (now cuts) (now members)
+        (now places) parts (now rows) (now assignment) ⌝ }
+    ensures { λ r. ⌜ RowsPlaced (graphOf (now (b .entry))) (now (roots .entry)) limit parts (now (rows .entry))
+        (now (rows .exit))
         (now (assignment .entry)) (now (assignment .exit)) r ⌝ }
 {
     let mut words = [0u32; 256];
@@ -112,8 +120,8 @@ fn assign_parts(
     assign_roots(parts, k, &rows[..size], assignment)
 }
 
-// The parts of a rooted trial where the edges within the limit join every vertex to a root, by the arcs of the whole forest and the distances
-// from all roots.
+// The parts of a rooted trial where the edges within the limit join every vertex to a root, by the arcs of the whole
+// forest and the distances from all roots.
 pub fn place_parts(
     b: &[u8],
     roots: &[u16],
@@ -132,8 +140,10 @@ pub fn place_parts(
     requires { ⌜ PartsAsked (graphOf (now b)) (now roots) limit (now bounds) (now arcs) (now distances)
         (arraysOf (now starts) (now cuts) (now members) (now lefts) (now places)) (now rows) (now assignment) ⌝ }
     ensures { λ r. ⌜ PartsPut (graphOf (now (b .entry))) (now (roots .entry)) limit
-        (trialArrays (now (starts .entry)) (now (cuts .entry)) (now (members .entry)) (now (lefts .entry)) (now (places .entry)) (now (rows .entry)) (now (assignment .entry)))
-        (trialArrays (now (starts .exit)) (now (cuts .exit)) (now (members .exit)) (now (lefts .exit)) (now (places .exit)) (now (rows .exit)) (now (assignment .exit)))
+        (trialArrays (now (starts .entry)) (now (cuts .entry)) (now (members .entry)) (now (lefts .entry))
+        (now (places .entry)) (now (rows .entry)) (now (assignment .entry)))
+        (trialArrays (now (starts .exit)) (now (cuts .exit)) (now (members .exit)) (now (lefts .exit))
+        (now (places .exit)) (now (rows .exit)) (now (assignment .exit)))
         (r .parts) (r .assigned) ⌝ }
 {
     let parts = place_pieces(

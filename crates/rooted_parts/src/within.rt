@@ -6,7 +6,8 @@ ghost use Rattle.rooted_parts.specs.Near.{WithinAsked, WithinDone};
 // For each vertex a word, whose bit j says whether root j is within the limit of it. The words come as zeros.
 pub fn roots_within(b: &[u8], roots: &[u16], limit: u64, distances: &[u32], words: &mut [u32])
     requires { ⌜ WithinAsked (graphOf (now b)) (now roots) limit (now distances) (now words) ⌝ }
-    ensures { λ _. ⌜ WithinDone (graphOf (now (b .entry))) (now (roots .entry)) limit (now (words .entry)) (now (words .exit)) ⌝ }
+    ensures { λ _. ⌜ WithinDone (graphOf (now (b .entry))) (now (roots .entry)) limit (now (words .entry))
+        (now (words .exit)) ⌝ }
 {
     let n = graph::vertex_count(b);
     near_vertices(distances, roots.len(), limit as u32, &mut words[..n]);

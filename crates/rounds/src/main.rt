@@ -1,8 +1,9 @@
-// The program `rounds` (document 01, "The program `rounds`"): a question on standard input, its answer as text on standard output.
+// The program `rounds` (document 01, "The program `rounds`"): a question on standard input, its answer as text on
+// standard output.
 use question::question::answer;
 
-// Reads to the input's end, or one byte past the longest question; answers; writes. A read that fails ends the input there. There is no exit status
-// to say that the output is closed or full, so that standard error says it.
+// Reads to the input's end, or one byte past the longest question; answers; writes. A read that fails ends the input
+// there. There is no exit status to say that the output is closed or full, so that standard error says it.
 fn main() {
     let mut input = [0u8; 16397];
     let n = io::read_full(libc::STDIN_FILENO, &mut input);

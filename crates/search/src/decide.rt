@@ -21,7 +21,8 @@ pub(crate) fn accepts_at(
     until: &[u16],
     steps: &[u64],
 ) -> bool
-    requires { ⌜ DecisionAsked kind k (graphOf (now b)) (now roots) limit (now kept) (now distances) (now total) (now until) (now steps) ⌝ }
+    requires { ⌜ DecisionAsked kind k (graphOf (now b)) (now roots) limit (now kept) (now distances) (now total)
+        (now until) (now steps) ⌝ }
     ensures { λ r. ⌜ r ≡ accepts (graphOf (now (b .entry))) (crewsWith kind k (now (roots .entry))) limit ⌝ }
 {
     match kind {

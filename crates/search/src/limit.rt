@@ -9,7 +9,8 @@ ghost use Rattle.rules.specs.Search.{bestLimit};
 ghost use Rattle.prepare.specs.Crews.{crewsWith};
 ghost use Rattle.search.specs.Searching.{searchEnd, SearchAsked, BestAsked, SteppedAsked, StepsGiven, StepsFor};
 
-// Halves what lies between low, which was not accepted, and high, which was, until they are neighbours or the trials are used up. Says high.
+// Halves what lies between low, which was not accepted, and high, which was, until they are neighbours or the trials
+// are used up. Says high.
 fn search(
     kind: Kind,
     k: usize,
@@ -23,7 +24,8 @@ fn search(
     sum: u64,
     budget: usize,
 ) -> u64
-    requires { ⌜ SearchAsked kind k (graphOf (now b)) (now roots) (now kept) (now distances) (now total) (now until) (now steps) sum ⌝ }
+    requires { ⌜ SearchAsked kind k (graphOf (now b)) (now roots) (now kept) (now distances) (now total) (now until)
+        (now steps) sum ⌝ }
     ensures { λ r. ⌜ r ≡ searchEnd (graphOf (now (b .entry))) (crewsWith kind k (now (roots .entry))) sum budget ⌝ }
 {
     let mut low = 0;
@@ -35,7 +37,18 @@ fn search(
         }
         left -= 1;
         let middle = (low + high) / 2;
-        if accepts_at(kind, k, b, roots, middle, kept, distances, total, until, steps) {
+        if accepts_at(
+            kind,
+            k,
+            b,
+            roots,
+            middle,
+            kept,
+            distances,
+            total,
+            until,
+            steps,
+        ) {
             high = middle;
             continue;
         }
@@ -44,7 +57,8 @@ fn search(
     high
 }
 
-// The best limit by the steps: 0 where that is accepted, and otherwise where the search ends. 31 trials are enough for any sum of weights.
+// The best limit by the steps: 0 where that is accepted, and otherwise where the search ends. 31 trials are enough for
+// any sum of weights.
 fn search_limit(
     kind: Kind,
     k: usize,
@@ -57,14 +71,27 @@ fn search_limit(
     until: &[u16],
     steps: &[u64],
 ) -> u64
-    requires { ⌜ SteppedAsked kind k (graphOf (now b)) (now roots) (now order) (now kept) (now distances) (now total) (now until) (now steps) ⌝ }
+    requires { ⌜ SteppedAsked kind k (graphOf (now b)) (now roots) (now order) (now kept) (now distances) (now total)
+        (now until) (now steps) ⌝ }
     ensures { λ r. ⌜ r ≡ bestLimit (graphOf (now (b .entry))) (crewsWith kind k (now (roots .entry))) ⌝ }
 {
     if accepts_at(kind, k, b, roots, 0, kept, distances, total, until, steps) {
         return 0;
     }
     let sum = edges_weight(b, order);
-    search(kind, k, b, roots, kept, distances, total, until, steps, sum, 31)
+    search(
+        kind,
+        k,
+        b,
+        roots,
+        kept,
+        distances,
+        total,
+        until,
+        steps,
+        sum,
+        31,
+    )
 }
 
 // Writes the steps of the whole forest's trees, by which crews with roots decide. Says how many they are.
@@ -77,7 +104,8 @@ fn write_steps(
     steps: &mut [u64],
 ) -> usize
     requires { ⌜ StepsGiven kind (graphOf (now b)) (now roots) (now bounds) (now arcs) (now steps) ⌝ }
-    ensures { λ r. ⌜ StepsFor kind (graphOf (now (b .entry))) (now (roots .entry)) (now (steps .entry)) (now (steps .exit)) r ⌝ }
+    ensures { λ r. ⌜ StepsFor kind (graphOf (now (b .entry))) (now (roots .entry)) (now (steps .entry))
+        (now (steps .exit)) r ⌝ }
 {
     match kind {
         Kind::Rooted => put_steps(graph::vertex_count(b), bounds, arcs, roots, steps),
@@ -99,7 +127,8 @@ pub fn best_limit(
     total: &[u64],
     until: &[u16],
 ) -> u64
-    requires { ⌜ BestAsked kind k (graphOf (now b)) (now roots) (now order) (now kept) (now bounds) (now arcs) (now distances) (now total) (now until) ⌝ }
+    requires { ⌜ BestAsked kind k (graphOf (now b)) (now roots) (now order) (now kept) (now bounds) (now arcs)
+        (now distances) (now total) (now until) ⌝ }
     ensures { λ r. ⌜ r ≡ bestLimit (graphOf (now (b .entry))) (crewsWith kind k (now (roots .entry))) ⌝ }
 {
     let mut steps = [0u64; 256];

@@ -24,7 +24,8 @@ fn split_roots(
     members: &mut [u16],
     lefts: &mut [u16],
 ) -> usize
-    requires { ⌜ Unwalked (now bounds) (now arcs) (now roots) (now passed) (now stack) (lent (now starts) (now cuts) (now members) (now lefts)) ⌝ }
+    requires { ⌜ Unwalked (now bounds) (now arcs) (now roots) (now passed) (now stack)
+        (lent (now starts) (now cuts) (now members) (now lefts)) ⌝ }
     ensures { λ r. ⌜ RootsWalked (now (bounds .entry)) (now (arcs .entry)) (now (roots .entry)) h
         (now (passed .entry)) (now (passed .exit)) (now (stack .entry)) (now (stack .exit))
         (lent (now (starts .entry)) (now (cuts .entry)) (now (members .entry)) (now (lefts .entry)))
@@ -40,7 +41,18 @@ fn split_roots(
     let mut j = 0;
     while j < roots.len() {
         let root = roots[j] as usize;
-        let left = walk_node(bounds, arcs, h, root, s, passed, stack, starts, cuts, members);
+        let left = walk_node(
+            bounds,
+            arcs,
+            h,
+            root,
+            s,
+            passed,
+            stack,
+            starts,
+            cuts,
+            members,
+        );
         lefts[j] = left.pieces as u16;
         s = put_piece(root, 0, 0, left, stack, starts, cuts, members);
         j += 1;
@@ -48,11 +60,11 @@ fn split_roots(
     s.pieces
 }
 
-// Splits the trees of the roots with threshold h. `bounds` and `arcs` hold the edges around each of n vertices of a forest, `Around`
-// in the crate `edges`. The answer is the number of pieces: for each root the parts of its tree in the order in which they are
-// split off, then what is left at the root.
-//   Piece i starts at starts[i], "the stop where the part was split off" or the root, and its edges are flat[cuts[i] .. cuts[i + 1]].
-//   What is left at root j is piece lefts[j].
+// Splits the trees of the roots with threshold h. `bounds` and `arcs` hold the edges around each of n vertices of a
+// forest, `Around` in the crate `edges`. The answer is the number of pieces: for each root the parts of its tree in the
+// order in which they are split off, then what is left at the root.
+// Piece i starts at starts[i], "the stop where the part was split off" or the root, and its edges are flat[cuts[i] ..
+// cuts[i + 1]]. What is left at root j is piece lefts[j].
 // Beyond what is used the arrays are as they came.
 pub fn split_forest(
     n: usize,
@@ -65,7 +77,8 @@ pub fn split_forest(
     members: &mut [u16],
     lefts: &mut [u16],
 ) -> usize
-    requires { ⌜ Splittable n (now bounds) (now arcs) (now roots) (lent (now starts) (now cuts) (now members) (now lefts)) ⌝ }
+    requires { ⌜ Splittable n (now bounds) (now arcs) (now roots) (lent (now starts) (now cuts) (now members)
+        (now lefts)) ⌝ }
     ensures { λ r. ⌜ ForestSplit n (now (bounds .entry)) (now (arcs .entry)) (now (roots .entry)) h
         (lent (now (starts .entry)) (now (cuts .entry)) (now (members .entry)) (now (lefts .entry)))
         (lent (now (starts .exit)) (now (cuts .exit)) (now (members .exit)) (now (lefts .exit))) r ⌝ }

@@ -24,17 +24,20 @@ pub fn walk_node(
     cuts: &mut [u16],
     members: &mut [u16],
 ) -> Progress
-    requires { ⌜ Walkable (length (now stack)) (now bounds) (now arcs) v (stateOf (passing v (now passed)) (now stack) (now starts) (now cuts) (now members) s) ⌝ }
+    requires { ⌜ Walkable (length (now stack)) (now bounds) (now arcs) v
+        (stateOf (passing v (now passed)) (now stack) (now starts) (now cuts) (now members) s) ⌝ }
     ensures { λ r. ⌜ NodeWalked (length (now (stack .entry))) (now (bounds .entry)) (now (arcs .entry)) h v
-        (stateOf (passing v (now (passed .entry))) (now (stack .entry)) (now (starts .entry)) (now (cuts .entry)) (now (members .entry)) s)
-        (stateOf (now (passed .exit)) (now (stack .exit)) (now (starts .exit)) (now (cuts .exit)) (now (members .exit)) r) (r .weight) ⌝ }
+        (stateOf (passing v (now (passed .entry))) (now (stack .entry)) (now (starts .entry)) (now (cuts .entry))
+        (now (members .entry)) s)
+        (stateOf (now (passed .exit)) (now (stack .exit)) (now (starts .exit)) (now (cuts .exit)) (now (members .exit))
+        r) (r .weight) ⌝ }
 {
     passed[v] = 1;
     walk_children(bounds, arcs, h, v, s, passed, stack, starts, cuts, members)
 }
 
-// The child-list walk: the children of v, by their arcs. Each child's edge goes on the stack, then its own node is walked,
-// then its piece meets the bunch of v, which stands on the stack below it.
+// The child-list walk: the children of v, by their arcs. Each child's edge goes on the stack, then its own node is
+// walked, then its piece meets the bunch of v, which stands on the stack below it.
 fn walk_children(
     bounds: &[u16],
     arcs: &[u64],
@@ -47,10 +50,13 @@ fn walk_children(
     cuts: &mut [u16],
     members: &mut [u16],
 ) -> Progress
-    requires { ⌜ Walkable (length (now stack)) (now bounds) (now arcs) v (stateOf (now passed) (now stack) (now starts) (now cuts) (now members) s) ⌝ }
+    requires { ⌜ Walkable (length (now stack)) (now bounds) (now arcs) v
+        (stateOf (now passed) (now stack) (now starts) (now cuts) (now members) s) ⌝ }
     ensures { λ r. ⌜ NodeWalked (length (now (stack .entry))) (now (bounds .entry)) (now (arcs .entry)) h v
-        (stateOf (now (passed .entry)) (now (stack .entry)) (now (starts .entry)) (now (cuts .entry)) (now (members .entry)) s)
-        (stateOf (now (passed .exit)) (now (stack .exit)) (now (starts .exit)) (now (cuts .exit)) (now (members .exit)) r) (r .weight) ⌝ }
+        (stateOf (now (passed .entry)) (now (stack .entry)) (now (starts .entry)) (now (cuts .entry))
+        (now (members .entry)) s)
+        (stateOf (now (passed .exit)) (now (stack .exit)) (now (starts .exit)) (now (cuts .exit)) (now (members .exit))
+        r) (r .weight) ⌝ }
 {
     let base = s.top;
     let mut at = Progress {
@@ -76,7 +82,18 @@ fn walk_children(
         };
         stack[end] = arc_edge(arc);
         at.top = end + 1;
-        let mut piece = walk_node(bounds, arcs, h, head, at, passed, stack, starts, cuts, members);
+        let mut piece = walk_node(
+            bounds,
+            arcs,
+            h,
+            head,
+            at,
+            passed,
+            stack,
+            starts,
+            cuts,
+            members,
+        );
         let own = arc_weight(arc);
         piece.weight = own + piece.weight;
         at = settle(h, v, bunch, piece, stack, starts, cuts, members);

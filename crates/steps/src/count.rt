@@ -6,7 +6,8 @@ ghost use mathlib.Core.Path.{_≡_};
 ghost use Rattle.steps.specs.Touched.{partsCounted};
 ghost use Rattle.steps.specs.StepsPut.{Countable};
 
-// The number of parts that the trees are split into with threshold h. What is left at a vertex is kept by its weight alone.
+// The number of parts that the trees are split into with threshold h. What is left at a vertex is kept by its weight
+// alone.
 pub fn count_parts(steps: &[u64], h: u64) -> usize
     requires { ⌜ Countable h (now steps) ⌝ }
     ensures { λ r. ⌜ r ≡ partsCounted h (now (steps .entry)) ⌝ }

@@ -1,6 +1,6 @@
-// The node walk and the child-list walk that write a tree's steps, which call each other: "at each child its own node comes first".
-// Each call of the node walk passes a vertex that no call below it passes again, so that the walks nest at most as deep
-// as the tree, two frames a level: the arcs of a vertex are gone through in a loop.
+// The node walk and the child-list walk that write a tree's steps, which call each other: "at each child its own node
+// comes first". Each call of the node walk passes a vertex that no call below it passes again, so that the walks nest
+// at most as deep as the tree, two frames a level: the arcs of a vertex are gone through in a loop.
 use crate::step::step_of;
 use edges::arc::arc_head;
 use edges::arc::arc_weight;
@@ -24,7 +24,8 @@ pub fn put_node(
     put_children(bounds, arcs, v, at, passed, steps)
 }
 
-// The child-list walk: the children of v, by their arcs. At each child its own node is walked, then the child's step is written.
+// The child-list walk: the children of v, by their arcs. At each child its own node is walked, then the child's step is
+// written.
 fn put_children(
     bounds: &[u16],
     arcs: &[u64],

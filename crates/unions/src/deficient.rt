@@ -1,6 +1,6 @@
-// The set of parts that admits no assignment (document 01, step 5: "too low, parts T, yards D"): where its parts stand, and how many roots
-// are allowed to some part of it. The marks are a byte for each of p parts, 1 in the set; the rows are k bytes for each part, 1 where a root
-// is allowed.
+// The set of parts that admits no assignment (document 01, step 5: "too low, parts T, yards D"): where its parts stand,
+// and how many roots are allowed to some part of it. The marks are a byte for each of p parts, 1 in the set; the rows
+// are k bytes for each part, 1 where a root is allowed.
 use crate::union::is_marked;
 ghost use mathlib.Core.Path.{_≡_};
 ghost use mathlib.Core.Bool.{_&&_};

@@ -1,5 +1,5 @@
-// The places of the parts among the pieces that the splitting leaves, where each root's parts are followed by its leftover
-// (document 01, step 4): every number that is not a leftover's.
+// The places of the parts among the pieces that the splitting leaves, where each root's parts are followed by its
+// leftover (document 01, step 4): every number that is not a leftover's.
 use edges::index::wide;
 use pieces::pieces::put_run;
 ghost use Prim.Native.Nat.{_≤_};

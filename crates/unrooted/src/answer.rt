@@ -1,5 +1,5 @@
-// The answer of a trial by crews without roots (document 01, a "roving" trial, step 7), and the decisions that the best limit asks: all from the
-// whole forest and the history of its merges, which are prepared once a question.
+// The answer of a trial by crews without roots (document 01, a "roving" trial, step 7), and the decisions that the best
+// limit asks: all from the whole forest and the history of its merges, which are prepared once a question.
 use crate::unrooted::unrooted_trees;
 use needs::history::needed_by_history;
 use pieces::whole::light_forest;
@@ -13,7 +13,8 @@ ghost use Rattle.replies.specs.Replies.{Answers};
 ghost use Rattle.needs.specs.Given.{ForestKept};
 ghost use Rattle.unrooted.specs.Answer.{HistoryReady, LimitKnown, UnrootedAnswerAsked};
 
-// What a limit makes of the whole forest: how many of its edges are within the limit, and how many trees the components there need.
+// What a limit makes of the whole forest: how many of its edges are within the limit, and how many trees the components
+// there need.
 pub struct AtLimit {
     pub edges: usize,
     pub trees: u64,
@@ -50,8 +51,8 @@ pub fn answer_unrooted(
     Reply::Cover(limit, w.heaviest, w.trees)
 }
 
-// Whether the limit is accepted. Nothing is split or written for this. Each component needs a tree, so the history is not read where there are more
-// components than crews.
+// Whether the limit is accepted. Nothing is split or written for this. Each component needs a tree, so the history is
+// not read where there are more components than crews.
 pub fn accepts_unrooted(
     b: &[u8],
     k: usize,
@@ -71,7 +72,8 @@ pub fn accepts_unrooted(
     needed_by_history(n, total, until, light, limit) <= k as u64
 }
 
-// Whether no cover exists at all: there are "more components than k". Each edge of the whole forest leaves one component fewer than the vertices are.
+// Whether no cover exists at all: there are "more components than k". Each edge of the whole forest leaves one
+// component fewer than the vertices are.
 pub fn no_cover_unrooted(b: &[u8], k: usize, kept: &[u16]) -> bool
     requires { ⌜ ForestKept (graphOf (now b)) (now kept) ⌝ }
     ensures { λ r. ⌜ r ≡ noCover (graphOf (now (b .entry))) (unrooted k) ⌝ }

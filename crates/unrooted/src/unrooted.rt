@@ -1,5 +1,6 @@
-// The trial at a limit for crews without roots (document 01, a "roving" trial, steps 2 to 4 and 7), where the components need no more trees
-// than there may be: the components' trees are split, and the pieces are the trees of the answer.
+// The trial at a limit for crews without roots (document 01, a "roving" trial, steps 2 to 4 and 7), where the
+// components need no more trees than there may be: the components' trees are split, and the pieces are the trees of the
+// answer.
 use cover::heaviest::heaviest_chosen;
 use cover::write::write_cover;
 use needs::roots::component_roots;
@@ -36,7 +37,8 @@ fn split_components(
     lefts: &mut [u16],
 ) -> Split
     requires { ⌜ SplitAsked (graphOf (now b)) (now edges) limit (now starts) (now cuts) (now members) (now lefts) ⌝ }
-    ensures { λ r. ⌜ ComponentsSplit (graphOf (now (b .entry))) limit (now (starts .entry)) (now (starts .exit)) (now (cuts .entry)) (now (cuts .exit))
+    ensures { λ r. ⌜ ComponentsSplit (graphOf (now (b .entry))) limit (now (starts .entry)) (now (starts .exit))
+        (now (cuts .entry)) (now (cuts .exit))
         (now (members .entry)) (now (members .exit)) (now (lefts .entry)) (now (lefts .exit)) r ⌝ }
 {
     let mut roots = [0u16; 256];
@@ -59,7 +61,8 @@ fn split_components(
     Split { pieces, roots: k }
 }
 
-// The pieces that are trees of the answer, in its order: each with its edges rising and from its lowest vertex. Says how many.
+// The pieces that are trees of the answer, in its order: each with its edges rising and from its lowest vertex. Says
+// how many.
 fn order_trees(
     b: &[u8],
     pieces: usize,
@@ -70,7 +73,8 @@ fn order_trees(
     chosen: &mut [u16],
 ) -> usize
     requires { ⌜ OrderAsked pieces (now lefts) (now starts) (now cuts) (now members) (now chosen) ⌝ }
-    ensures { λ r. ⌜ TreesOrdered (graphOf (now (b .entry))) pieces (now (lefts .entry)) (now (starts .entry)) (now (starts .exit)) (now (cuts .entry))
+    ensures { λ r. ⌜ TreesOrdered (graphOf (now (b .entry))) pieces (now (lefts .entry)) (now (starts .entry))
+        (now (starts .exit)) (now (cuts .entry))
         (now (members .entry)) (now (members .exit)) (now (chosen .entry)) (now (chosen .exit)) r ⌝ }
 {
     let mut keys = [0u32; 512];
@@ -82,8 +86,8 @@ fn order_trees(
     t
 }
 
-// The trees of the answer at a limit, as the buffer's first bytes: the components at the limit, from the edges of the forest there, split
-// into at most 32 trees. Everything behind the bytes stays.
+// The trees of the answer at a limit, as the buffer's first bytes: the components at the limit, from the edges of the
+// forest there, split into at most 32 trees. Everything behind the bytes stays.
 pub(crate) fn unrooted_trees(b: &[u8], edges: &[u16], limit: u64, buf: &mut [u8]) -> Written
     requires { ⌜ UnrootedTreesAsked (graphOf (now b)) (now edges) limit (now buf) ⌝ }
     ensures { λ r. ⌜ TreesWritten (graphOf (now (b .entry))) limit (now (buf .entry)) (now (buf .exit)) r ⌝ }

@@ -1,5 +1,5 @@
-// The pieces of the components as trees (document 01, step 7: "start is the lowest stop of the tree, and order is by start, then by smallest
-// line"). Piece i has the start starts[i] and the edges flat[cuts[i] .. cuts[i + 1]].
+// The pieces of the components as trees (document 01, step 7: "start is the lowest stop of the tree, and order is by
+// start, then by smallest line"). Piece i has the start starts[i] and the edges flat[cuts[i] .. cuts[i + 1]].
 use cover::index::edges_at;
 use cover::index::number_at;
 use edges::index::wide;
@@ -61,7 +61,8 @@ pub fn rise_segments(cuts: &[u16], k: usize, members: &mut [u16])
 // The lowest vertex of a piece that has the given start.
 fn piece_lowest(b: &[u8], start: u16, cuts: &[u16], members: &[u16], i: usize) -> u16
     requires { ⌜ PieceHeld (now cuts) (now members) i ⌝ }
-    ensures { λ r. ⌜ LowestFound (graphOf (now (b .entry))) start (segment (now (cuts .entry)) (now (members .entry)) i) r ⌝ }
+    ensures { λ r. ⌜ LowestFound (graphOf (now (b .entry))) start (segment (now (cuts .entry)) (now (members .entry)) i)
+        r ⌝ }
 {
     lowest_vertex(b, wide(start), edges_at(cuts, members, i)) as u16
 }
@@ -69,7 +70,8 @@ fn piece_lowest(b: &[u8], start: u16, cuts: &[u16], members: &[u16], i: usize) -
 // Each of the first k pieces starts at its lowest vertex now.
 pub fn set_lowest(b: &[u8], starts: &mut [u16], cuts: &[u16], members: &[u16], k: usize)
     requires { ⌜ PiecesGiven (now starts) (now cuts) (now members) k ⌝ }
-    ensures { λ _. ⌜ LowestSet (graphOf (now (b .entry))) (now (cuts .entry)) (now (members .entry)) k (now (starts .entry)) (now (starts .exit)) ⌝ }
+    ensures { λ _. ⌜ LowestSet (graphOf (now (b .entry))) (now (cuts .entry)) (now (members .entry)) k
+        (now (starts .entry)) (now (starts .exit)) ⌝ }
 {
     let mut i = 0;
     while i < k {
@@ -90,7 +92,8 @@ fn piece_key(start: u16, cuts: &[u16], members: &[u16], i: usize) -> u32
 // The keys of the first k pieces.
 pub fn write_keys(starts: &[u16], cuts: &[u16], members: &[u16], k: usize, keys: &mut [u32])
     requires { ⌜ KeysAsked (now starts) (now cuts) (now members) k (now keys) ⌝ }
-    ensures { λ _. ⌜ KeysWritten (now (starts .entry)) (now (cuts .entry)) (now (members .entry)) k (now (keys .entry)) (now (keys .exit)) ⌝ }
+    ensures { λ _. ⌜ KeysWritten (now (starts .entry)) (now (cuts .entry)) (now (members .entry)) k (now (keys .entry))
+        (now (keys .exit)) ⌝ }
 {
     let mut i = 0;
     while i < k {

@@ -1,5 +1,5 @@
-// The trees of an answer among the pieces that the splitting leaves, where each root's parts are followed by its leftover (document 01,
-// step 7): the parts, and "the leftovers that have lines or have no part in their component".
+// The trees of an answer among the pieces that the splitting leaves, where each root's parts are followed by its
+// leftover (document 01, step 7): the parts, and "the leftovers that have lines or have no part in their component".
 use edges::index::wide;
 use pieces::pieces::put_run;
 ghost use mathlib.Core.Path.{_≡_};
@@ -25,7 +25,8 @@ fn tree_end(first: usize, left: usize, cuts: &[u16]) -> usize
 // The numbers of the trees, rising, written to the front of the array. Says how many.
 pub fn tree_places(lefts: &[u16], cuts: &[u16], out: &mut [u16]) -> usize
     requires { ⌜ PlacesAsked (now lefts) (now cuts) (now out) ⌝ }
-    ensures { λ r. ⌜ PutTo 0 (treePlaces (now (cuts .entry)) 0 (now (lefts .entry))) (now (out .entry)) (now (out .exit)) r ⌝ }
+    ensures { λ r. ⌜ PutTo 0 (treePlaces (now (cuts .entry)) 0 (now (lefts .entry))) (now (out .entry))
+        (now (out .exit)) r ⌝ }
 {
     let mut first = 0;
     let mut next = 0;

@@ -10,8 +10,8 @@ pub fn wide_distance(x: u32) -> u64
     x as u64
 }
 
-// Relaxes one arc of u, which has distance d: where the arc's head is nearer this way, it takes that distance, and the arc's edge as its last.
-// Says whether it is.
+// Relaxes one arc of u, which has distance d: where the arc's head is nearer this way, it takes that distance, and the
+// arc's edge as its last. Says whether it is.
 pub fn relax_arc(a: u64, u: usize, d: u64, dist: &mut [u32], last: &mut [u32]) -> bool
     requires { ⌜ ArcRelaxable a u d (now dist) (now last) ⌝ }
     ensures { λ r. ⌜ ArcRelaxed a u d (now (dist .entry)) (now (last .entry)) (now (dist .exit)) (now (last .exit)) r ⌝ }

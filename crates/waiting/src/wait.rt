@@ -1,6 +1,7 @@
-// Who waits: the vertices that are reached and not settled. A vertex that waits has a key, its distance and its number in one number, so that
-// the least key is the nearest's. The keys stand in sixteen blocks of sixteen, and the least key of each block is kept beside them: whoever
-// comes nearer or is settled changes one block, and the nearest is the least of sixteen.
+// Who waits: the vertices that are reached and not settled. A vertex that waits has a key, its distance and its number
+// in one number, so that the least key is the nearest's. The keys stand in sixteen blocks of sixteen, and the least key
+// of each block is kept beside them: whoever comes nearer or is settled changes one block, and the nearest is the least
+// of sixteen.
 ghost use mathlib.Core.Path.{_≡_};
 ghost use Prim.Native.Nat.{_+_, _<_, _≤_};
 ghost use lib.ListN.{length};
@@ -31,7 +32,8 @@ fn lower(one: u64, other: u64) -> u64
     if other < one { other } else { one }
 }
 
-// The least of sixteen keys from a place on. The two halves are looked through side by side, so that neither waits for the other.
+// The least of sixteen keys from a place on. The two halves are looked through side by side, so that neither waits for
+// the other.
 pub fn least_from(keys: &[u64], from: usize) -> u64
     requires { ⌜ from + 16 ≤ length (now keys) ⌝ }
     ensures { λ r. ⌜ LeastFrom (now (keys .entry)) from 16 r ⌝ }
