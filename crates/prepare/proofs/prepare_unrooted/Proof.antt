@@ -11,6 +11,13 @@ slice-aggregate-keep-forest c = search needs
 keep-forest-requires : tie.Need-keep-forest-requires
 keep-forest-requires c κs = search needs
 
+-- Where the forest is kept: what was asked. Where the merges are recorded: back to there.
+abbrev start : tie.After-keep-forest → tie.Start
+start k = k .before .before .before .before .before .before .before .before .before .before .before .before .before
+
+abbrev forest-kept : tie.After-record-merges → tie.After-keep-forest
+forest-kept m = m .before .before .before .before .before .before .before .before .before .before .before .before
+
 slice-reshare-prefix-record-merges : tie.Need-slice-reshare-prefix-record-merges
 slice-reshare-prefix-record-merges c = search needs
 
@@ -41,8 +48,8 @@ same-length-6 c = search needs
 returns : tie.Need-returns
 returns c =
     let m = c .before .before .before .before in
-    let k = let d = m .before .before .before .before .before .before in d .before .before .before .before .before .before in
-    let s = let d = k .before .before .before .before .before .before in d .before .before .before .before .before .before .before in
+    let k = forest-kept m in
+    let s = start k in
     let f = k .keep-forest .ensures in
     let recorded = m .record-merges .ensures in
     let size = length-take-le (k .keep-forest .result .forest) (k .keep-forest .last .1 .1 .1 .1 .1 .0) (f .forest-room) in

@@ -14,6 +14,13 @@ use Rattle.needs.proofs.history.record_merges.Tie as tie
 abbrev start : tie.After-start-labels → tie.Start
 start l = l .before .before .before .before .before .before .before .before
 
+-- Where the merges are recorded, and where all vertices were apart before.
+abbrev merged : tie.After-slice-known4 → tie.After-merge-all
+merged c = c .before .before .before .before .before .before
+
+abbrev labelled : tie.After-merge-all → tie.After-start-labels
+labelled m = m .before .before .before .before .before .before
+
 slice-aggregate-start-labels : tie.Need-slice-aggregate-start-labels
 slice-aggregate-start-labels c = search needs
 
@@ -51,17 +58,15 @@ merge-all-requires c κs =
     }
 
 same-length : tie.Need-same-length
-same-length c =
-    let l = c .before .before .before .before .before .before .before .before .before .before .before .before in
-    omega (arith, length-set (start l .args .total .now) 0 0)
+same-length c = omega (arith, length-set (start (labelled (merged c)) .args .total .now) 0 0)
 
 same-length-2 : tie.Need-same-length-2
 same-length-2 c = search needs
 
 returns : tie.Need-returns
 returns c =
-    let m = c .before .before .before .before .before .before in
-    let total = start (m .before .before .before .before .before .before) .args .total .now in
+    let m = merged c in
+    let total = start (labelled m) .args .total .now in
     let w = m .merge-all .ensures .written in
     record {
       history = w .history;
