@@ -12,6 +12,8 @@ use Rattle.graph.specs.Fault.{faultIf}
 use Rattle.rules.specs.Questions.{crewCount, tooManyRoots, crewFault}
 use Rattle.admit.specs.declared.crews.Kind.{Kind}
 use Rattle.admit.specs.declared.crews.Kind.the-variants.{Rooted, Unrooted}
+use Rattle.admit.specs.declared.refusal.Refusal.the-variants.{Crews}
+use Rattle.admit.specs.Refusals.{numberOf}
 use Rattle.admit.specs.Crews.{crewsOf, CrewsTested}
 
 -- There are as many crews as k says.
@@ -22,7 +24,7 @@ crew-count Unrooted k = refl
 
 module _ (kind : Kind) (k n : ℕ) where
   -- The test of the crews says no, with 21.
-  refused-crews : crewFault (crewsOf kind k) n ≡ some 21 → CrewsTested (crewsOf kind k) n false
+  refused-crews : crewFault (crewsOf kind k) n ≡ some (numberOf Crews) → CrewsTested (crewsOf kind k) n false
   refused-crews q = record { right = λ t. absurd (false≢true t); wrong = λ t. q }
 
   pub no-crews : k < 1 → CrewsTested (crewsOf kind k) n false
@@ -34,7 +36,7 @@ module _ (kind : Kind) (k n : ℕ) where
   many-crews h = refused-crews (rw (crew-count kind k, le-ltb k 1 (omega arith), lt-ltb 32 k h))
 
   -- There are 1 to 32 crews: only the roots may be too many.
-  few-crews : 1 ≤ k → k ≤ 32 → crewFault (crewsOf kind k) n ≡ faultIf (tooManyRoots (crewsOf kind k) n) 21
+  few-crews : 1 ≤ k → k ≤ 32 → crewFault (crewsOf kind k) n ≡ faultIf (tooManyRoots (crewsOf kind k) n) (numberOf Crews)
   unfolding crewFault
   few-crews h l = rw (crew-count kind k, le-ltb k 1 h, le-ltb 32 k l)
 

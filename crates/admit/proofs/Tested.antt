@@ -1,7 +1,7 @@
 -- The tests of what every question brings, in the order of document 01: what each makes of what is refused.
 -- Assumes nothing.
 use Prim.Native.Nat.{ℕ}
-use mathlib.Core.Path.{_≡_, ap, _∙_, sym}
+use mathlib.Core.Path.{_≡_, sym}
 use mathlib.Core.List.{[], _∷_}
 use mathlib.Core.Option.{some, none}
 use Rattle.graph.specs.Fault.{Fault, firstFault}
@@ -21,7 +21,7 @@ module _ (q : Question) where
     unfolding questionFault sheetFault numberIn firstFault
     crews-decide e = rw (passed, sym (yes-graph (q .sheet) passed .vertices-are), e)
 
-    pub crews-refused : crewFault (crewsIn q) n ≡ some 21 → some 21 ≡ questionFault q
+    pub crews-refused : {number : ℕ} → crewFault (crewsIn q) n ≡ some number → some number ≡ questionFault q
     unfolding firstFault
     crews-refused e = crews-decide e
 

@@ -2,26 +2,21 @@
 -- Assumes nothing.
 use Prim.Native.Nat.{ℕ, _≤_}
 use mathlib.Core.Path.{_≡_, refl}
-use mathlib.Core.Bool.{Bool, true, false, _||_}
+use mathlib.Core.Bool.{true, false}
 use mathlib.Core.List.{List, []}
 use mathlib.Core.Option.{none}
 use native.Mathlib.Omega.{arith}
-use lib.ListN.{length, getD}
-use lib.Dec.{ltb}
-use borrow.Author.Tests.{ltb-false}
+use lib.ListN.{getD}
 use Rattle.lists.specs.Count.{below}
-use Rattle.lists.proofs.Every.{first-false, second-false}
 use Rattle.lists.proofs.Places.{at-place}
 use Rattle.lists.proofs.Runs.{length-below}
 use Rattle.graph.specs.Graph.{Graph}
-use Rattle.graph.specs.Fault.{faultIf}
-use Rattle.graph.proofs.Faults.{quiet-if}
 use Rattle.rules.specs.Cover as cover
 use Rattle.rules.specs.RootedTrial.{Choices}
 use Rattle.rules.specs.Search.{noCover, bestLimit, best}
-use Rattle.rules.specs.Questions.{crewCount, tooManyRoots, crewFault, written, bufferAfter}
+use Rattle.rules.specs.Questions.{crewCount, crewFault, written, bufferAfter}
 use Rattle.rules.specs.Fit.{GoodFor}
-use Rattle.rules.proofs.CrewsRight.{rooted-fit}
+use Rattle.rules.proofs.CrewsRight.{quiet-crews, rooted-fit}
 use Rattle.planner_laws.proofs.SomeChoices.{some-choices}
 use Rattle.admit.specs.declared.crews.Kind.{Kind}
 use Rattle.admit.specs.declared.crews.Kind.the-variants.{Rooted, Unrooted}
@@ -62,12 +57,9 @@ module _ {g : Graph} {crews : cover.Crews} where
 
 -- The crews of a question that are not refused: at most 32,
 pub crews-few : (kind : Kind) (k n : ℕ) → crewFault (crewsOf kind k) n ≡ none → k ≤ 32
-unfolding crewFault crewCount tooManyRoots
-crews-few Rooted k n e = omega (arith, length-below k, few-of (length (below k)) _ e)
-  where
-    few-of : (c : ℕ) (t : Bool) → faultIf (ltb c 1 || (ltb 32 c || t)) 21 ≡ none → c ≤ 32
-    few-of c t e = ltb-false 32 c (first-false (ltb 32 c) t (second-false (ltb c 1) (ltb 32 c || t) (quiet-if (ltb c 1 || (ltb 32 c || t)) 21 e)))
-crews-few Unrooted k n e = ltb-false 32 k (first-false (ltb 32 k) false (second-false (ltb k 1) (ltb 32 k || false) (quiet-if (ltb k 1 || (ltb 32 k || false)) 21 e)))
+unfolding crewCount
+crews-few Rooted k n e = let (some, few, fit) = quiet-crews (crewsOf Rooted k) n e in omega (arith, few, length-below k)
+crews-few Unrooted k n e = let (some, few, fit) = quiet-crews (crewsOf Unrooted k) n e in few
 
 -- with the roots 0 to k - 1, all of them vertices,
 module _ {kind : Kind} {k room : ℕ} {g : Graph} {asked : Asked} (a : CrewsAsked kind k g asked room) where

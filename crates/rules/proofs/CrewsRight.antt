@@ -24,7 +24,7 @@ unfolding crewFault
 quiet-crews crews n e =
     let few = ltb (crewCount crews) 1 in
     let many = ltb 32 (crewCount crews) in
-    let quiet = quiet-if (few || (many || tooManyRoots crews n)) 21 e in
+    let quiet = quiet-if (few || (many || tooManyRoots crews n)) _ e in
     let rest = second-false few (many || tooManyRoots crews n) quiet in
     (ltb-false _ _ (first-false few _ quiet), ltb-false _ _ (first-false many (tooManyRoots crews n) rest), second-false many (tooManyRoots crews n) rest)
 
