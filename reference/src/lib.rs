@@ -33,4 +33,5 @@ pub mod rounds;
 pub mod split;
 pub mod trial;
 pub mod unrooted;
+pub mod walk;
 pub mod written;

@@ -16,4 +16,6 @@ mod optimum;
 mod refusals;
 mod small_districts;
 mod tempting;
+mod walk_questions;
+mod walks;
 mod written;

@@ -1,6 +1,7 @@
 //! What several tables of cases share.
 #![allow(dead_code, unused_imports)]
 
+pub mod crossings;
 pub mod other;
 pub mod replies;
 
