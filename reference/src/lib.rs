@@ -28,6 +28,7 @@ pub mod optimum;
 pub mod question;
 pub mod random;
 pub mod replies;
+pub mod rivals;
 pub mod rooted;
 pub mod rounds;
 pub mod split;

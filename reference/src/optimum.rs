@@ -5,7 +5,7 @@ use crate::cover::Tree;
 use crate::graph::Graph;
 use crate::question::Kind;
 
-/// A tree as seen from outside: the set of vertices it covers, as bits, and its weight.
+/// A tree, or a walk, as seen from outside: the set of vertices it covers, as bits, and its weight, or length.
 pub type Shape = (usize, u64);
 
 /// Every tree of the graph: each vertex alone, and each set of edges that is a tree.
@@ -27,22 +27,34 @@ pub fn all_trees(graph: &Graph) -> Vec<Shape> {
 /// The least heaviest weight of any cover of the kind with this k, or nothing where there is none.
 pub fn optimum(kind: Kind, graph: &Graph, k: usize) -> Option<u64> {
     let shapes = all_trees(graph);
-    let mut reach: Vec<Option<u64>> = vec![None; 1 << graph.n];
+    least_heaviest(kind, graph.n, k, |j| {
+        let fits = |shape: &&Shape| kind == Kind::Unrooted || shape.0 >> j & 1 == 1;
+        shapes.iter().filter(fits).copied().collect()
+    })
+}
+
+/// The least heaviest weight of k shapes that together cover n vertices, shape j being one of the choices for j;
+/// without roots of at most k shapes. Nothing where there are none.
+pub fn least_heaviest(
+    kind: Kind,
+    n: usize,
+    k: usize,
+    choices: impl Fn(usize) -> Vec<Shape>,
+) -> Option<u64> {
+    let mut reach: Vec<Option<u64>> = vec![None; 1 << n];
     reach[0] = Some(0);
     for j in 0..k {
-        let fits = |shape: &&Shape| kind == Kind::Unrooted || shape.0 >> j & 1 == 1;
-        let choices: Vec<Shape> = shapes.iter().filter(fits).copied().collect();
-        let with = add_tree(&reach, &choices);
+        let with = add_shape(&reach, &choices(j));
         reach = match kind {
             Kind::Rooted => with,
             Kind::Unrooted => (0..reach.len()).map(|s| lesser(reach[s], with[s])).collect(),
         };
     }
-    reach[(1 << graph.n) - 1]
+    reach[(1 << n) - 1]
 }
 
-/// For each vertex set, the least heaviest weight after one more tree among the choices.
-fn add_tree(reach: &[Option<u64>], choices: &[Shape]) -> Vec<Option<u64>> {
+/// For each vertex set, the least heaviest weight after one more shape among the choices.
+fn add_shape(reach: &[Option<u64>], choices: &[Shape]) -> Vec<Option<u64>> {
     let mut with = vec![None; reach.len()];
     for (set, heaviest) in reach.iter().enumerate() {
         let Some(heaviest) = *heaviest else { continue };

@@ -14,6 +14,7 @@ mod made_questions;
 mod made_trials;
 mod optimum;
 mod refusals;
+mod rivals;
 mod small_districts;
 mod tempting;
 mod walk_questions;
