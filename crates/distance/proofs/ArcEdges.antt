@@ -16,7 +16,8 @@ use Rattle.lists.proofs.SlicePlaces.{in-slice, of-slice}
 use Rattle.graph.specs.Graph.{Graph, edgeCount, weightOf}
 use Rattle.rules.specs.Walk.{Joins}
 use Rattle.rules.proofs.FarEnd.{far-end, joins-far, end-test}
-use Rattle.edges.specs.Around.{arcOf, arcEdge, arcHead, arcWeight, touches, arcsAt, Around}
+use Rattle.rules.specs.Grow.{touches}
+use Rattle.edges.specs.Around.{arcOf, arcEdge, arcHead, arcWeight, arcsAt, Around}
 use Rattle.distance.specs.Relaxing.{ArcAt}
 use Rattle.edges.proofs.Arcs.{arc-edge, valid-arc-head, valid-arc-weight}
 

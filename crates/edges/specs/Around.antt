@@ -2,16 +2,14 @@
 -- Assumes nothing.
 use Prim.Native.Nat.{ℕ, _+_, _*_, _/_, _%_, _≤_, _<_}
 use mathlib.Core.Path.{_≡_}
-use mathlib.Core.Bool.{Bool, _||_}
 use mathlib.Core.List.{List, map}
 use lib.ListN.{length, getD}
-use lib.Dec.{eqb}
 use Rattle.lists.specs.Lists.{filter}
 use Rattle.lists.specs.Member.{_∈_}
 use Rattle.lists.specs.Segments.{segment}
-use Rattle.graph.specs.Graph.{Graph, edgeCount, oneEnd, otherEnd, weightOf}
+use Rattle.graph.specs.Graph.{Graph, edgeCount, weightOf}
 use Rattle.graph.specs.Valid.{Valid}
-use Rattle.rules.specs.Grow.{farEnd}
+use Rattle.rules.specs.Grow.{farEnd, touches}
 
 -- An arc is an edge as it is seen from one of its ends: its number, the vertex at its far end (the arc's head), and its weight.
 -- One number holds all three, so that one element of an array says all that a walk wants to know of an edge.
@@ -26,10 +24,6 @@ arcHead a = a / 65536 % 65536
 
 unfoldable pub arcWeight : ℕ → ℕ
 arcWeight a = a / 4294967296
-
--- The edge has v as an end.
-unfoldable pub touches : Graph → ℕ → ℕ → Bool
-touches g v e = eqb (oneEnd g e) v || eqb (otherEnd g e) v
 
 -- The arcs of v over a list of edges, in the list's order.
 unfoldable pub arcsAt : Graph → List ℕ → ℕ → List ℕ

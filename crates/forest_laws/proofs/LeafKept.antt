@@ -9,14 +9,14 @@ use mathlib.Core.Logic.{_⊎_, inl, inr}
 use native.Mathlib.Omega.{arith}
 use lib.Dec.{eqb}
 use borrow.Author.Tests.{eq-eqb, ne-eqb}
-use Rattle.lists.specs.Lists.{filter, member}
+use Rattle.lists.specs.Lists.{filter, member, times}
 use Rattle.lists.specs.Member.{_∈_}
 use Rattle.lists.specs.Sort.{rise}
 use Rattle.lists.proofs.Below.{equal-or-not}
 use Rattle.lists.proofs.Member.{either, in-filter, of-filter, in-member, member-in, member-out}
 use Rattle.lists.proofs.InOrder.{rising-once}
 use Rattle.lists.proofs.Sorting.{in-rise}
-use Rattle.lists.proofs.Times.{times, in-times, not-in-times, once-times}
+use Rattle.lists.proofs.Times.{in-times, not-in-times, once-times}
 use Rattle.graph.specs.Graph.{Graph, oneEnd, otherEnd, weightOf}
 use Rattle.rules.specs.Walk.{Joins, onward, back}
 use Rattle.rules.specs.Labels.{Labels, apart, together, mergeAll}

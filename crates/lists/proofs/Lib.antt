@@ -6,6 +6,8 @@ pub mod Member
 pub mod InOrder
 -- an element in the middle of a list
 pub mod Middle
+-- a list cut at an element in two ways
+pub mod Cuts
 -- a list gone through element by element
 pub mod TakeDrop
 -- segments of a list

@@ -6,10 +6,10 @@ use mathlib.Core.Bool.{cond}
 use mathlib.Core.List.{List, [], _∷_}
 use native.Mathlib.Omega.{arith}
 use lib.Dec.{eqb}
-use Rattle.lists.specs.Lists.{sumOf}
+use Rattle.lists.specs.Lists.{sumOf, times}
 use Rattle.lists.specs.Member.{_∈_}
 use Rattle.lists.proofs.Sums.{removed, sum-removed}
-use Rattle.lists.proofs.Times.{times, times-none, times-cons, times-one, times-in}
+use Rattle.lists.proofs.Times.{times-none, times-cons, times-one, times-in}
 
 -- every number stands in a list as often as at one place and in the list without that place
 times-removed : (z : ℕ) {x : ℕ} {xs : List ℕ} (m : x ∈ xs) → times z xs ≡ times z (x ∷ []) + times z (removed m)

@@ -10,17 +10,13 @@ use native.Mathlib.Decide.{ℕ-discrete}
 use native.Mathlib.Omega.{arith}
 use lib.Dec.{eqb}
 use borrow.Author.Tests.{eqb-true, eq-eqb, ne-eqb}
-use Rattle.lists.specs.Lists.{flat, sumOf}
+use Rattle.lists.specs.Lists.{flat, sumOf, times}
 use Rattle.lists.specs.Member.{_∈_}
 use Rattle.lists.specs.Sort.{rise}
 use Rattle.lists.proofs.InOrder.{none, next, Once}
 use Rattle.lists.proofs.Sums.{sum-append}
 use Rattle.lists.proofs.SumsAlike.{sum-flat-map}
 use Rattle.lists.proofs.Sorting.{sum-rise}
-
--- how often x stands in the list
-unfoldable pub times : ℕ → List ℕ → ℕ
-times x xs = sumOf (λ y. cond (eqb x y) 1 0) xs
 
 -- joined and sorted lists
 pub times-append : (x : ℕ) (xs ys : List ℕ) → times x (xs ++ ys) ≡ times x xs + times x ys

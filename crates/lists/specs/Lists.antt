@@ -46,6 +46,10 @@ module _ {ℓ} {A : Type ℓ} where
 unfoldable pub member : ℕ → List ℕ → Bool
 member v = any (eqb v)
 
+-- how often the number stands in the list
+unfoldable pub times : ℕ → List ℕ → ℕ
+times x xs = sumOf (λ y. cond (eqb x y) 1 0) xs
+
 -- the list without that number
 unfoldable pub without : ℕ → List ℕ → List ℕ
 without v = filter (λ u. not (eqb v u))

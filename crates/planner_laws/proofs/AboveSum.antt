@@ -11,13 +11,13 @@ use lib.ListN.{length, length-map}
 use lib.Dec.{leb}
 use borrow.Author.Tests.{le-leb, ltb-false, not-false}
 use Rattle.lists.specs.Member.{_∈_}
-use Rattle.lists.specs.Lists.{flat}
+use Rattle.lists.specs.Lists.{flat, times}
 use Rattle.lists.specs.Count.{below}
 use Rattle.lists.proofs.Bounds.{sum-each}
 use Rattle.lists.proofs.Filters.{filter-all}
 use Rattle.lists.proofs.Sums.{sum-within}
 use Rattle.lists.proofs.SumsAlike.{sum-same, length-sum}
-use Rattle.lists.proofs.Times.{times, times-append, times-once}
+use Rattle.lists.proofs.Times.{times-append, times-once}
 use Rattle.graph.specs.Graph.{Graph, edgeCount, weightOf}
 use Rattle.graph.specs.Valid.{Valid}
 use Rattle.matching.specs.Assignable.{assignable}

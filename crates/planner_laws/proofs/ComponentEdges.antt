@@ -8,7 +8,7 @@ use mathlib.Core.List.{List, map}
 use native.Mathlib.Omega.{arith}
 use lib.Dec.{eqb}
 use borrow.Author.Tests.{eqb-true, eq-eqb}
-use Rattle.lists.specs.Lists.{filter, sumOf}
+use Rattle.lists.specs.Lists.{filter, sumOf, times}
 use Rattle.lists.specs.Member.{_∈_}
 use Rattle.lists.specs.Sort.{rise}
 use Rattle.lists.proofs.Member.{in-filter, of-filter}
@@ -17,7 +17,7 @@ use Rattle.lists.proofs.Images.{same-image}
 use Rattle.lists.proofs.Bounds.{sum-each}
 use Rattle.lists.proofs.SumsAlike.{sum-flat-map}
 use Rattle.lists.proofs.Sorting.{in-rise, of-rise}
-use Rattle.lists.proofs.Times.{times, in-times, times-in, not-in-times, once-times}
+use Rattle.lists.proofs.Times.{in-times, times-in, not-in-times, once-times}
 use Rattle.lists.proofs.SameTimes.{same-sum}
 use Rattle.graph.specs.Graph.{Graph, oneEnd, weightOf}
 use Rattle.rules.specs.Walk.{totalWeight}

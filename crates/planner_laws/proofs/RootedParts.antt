@@ -10,14 +10,14 @@ use native.Mathlib.Omega.{arith}
 use native.Mathlib.Nat.{lt-of-not-le, mul-le-mul-right, suc-mul}
 use lib.ListN.{length}
 use Rattle.lists.specs.Count.{below}
-use Rattle.lists.specs.Lists.{filter, flat, sumOf, member}
+use Rattle.lists.specs.Lists.{filter, flat, sumOf, member, times}
 use Rattle.lists.specs.Member.{_∈_}
 use lib.Dec.{eqb}
 use Rattle.lists.proofs.Chosen.{chosen, of-chosen, sum-chosen, chosen-least, chosen-most}
 use Rattle.lists.proofs.Fewer.{count-bounded}
 use Rattle.lists.proofs.InOrder.{Once}
 use Rattle.lists.proofs.Places.{map-at-places}
-use Rattle.lists.proofs.Times.{times, times-once}
+use Rattle.lists.proofs.Times.{times-once}
 use Rattle.graph.specs.Graph.{Graph, weightOf}
 use Rattle.graph.specs.Valid.{Valid}
 use Rattle.matching.specs.Assignment.{IsDeficient, marked, markedParts, allowedRoots}

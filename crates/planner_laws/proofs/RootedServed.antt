@@ -9,7 +9,7 @@ use mathlib.Core.Option.{none}
 use native.Mathlib.Omega.{arith}
 use lib.ListN.{length, getD, length-map}
 use Rattle.lists.specs.Count.{below}
-use Rattle.lists.specs.Lists.{filter, sumOf}
+use Rattle.lists.specs.Lists.{filter, sumOf, times}
 use Rattle.lists.specs.Member.{_∈_}
 use Rattle.lists.specs.Sort.{rise}
 use Rattle.lists.proofs.Below.{of-below}
@@ -19,7 +19,7 @@ use Rattle.lists.proofs.Member.{of-filter}
 use Rattle.lists.proofs.Places.{at-place}
 use Rattle.lists.proofs.Sorting.{in-rise, of-rise}
 use Rattle.lists.proofs.SumsAlike.{sum-same, sum-plus, sum-of-map}
-use Rattle.lists.proofs.Times.{times, times-append, times-flat, not-in-times}
+use Rattle.lists.proofs.Times.{times-append, times-flat, not-in-times}
 use Rattle.graph.specs.Graph.{Graph, weightOf}
 use Rattle.rules.specs.Cover.{Tree}
 use Rattle.rules.specs.CoverBytes.{entryEdges}

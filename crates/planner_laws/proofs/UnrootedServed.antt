@@ -6,13 +6,13 @@ use mathlib.Core.Path.{_≡_, refl, sym, _∙_}
 use mathlib.Core.List.{List, [], _∷_, _++_, map, Memᴰ·cast}
 use mathlib.Core.Logic.{_⊎_, inl, inr}
 use native.Mathlib.Omega.{arith}
-use Rattle.lists.specs.Lists.{flat, sumOf}
+use Rattle.lists.specs.Lists.{flat, sumOf, times}
 use Rattle.lists.specs.Member.{_∈_}
 use Rattle.lists.specs.Sort.{rise}
 use Rattle.lists.proofs.Sorting.{sum-sort}
 use Rattle.lists.proofs.SumsAlike.{sum-same, sum-of-map, sum-flat-map}
 use Rattle.lists.proofs.Sums.{sum-append}
-use Rattle.lists.proofs.Times.{times, times-flat, times-none, times-append, times-rise, in-times, once-times}
+use Rattle.lists.proofs.Times.{times-flat, times-none, times-append, times-rise, in-times, once-times}
 use Rattle.graph.specs.Graph.{Graph, weightOf, oneEnd, otherEnd}
 use Rattle.rules.specs.Walk.{Joins, onward, back}
 use Rattle.rules.specs.Cover.{Tree}

@@ -6,6 +6,7 @@ use mathlib.Core.Path.{_≡_}
 use mathlib.Core.List.{List}
 use mathlib.Core.Logic.{_⊎_, inl, inr}
 use native.Mathlib.Omega.{arith}
+use Rattle.lists.specs.Lists.{times}
 use Rattle.lists.specs.Member.{_∈_}
 use Rattle.lists.specs.InOrder.{Rising}
 use Rattle.lists.specs.Sort.{rise}
@@ -13,7 +14,7 @@ use Rattle.lists.proofs.Below.{equal-or-not}
 use Rattle.lists.proofs.Bounds.{sum-each}
 use Rattle.lists.proofs.Without.{without-within}
 use Rattle.lists.proofs.SumsAlike.{sum-zero}
-use Rattle.lists.proofs.Times.{times, times-rise}
+use Rattle.lists.proofs.Times.{times-rise}
 use Rattle.graph.specs.Graph.{Graph, weightOf}
 use Rattle.rules.specs.Walk.{totalWeight}
 use Rattle.rules.specs.Cover.{Tree, IsTree, treeWeight}

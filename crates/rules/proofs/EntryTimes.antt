@@ -3,8 +3,8 @@
 use Prim.Native.Nat.{ℕ}
 use mathlib.Core.Path.{_≡_}
 use mathlib.Core.List.{List}
-use Rattle.lists.specs.Lists.{sumOf}
-use Rattle.lists.proofs.Times.{times, times-flat}
+use Rattle.lists.specs.Lists.{sumOf, times}
+use Rattle.lists.proofs.Times.{times-flat}
 use Rattle.rules.specs.Cover.{Tree}
 use Rattle.rules.specs.CoverBytes.{entryEdges}
 

@@ -31,6 +31,10 @@ pub record Grown : Type 0 where
 unfoldable pub farEnd : Graph → ℕ → ℕ → ℕ
 farEnd g e v = cond (eqb (oneEnd g e) v) (otherEnd g e) (oneEnd g e)
 
+-- The edge has v as an end.
+unfoldable pub touches : Graph → ℕ → ℕ → Bool
+touches g v e = eqb (oneEnd g e) v || eqb (otherEnd g e) v
+
 -- The edge leads from v to a vertex not yet passed.
 unfoldable pub leadsOn : Graph → List ℕ → ℕ → ℕ → Bool
 leadsOn g passed v e = (eqb (oneEnd g e) v || eqb (otherEnd g e) v) && not (member (farEnd g e v) passed)

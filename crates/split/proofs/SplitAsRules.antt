@@ -18,14 +18,14 @@ use Rattle.lists.proofs.Member.{of-filter}
 use Rattle.graph.specs.Graph.{Graph, weightOf}
 use Rattle.rules.specs.Walk.{totalWeight}
 use Rattle.rules.specs.Cover.{Tree}
-use Rattle.rules.specs.Grow.{Grown, farEnd, leadsOn, growChildren, growNode}
+use Rattle.rules.specs.Grow.{Grown, farEnd, touches, leadsOn, growChildren, growNode}
 use Rattle.rules.specs.Split.{reaches, settle, splitAt}
 use Rattle.split_laws.proofs.Weights.{weight-none, weight-cons, weight-append}
 use Rattle.split_laws.proofs.Leads.{leads-on}
 use Rattle.split_laws.proofs.Filtered.{grow-filtered}
 use Rattle.split_laws.proofs.Grown.{kept, node-grows}
 use Rattle.split_laws.proofs.Deep.{unpassed, unpassed-more, unpassed-fewer, unpassed-below}
-use Rattle.edges.specs.Around.{arcOf, arcEdge, arcHead, arcWeight, touches, arcsAt, Around}
+use Rattle.edges.specs.Around.{arcOf, arcEdge, arcHead, arcWeight, arcsAt, Around}
 use Rattle.edges.proofs.Arcs.{arc-edge, far-end-below, valid-arc-head, valid-arc-weight}
 use Rattle.bunches.specs.Settles.{Load, load, Settles, alone, full, joins}
 use Rattle.split.specs.SplitBelow.{unmarked, passing, pieceOf, SplitBelow, done, past, child}

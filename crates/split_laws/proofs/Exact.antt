@@ -8,13 +8,13 @@ use mathlib.Core.List.{List, [], _∷_, _++_, append-nil}
 use mathlib.Core.Logic.{_⊎_, inl, inr}
 use native.Mathlib.Omega.{arith}
 use lib.Dec.{eqb}
-use Rattle.lists.specs.Lists.{flat, sumOf}
+use Rattle.lists.specs.Lists.{flat, sumOf, times}
 use Rattle.lists.specs.Member.{_∈_}
 use Rattle.lists.proofs.FlatMap.{in-flat-map, of-flat-map}
 use Rattle.lists.proofs.Sums.{sum-append}
 use Rattle.lists.proofs.SumsAlike.{sum-flat-map}
 use Rattle.lists.proofs.Sorting.{sum-rise}
-use Rattle.lists.proofs.Times.{times, times-append, in-times, times-in}
+use Rattle.lists.proofs.Times.{times-append, in-times, times-in}
 use Rattle.graph.specs.Graph.{Graph, weightOf}
 use Rattle.rules.specs.Walk.{totalWeight}
 use Rattle.rules.specs.Cover.{Tree}

@@ -8,9 +8,10 @@ use mathlib.Core.Bool.{Bool, true, false, cond}
 use mathlib.Core.List.{List, [], _∷_, _++_, List·Memᴰ·head, List·Memᴰ·tail, List·Memᴰ·not-nil, List·Memᴰ·append-cases, Memᴰ·cast}
 use mathlib.Core.Logic.{_⊎_, inl, inr}
 use native.Mathlib.Omega.{arith}
+use Rattle.lists.specs.Lists.{times}
 use Rattle.lists.specs.Member.{_∈_}
 use Rattle.lists.proofs.Below.{equal-or-not}
-use Rattle.lists.proofs.Times.{times, times-none, times-append, times-cons, times-one, times-other, in-times, times-in, not-in-times}
+use Rattle.lists.proofs.Times.{times-none, times-append, times-cons, times-one, times-other, in-times, times-in, not-in-times}
 use Rattle.graph.specs.Graph.{Graph, oneEnd, otherEnd}
 use Rattle.rules.specs.Walk.{Joins, onward, back}
 use Rattle.rules.specs.Grow.{none, branch, branchEdges, Grown, farEnd, leadsOn, growChildren, growNode}

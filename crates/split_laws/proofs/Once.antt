@@ -5,10 +5,10 @@ use Prim.Native.Nat.{ℕ, zero, suc, _≤_, _<_}
 use mathlib.Core.Path.{_≡_, refl, sym, _∙_}
 use mathlib.Core.List.{List, [], Memᴰ·cast}
 use native.Mathlib.Omega.{arith}
-use Rattle.lists.specs.Lists.{without}
+use Rattle.lists.specs.Lists.{without, times}
 use Rattle.lists.specs.Member.{_∈_}
 use Rattle.lists.proofs.Member.{in-without}
-use Rattle.lists.proofs.Times.{times, in-times, times-in, not-in-times}
+use Rattle.lists.proofs.Times.{in-times, times-in, not-in-times}
 use Rattle.graph.specs.Graph.{Graph, oneEnd, otherEnd}
 use Rattle.rules.specs.Walk.{Joins, onward, back, Linked}
 use Rattle.rules.specs.Grow.{grow}

@@ -4,11 +4,12 @@ use Prim.Native.Nat.{ℕ, _≤_}
 use mathlib.Core.Path.{_≡_, refl}
 use mathlib.Core.List.{List}
 use native.Mathlib.Omega.{arith}
+use Rattle.lists.specs.Lists.{times}
 use Rattle.lists.specs.Member.{_∈_}
 use Rattle.lists.specs.InOrder.{Rising}
 use Rattle.lists.specs.Sort.{rise}
 use Rattle.lists.proofs.Sorting.{rise-rising}
-use Rattle.lists.proofs.Times.{times, times-rise, times-once}
+use Rattle.lists.proofs.Times.{times-rise, times-once}
 use Rattle.graph.specs.Graph.{Graph}
 use Rattle.rules.specs.Cover.{Tree}
 use Rattle.rules.specs.Grow.{Rooted}

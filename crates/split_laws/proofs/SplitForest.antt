@@ -5,11 +5,11 @@ use Prim.Native.Nat.{ℕ, _+_, _≤_}
 use mathlib.Core.Path.{_≡_}
 use mathlib.Core.List.{List, [], _∷_, map}
 use native.Mathlib.Omega.{arith}
-use Rattle.lists.specs.Lists.{flat}
+use Rattle.lists.specs.Lists.{flat, times}
 use Rattle.lists.specs.Member.{_∈_}
 use Rattle.lists.proofs.Member.{in-map, of-map}
 use Rattle.lists.proofs.FlatMap.{in-flat-map, of-flat-map}
-use Rattle.lists.proofs.Times.{times, times-none, times-append}
+use Rattle.lists.proofs.Times.{times-none, times-append}
 use Rattle.graph.specs.Graph.{Graph}
 use Rattle.rules.specs.Cover.{Tree}
 use Rattle.rules.specs.Grow.{Rooted, branchEdges, grow}

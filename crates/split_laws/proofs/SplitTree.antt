@@ -5,8 +5,9 @@ use mathlib.Core.Path.{_≡_}
 use mathlib.Core.List.{[], _∷_, List·Memᴰ·not-nil}
 use mathlib.Core.Logic.{_⊎_}
 use native.Mathlib.Omega.{arith}
+use Rattle.lists.specs.Lists.{times}
 use Rattle.lists.specs.Member.{_∈_}
-use Rattle.lists.proofs.Times.{times, times-none}
+use Rattle.lists.proofs.Times.{times-none}
 use Rattle.graph.specs.Graph.{Graph, weightOf}
 use Rattle.rules.specs.Walk.{totalWeight}
 use Rattle.rules.specs.Cover.{Tree, treeWeight}

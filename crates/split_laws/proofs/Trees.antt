@@ -5,11 +5,11 @@ use Prim.Native.Nat.{ℕ, _+_, _-_, _≤_}
 use mathlib.Core.Path.{_≡_, refl, ap}
 use mathlib.Core.List.{List, [], _∷_, map, List·Memᴰ·head, List·Memᴰ·tail, List·Memᴰ·not-nil}
 use native.Mathlib.Omega.{arith}
-use Rattle.lists.specs.Lists.{flat}
+use Rattle.lists.specs.Lists.{flat, times}
 use Rattle.lists.specs.Member.{_∈_}
 use Rattle.lists.proofs.Member.{in-map}
 use Rattle.lists.proofs.FlatMap.{in-flat-map, of-flat-map}
-use Rattle.lists.proofs.Times.{times, times-none, times-append, times-cons}
+use Rattle.lists.proofs.Times.{times-none, times-append, times-cons}
 use Rattle.graph.specs.Graph.{Graph}
 use Rattle.rules.specs.Grow.{branchEdges, Rooted, growNode, growFrom, grow}
 use Rattle.split_laws.proofs.Along.{Hangs, children}

@@ -9,11 +9,11 @@ use mathlib.Core.List.{List, [], _∷_, _++_}
 use native.Mathlib.Omega.{arith}
 use lib.Dec.{leb, ltb}
 use borrow.Author.Tests.{ltb-true, lt-ltb, leb-true, leb-false}
-use Rattle.lists.specs.Lists.{sumOf, flat}
+use Rattle.lists.specs.Lists.{sumOf, flat, times}
 use Rattle.lists.specs.Member.{_∈_}
 use Rattle.lists.proofs.Member.{empty-list}
 use Rattle.lists.proofs.Sums.{sum-append}
-use Rattle.lists.proofs.Times.{times, times-append}
+use Rattle.lists.proofs.Times.{times-append}
 use Rattle.graph.specs.Graph.{Graph, weightOf}
 use Rattle.rules.specs.Walk.{totalWeight}
 use Rattle.rules.specs.Cover.{Tree, treeWeight}

@@ -9,10 +9,11 @@ use mathlib.Core.Logic.{_⊎_, inl, inr}
 use mathlib.Core.Option.{none}
 use native.Mathlib.Omega.{arith}
 use lib.ListN.{length}
+use Rattle.lists.specs.Lists.{times}
 use Rattle.lists.specs.Member.{_∈_}
 use Rattle.lists.specs.Sort.{rise}
 use Rattle.lists.proofs.Sorting.{in-rise, of-rise}
-use Rattle.lists.proofs.Times.{times, times-rise, in-times, once-times}
+use Rattle.lists.proofs.Times.{times-rise, in-times, once-times}
 use Rattle.graph.specs.Graph.{Graph, edgeCount, oneEnd, otherEnd}
 use Rattle.graph.specs.Valid.{Valid}
 use Rattle.rules.specs.Walk.{Joins, Linked}

@@ -16,9 +16,9 @@ use Rattle.lists.proofs.Member.{of-filter, of-map}
 use Rattle.graph.specs.Graph.{Graph, oneEnd, otherEnd}
 use Rattle.rules.specs.Cover.{Tree}
 use Rattle.rules.specs.Distance.{treeVertices}
-use Rattle.rules.specs.Grow.{farEnd}
+use Rattle.rules.specs.Grow.{farEnd, touches}
 use Rattle.rules.specs.Split.{partAt}
-use Rattle.edges.specs.Around.{arcOf, arcEdge, arcHead, touches, arcsAt, Around}
+use Rattle.edges.specs.Around.{arcOf, arcEdge, arcHead, arcsAt, Around}
 use Rattle.edges.proofs.Arcs.{arc-edge, valid-arc-head}
 
 -- Two that stand before a third change places.
