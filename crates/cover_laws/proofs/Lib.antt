@@ -1,4 +1,4 @@
--- The check of a filed cover says yes exactly to covers, in reading order.
+-- The check of a filed cover says yes exactly to covers; and the closed walks along a cover's trees. In reading order.
 -- Bytes and trees:
 -- entries as pairs, and the edges of each tree
 pub mod Entries
@@ -31,3 +31,16 @@ pub mod CoverSize
 pub mod CheckedCovers
 -- the question of the check, from bytes
 pub mod CheckQuestion
+-- Closed walks along a tree (document 02, A.1):
+-- a turn, by its cases, and what every turn keeps
+pub mod Turns
+-- the next edge at a stop
+pub mod NextEdge
+-- what holds after any number of turns
+pub mod TurnsReached
+-- the walk along a tree: closed, each edge twice and no other, twice as long as the tree is heavy
+pub mod ClosedWalk
+-- the rule allows one crossing at a time
+pub mod OneCrossing
+-- the walk along a tree goes by the rule, and no other closed walk does
+pub mod OnlyWalk

@@ -9,6 +9,8 @@ pub mod Leaf
 pub mod EntryTimes
 -- the far end of an edge
 pub mod FarEnd
+-- the stops of a walk
+pub mod WalkStops
 -- the vertices listed for a tree are those that it covers
 pub mod TreeVertices
 -- fields of two bytes, written and read

@@ -1,4 +1,4 @@
--- Document 01 as definitions, in its order.
+-- Documents 01 and 02 as definitions, in their order.
 -- "Sheet and cover bytes":
 -- walks along edges
 pub mod Walk
@@ -36,7 +36,18 @@ pub mod Questions
 pub mod Filed
 -- "Small districts": the starred rows
 pub mod Districts
--- Besides document 01, what promises cite:
+-- Document 02, "A.1 Closed walks":
+-- the closed walk along a tree
+pub mod ClosedWalk
+-- the same walk by document 02's sentences
+pub mod WalkRule
+-- anybody's closed walks that together come to every vertex
+pub mod RivalWalks
+-- the question of the walk, from bytes to its reply
+pub mod WalkQuestion
+-- the walks along small trees
+pub mod WalkExamples
+-- Besides the documents, what promises cite:
 -- trees as arrays hold them
 pub mod Held
 -- crews that fit, and choices that are good
