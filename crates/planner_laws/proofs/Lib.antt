@@ -67,5 +67,7 @@ pub mod BestRange
 pub mod AboveSum
 -- "no cover" is said exactly where none exists
 pub mod NoCover
+-- our longest closed walk is at most eight times anybody's (document 02, A.1)
+pub mod Eightfold
 -- what the replies mean
 pub mod Replies

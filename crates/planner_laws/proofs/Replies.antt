@@ -1,6 +1,6 @@
 -- What the replies mean: that of a trial, with good choices at its limit, and that of the best-limit question, with good choices at the best limit.
 -- Assumes nothing.
-use Prim.Native.Nat.{ℕ, _<_}
+use Prim.Native.Nat.{ℕ, _*_, _≤_, _<_}
 use mathlib.Core.Path.{_≡_, refl}
 use mathlib.Core.Logic.{_↔_}
 use mathlib.Core.Bool.{Bool, true, false, cond, _&&_, false≢true}
@@ -21,6 +21,7 @@ use Rattle.planner_laws.proofs.AboveSum.{some-cover}
 use Rattle.planner_laws.proofs.NoCover.{no-cover-none}
 use Rattle.planner_laws.proofs.TrialBounds.{trialTrees, CoverWithin, TrialBounds}
 use Rattle.planner_laws.proofs.BestLimit.{best-accepted, best-cover, best-factor}
+use Rattle.planner_laws.proofs.Eightfold.{eightfold}
 
 -- TRIALS
 
@@ -87,13 +88,15 @@ pub best-means : {g : Graph} → Valid g → (crews : Crews) → CrewsFit g crew
 unfolding best
 best-means {g} valid crews fit bounds c good = go (noCover g crews) refl
   where
+    four : {trees : List Tree} → IsCover g crews trees → (others : List Tree) → IsCover g crews others
+        → heaviest g (trialTrees g crews (bestLimit g crews) c) ≤ 4 * heaviest g others
+    four cover others o = omega (arith, best-factor bounds cover c good others o)
+
     found : (trees : List Tree) → IsCover g crews trees → BestMeans g crews (trial g crews (bestLimit g crews) c)
     found trees cover =
+        let ours = best-cover bounds cover c good .cover in
         rw (accepted-covered g crews (bestLimit g crews) c (best-accepted bounds cover))
-        (record {
-          carries = record { cover = best-cover bounds cover c good .cover; carried = refl };
-          factor-four = λ others o. omega (arith, best-factor bounds cover c good others o);
-        })
+        (record { carries = record { cover = ours; carried = refl }; factor-four = four cover; within-eight = eightfold valid ours (four cover) })
 
     go : (t : Bool) → noCover g crews ≡ t → BestMeans g crews (cond t no-cover (trial g crews (bestLimit g crews) c))
     go true e = no-cover-none g crews e

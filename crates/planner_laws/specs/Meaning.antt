@@ -7,6 +7,8 @@ use mathlib.Core.List.{List}
 use Rattle.graph.specs.Graph.{Graph}
 use Rattle.rules.specs.Cover.{Tree, heaviest, Crews, IsCover}
 use Rattle.rules.specs.Reply.{Reply, refused, covered, too-low-stop, too-low-parts, too-low-needs, no-cover}
+use Rattle.rules.specs.ClosedWalk.{Route}
+use Rattle.rules.specs.RivalWalks.{ClosedWalks, longest, walksAlong}
 
 -- No cover by the crews is within the limit: the heaviest of each is above it.
 abbrev pub NoneWithin : Graph → Crews → ℕ → Type 0
@@ -32,10 +34,12 @@ pub record TooFewRoots (g : Graph) (crews : Crews) (limit T D : ℕ) : Type 0 wh
   pub none-within : NoneWithin g crews limit
   pub fewer : D < T
 
--- The best limit: a cover by the crews whose heaviest is at most four times that of every cover by the same crews.
+-- The best limit: a cover by the crews whose heaviest is at most four times that of every cover by the same crews. "Our longest walk is at most eight
+-- times the longest of anybody's closed walks that together cover the sheet" (document 02, A.1).
 pub record CoveredBest (g : Graph) (crews : Crews) (h : ℕ) (trees : List Tree) : Type 0 where
   pub carries : Carries g crews h trees
   pub factor-four : (others : List Tree) → IsCover g crews others → h ≤ 4 * heaviest g others
+  pub within-eight : (walks : List Route) → ClosedWalks g crews walks → longest g (walksAlong g trees) ≤ 8 * longest g walks
 
 -- What the reply of "a trial at limit B" means, by its case. Each "too low" says that no cover is within B.
 abbrev pub TrialMeans : Graph → Crews → ℕ → Reply → Type 0
