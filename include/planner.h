@@ -16,6 +16,9 @@ extern "C" {
 /* The least length of a buffer, in bytes: room for any cover. */
 #define PLANNER_BUFFER 32708u
 
+/* The least length of planner_walk's buffer, in bytes: room for any walk. */
+#define PLANNER_WALK_BUFFER 1022u
+
 /* What planner_trial and planner_best answer, with the values of each; every other number is that of a refusal. */
 #define PLANNER_COVER 0u         /* values: the limit, the heaviest weight, the number of trees. A cover is written. */
 #define PLANNER_TOO_LOW_STOP 1u  /* values: the lowest vertex joined to no root. */
@@ -35,14 +38,14 @@ extern "C" {
  * vertices 0 to k - 1, so k is at most n.
  *
  * For all functions below: any input is answered. Each pointer is to as many bytes as its length says, `values` to exactly
- * three numbers; no pointer is null even where a length is 0, and what is written overlaps nothing else: nothing tests
- * this. Only the values of the answer's case are written, from the first on; of the buffer only the front that the cover
- * or the parts fill, as cover bytes, whose length is 4 + 2t + 4q by the t and q that they begin with. All else, and all of
- * both at a refusal, is left as it came.
+ * three numbers, that of planner_walk to exactly two; no pointer is null even where a length is 0, and what is written
+ * overlaps nothing else: nothing tests this. Only the values of the answer's case are written, from the first on; of the
+ * buffer only the front that a walk fills, or that the cover or the parts fill, as cover bytes, whose length is
+ * 4 + 2t + 4q by the t and q that they begin with. All else, and all of both at a refusal, is left as it came.
  *
- * Stack: planner_trial and planner_best take up to 320 KiB; planner_check, and a refusal by any of them, up to 4 KiB.
- * Measured, with some room to spare, and not proved: a stack that is too small ends the program. No memory is
- * allocated.
+ * Stack: planner_trial and planner_best take up to 320 KiB, planner_walk up to 12 KiB; planner_check, and a refusal by any
+ * of them, up to 4 KiB. Measured, with some room to spare, and not proved: a stack that is too small ends the program. No
+ * memory is allocated.
  */
 
 /*
@@ -59,6 +62,10 @@ uint32_t planner_trial(uint32_t kind, size_t k, uint64_t limit, const uint8_t *g
 /*
  * The best limit: PLANNER_COVER, whose heaviest tree weighs at most four times that of any cover of the kind for k;
  * PLANNER_NO_COVER, exactly where none exists; or a refusal as of a trial, without 22.
+ *
+ * The longest walk (planner_walk) of its trees is at most eight times as long as the longest of any closed walks that
+ * together come to every vertex: rooted, one from each root; unrooted, at most k, from anywhere. These may cross any edge
+ * any number of times, or none.
  */
 uint32_t planner_best(uint32_t kind, size_t k, const uint8_t *graph, size_t graph_length, uint64_t *values,
                       uint8_t *buffer, size_t buffer_length);
@@ -72,6 +79,21 @@ uint32_t planner_best(uint32_t kind, size_t k, const uint8_t *graph, size_t grap
  */
 uint32_t planner_check(uint32_t kind, size_t k, const uint8_t *graph, size_t graph_length, const uint8_t *cover,
                        size_t cover_length, uint64_t *values);
+
+/*
+ * The closed walk of one tree of a filed cover: it begins and ends at the tree's start, crosses each of the tree's q edges
+ * exactly twice and no other edge. At every vertex the lowest edge of the tree not yet walked goes first; where none is
+ * left, the edge by which the vertex was first reached is walked back. It is the only such walk.
+ *
+ * Answered with 0: its stops are written to the buffer's front, the vertex of each in 2 bytes, lowest byte first; a vertex
+ * is a stop each time that the walk comes to it. Values: the number of stops, 2q + 1, at most 511; the length, twice the
+ * tree's weight. Bytes past the stops are left as they came.
+ *
+ * Otherwise the number that planner_check has for the cover, then 51 tree is not below t, then 52 buffer_length is below
+ * PLANNER_WALK_BUFFER, however short the walk is.
+ */
+uint32_t planner_walk(uint32_t kind, size_t k, const uint8_t *graph, size_t graph_length, const uint8_t *cover,
+                      size_t cover_length, size_t tree, uint64_t *values, uint8_t *buffer, size_t buffer_length);
 
 #ifdef __cplusplus
 }

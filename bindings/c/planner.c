@@ -13,6 +13,8 @@ static const uint8_t cover[] = {2, 0, 2, 0, 0, 0, 1, 0, 0, 0, 0, 0, 0, 0, 1, 0};
 
 static uint8_t buffer[PLANNER_BUFFER];
 static uint64_t values[3];
+static uint8_t stops[PLANNER_WALK_BUFFER];
+static uint64_t walked[2];
 
 static uint32_t trial(uint32_t kind, uint64_t limit) {
     return planner_trial(kind, 2, limit, sheet, sizeof sheet, values, buffer, sizeof buffer);
@@ -20,6 +22,17 @@ static uint32_t trial(uint32_t kind, uint64_t limit) {
 
 static uint32_t best(size_t room) {
     return planner_best(PLANNER_ROOTED, 2, sheet, sizeof sheet, values, buffer, room);
+}
+
+static uint32_t walk(size_t tree, size_t room) {
+    memset(stops, 7, sizeof stops);
+    return planner_walk(PLANNER_ROOTED, 2, sheet, sizeof sheet, cover, sizeof cover, tree, walked, stops, room);
+}
+
+/* Every byte of the buffer of a walk from a place on is as it was. */
+static int untouched_from(size_t place) {
+    while (place < sizeof stops && stops[place] == 7) place++;
+    return place == sizeof stops;
 }
 
 int main(void) {
@@ -40,5 +53,15 @@ int main(void) {
     /* Check: "(0,0)(0,1) yes, 6". */
     assert(planner_check(PLANNER_ROOTED, 2, sheet, sizeof sheet, cover, sizeof cover, values) == 0);
     assert(values[0] == 6);
+
+    /* Walks: lines 0 and 1 there and back; tree 1 has no line; 51 before 52, which is at 1,021 bytes. */
+    assert(walk(0, 1022) == 0);
+    assert(memcmp(walked, (uint64_t[]){5, 12}, sizeof walked) == 0);
+    assert(memcmp(stops, (uint8_t[]){0, 0, 2, 0, 3, 0, 2, 0, 0, 0}, 10) == 0 && untouched_from(10));
+    assert(walk(1, 1022) == 0);
+    assert(memcmp(walked, (uint64_t[]){1, 0}, sizeof walked) == 0);
+    assert(memcmp(stops, (uint8_t[]){1, 0}, 2) == 0 && untouched_from(2));
+    assert(walk(2, 1022) == 51 && walk(2, 1021) == 51 && walk(0, 1021) == 52);
+    assert(memcmp(walked, (uint64_t[]){1, 0}, sizeof walked) == 0 && untouched_from(0));
     return 0;
 }

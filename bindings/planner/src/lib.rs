@@ -1,13 +1,16 @@
-//! Min-max tree covers of a graph, from the proved static library `planner_c`: trials at a limit, the best limit, and the
-//! check of a filed cover. `include/planner.h` says what the bytes of a graph and of a cover are.
+//! Min-max tree covers of a graph, from the proved static library `planner_c`: trials at a limit, the best limit, the check of
+//! a filed cover, and the closed walk of one of its trees. `include/planner.h` says what the bytes of a graph and of a cover
+//! are.
 //!
-//! Stack: [`trial`] and [`best`] take up to 320 KiB; [`check`], and a refusal by any of them, up to 4 KiB. Measured, with some
-//! room to spare, and not proved: a stack that is too small ends the program. The 2 MiB that a thread of the standard library
-//! has are enough; [`std::thread::Builder::stack_size`] gives a thread less.
+//! Stack: [`trial`] and [`best`] take up to 320 KiB, [`walk`] up to 12 KiB; [`check`], and a refusal by any of them, up to 4
+//! KiB. Measured, with some room to spare, and not proved: a stack that is too small ends the program. The 2 MiB that a thread
+//! of the standard library has are enough; [`std::thread::Builder::stack_size`] gives a thread less.
 
 mod cover;
+mod walk;
 
 pub use cover::{Cover, Tree};
+pub use walk::{walk, Walk, WALK_BUFFER};
 
 use exported::{planner_best, planner_check, planner_trial};
 
@@ -41,6 +44,18 @@ pub mod exported {
             cover: *const u8,
             cover_length: usize,
             values: *mut u64,
+        ) -> u32;
+        pub fn planner_walk(
+            kind: u32,
+            k: usize,
+            graph: *const u8,
+            graph_length: usize,
+            cover: *const u8,
+            cover_length: usize,
+            tree: usize,
+            values: *mut u64,
+            buffer: *mut u8,
+            buffer_length: usize,
         ) -> u32;
     }
 }
@@ -117,7 +132,9 @@ pub fn trial(kind: Kind, k: usize, limit: u64, graph: &[u8], buffer: &mut [u8]) 
 }
 
 /// The best limit for k trees on the bytes of a graph: a cover whose heaviest tree weighs at most four times that of any
-/// other of the kind for k. Any input is answered; bytes of the buffer past the cover stay as they are.
+/// other of the kind for k. The longest [`walk`] of its trees is at most eight times as long as the longest of any closed
+/// walks that together come to every vertex: one from each root, or, unrooted, at most k. Any input is answered; bytes of the
+/// buffer past the cover stay as they are.
 pub fn best(kind: Kind, k: usize, graph: &[u8], buffer: &mut [u8]) -> Reply {
     let mut values = [0; 3];
     // SAFETY: as of a trial.

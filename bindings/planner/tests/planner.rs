@@ -1,6 +1,9 @@
 //! The linked library against `reference/`, an implementation that shares no code with it, on some thousand made questions,
 //! damaged ones included: every answer, every value, every byte of the buffer and around it.
 
+mod common;
+
+use common::Lent;
 use planner::exported::{planner_best, planner_check, planner_trial};
 use planner::{best, check, trial, Kind, Reply, BUFFER};
 use reference::districts::Asked;
@@ -9,9 +12,6 @@ use reference::judge::{self, Reply as Given};
 use reference::made_districts::records;
 use reference::question::{Answer, Kind as Crews};
 use reference::random::Random;
-
-/// How many bytes, or numbers, stand on either side of what is lent.
-const GUARD: usize = 64;
 
 /// A question as the exported functions take it.
 struct Question<'a> {
@@ -28,12 +28,6 @@ struct Got {
     buffer: (Vec<u8>, Vec<u8>),
 }
 
-/// Made bytes, so that no two buffers come alike.
-fn bytes(random: &mut Random, length: usize) -> Vec<u8> {
-    let words = (0..length.div_ceil(8)).flat_map(|_| random.next_number().to_le_bytes());
-    words.take(length).collect()
-}
-
 /// Calls the exported function with the values and the buffer inside larger ones, and checks what is around them.
 fn call(random: &mut Random, question: &Question) -> Got {
     let Question { asked, kind, k, sheet } = *question;
@@ -42,14 +36,10 @@ fn call(random: &mut Random, question: &Question) -> Got {
         Asked::Best { room } => (0, *room, &[][..]),
         Asked::Check { cover } => (0, 0, &cover[..]),
     };
-    let before = bytes(random, room + 2 * GUARD);
-    let mut after = before.clone();
-    let numbers: Vec<u64> = (0..3 + 2 * GUARD).map(|_| random.next_number()).collect();
-    let mut changed = numbers.clone();
+    let (mut bytes, mut numbers) = (Lent::bytes(random, room), Lent::numbers(random, 3));
+    let (values, buffer) = (numbers.pointer(), bytes.pointer());
     let (given, filed) = (sheet.to_vec(), cover.to_vec());
     let (graph, length) = (given.as_ptr(), given.len());
-    let values = changed[GUARD..GUARD + 3].as_mut_ptr();
-    let buffer = after[GUARD..GUARD + room].as_mut_ptr();
     // SAFETY: each pointer is to as much as its length says, that of the values to three numbers; nothing overlaps.
     let case = unsafe {
         match asked {
@@ -63,17 +53,9 @@ fn call(random: &mut Random, question: &Question) -> Got {
         }
     };
     assert!(given == sheet && filed == cover, "what is only read was changed");
-    assert_eq!(changed[..GUARD], numbers[..GUARD], "numbers before the values");
-    assert_eq!(changed[GUARD + 3..], numbers[GUARD + 3..], "numbers behind the values");
-    assert_eq!(after[..GUARD], before[..GUARD], "bytes before the buffer");
-    assert_eq!(after[GUARD + room..], before[GUARD + room..], "bytes behind the buffer");
-    let three = |all: &[u64]| [all[GUARD], all[GUARD + 1], all[GUARD + 2]];
-    let inner = |all: &[u8]| all[GUARD..GUARD + room].to_vec();
-    Got {
-        case,
-        values: (three(&numbers), three(&changed)),
-        buffer: (inner(&before), inner(&after)),
-    }
+    let (before, after) = numbers.taken_back();
+    let three = |all: Vec<u64>| [all[0], all[1], all[2]];
+    Got { case, values: (three(before), three(after)), buffer: bytes.taken_back() }
 }
 
 /// The answer of a trial or a best limit; the values that the case does not have must be as they came.

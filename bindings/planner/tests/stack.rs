@@ -1,7 +1,7 @@
 //! The stack that the documentation names is enough. Where it is not, the run of these tests ends in a fault. What takes up to
-//! 4 KiB is given 32: a thread has some of its own to keep there.
+//! 4 KiB is given 32, and up to 12 is given 40: a thread has some of its own to keep there.
 
-use planner::{best, check, trial, Cover, Kind, Reply, BUFFER};
+use planner::{best, check, trial, walk, Cover, Kind, Reply, Walk, BUFFER, WALK_BUFFER};
 use reference::graph::sheet;
 use std::thread::Builder;
 
@@ -34,6 +34,24 @@ fn the_deepest_questions() {
     }
 }
 
+/// One tree with all edges, from an end of the path and from its middle; and walks of that cover that are refused.
+#[test]
+fn the_longest_walks() {
+    for start in [0, 128, 255] {
+        let fields = [1, 255, start].into_iter().chain([0; 255]).chain(0..255);
+        let cover: Vec<u8> = fields.flat_map(u16::to_le_bytes).collect();
+        for (kib, tree, room, due) in [
+            (40, 0, WALK_BUFFER, Ok(Walk { stops: 511, length: 510 })),
+            (32, 1, WALK_BUFFER, Err(51)),
+            (32, 0, WALK_BUFFER - 1, Err(52)),
+        ] {
+            let cover = cover.clone();
+            let walked = move || walk(Kind::Unrooted, 1, &path(), &cover, tree, &mut vec![0; room]);
+            assert_eq!(within(kib, walked), due);
+        }
+    }
+}
+
 #[test]
 fn refusals() {
     for kind in [Kind::Rooted, Kind::Unrooted] {
@@ -41,5 +59,7 @@ fn refusals() {
         assert_eq!(within(32, tried), Reply::Refused(21));
         let asked = move || best(kind, 32, &path(), &mut vec![0; BUFFER - 1]);
         assert_eq!(within(32, asked), Reply::Refused(23));
+        let walked = move || walk(kind, 33, &path(), &[], 0, &mut vec![0; WALK_BUFFER]);
+        assert_eq!(within(32, walked), Err(21));
     }
 }

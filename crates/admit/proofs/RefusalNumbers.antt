@@ -4,7 +4,7 @@ use Prim.Native.Nat.{_≤_}
 use native.Mathlib.Omega.{arith}
 use Rattle.graph_check.specs.declared.Cause.the-variants as cause
 use Rattle.admit.specs.declared.refusal.Refusal.{Refusal}
-use Rattle.admit.specs.declared.refusal.Refusal.the-variants.{Sheet, Crews, Limit, Room, Length, Starts, Entries, Trees, Vertices}
+use Rattle.admit.specs.declared.refusal.Refusal.the-variants.{Sheet, Crews, Limit, Room, Length, Starts, Entries, Trees, Vertices, TreeNumber, WalkRoom}
 use Rattle.admit.specs.Refusals.{numberOf}
 
 pub numbers-begin : (f : Refusal) → 11 ≤ numberOf f
@@ -22,3 +22,5 @@ numbers-begin Starts = omega arith
 numbers-begin Entries = omega arith
 numbers-begin Trees = omega arith
 numbers-begin Vertices = omega arith
+numbers-begin TreeNumber = omega arith
+numbers-begin WalkRoom = omega arith

@@ -1,4 +1,4 @@
-// Every cause of a refusal (document 01, "Who causes which number"), and its number, here alone.
+// Every cause of a refusal (document 01, "Who causes which number", and document 02), and its number, here alone.
 ghost use mathlib.Core.Path.{_≡_};
 ghost use Rattle.admit.specs.Refusals.{numberOf};
 
@@ -7,6 +7,9 @@ pub const MOST_LIMIT: u64 = 2048000000;
 
 // The least length of a buffer, in bytes: room for any cover.
 pub const LEAST_ROOM: usize = 32708;
+
+// The same of a walk's: room for 511 stops.
+pub const LEAST_WALK_ROOM: usize = 1022;
 
 // What can be refused.
 pub enum Refusal {
@@ -28,9 +31,13 @@ pub enum Refusal {
     Trees,
     // A vertex is not covered.
     Vertices,
+    // A walk: the cover has no such tree.
+    TreeNumber,
+    // The buffer is too small for some walk.
+    WalkRoom,
 }
 
-// Document 01's number of a cause.
+// The number of a cause.
 pub fn number(refusal: Refusal) -> u32
     ensures { λ r. ⌜ r ≡ numberOf refusal ⌝ }
 {
@@ -44,5 +51,7 @@ pub fn number(refusal: Refusal) -> u32
         Refusal::Entries => 33,
         Refusal::Trees => 34,
         Refusal::Vertices => 35,
+        Refusal::TreeNumber => 51,
+        Refusal::WalkRoom => 52,
     }
 }

@@ -12,7 +12,7 @@ ghost use Rattle.rules.specs.Held.{treesAt};
 ghost use Rattle.cover.specs.Chosen.{startsAt, edgesAt, entryCount, treeNumbers, Writable, EdgesWritable};
 
 // A field of two bytes, at a place.
-fn put_u16(buf: &mut [u8], at: usize, x: usize) -> usize
+pub fn put_u16(buf: &mut [u8], at: usize, x: usize) -> usize
     requires { ⌜ at + 2 ≤ length (now buf) ⌝ }
     ensures { λ r. ⌜ PutTo at (u16Bytes x) (now (buf .entry)) (now (buf .exit)) r ⌝ }
 {

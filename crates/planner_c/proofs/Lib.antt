@@ -1,3 +1,3 @@
 -- Laws that belong to no one function.
--- the values at the front of three, and the cases that have none
+-- the values at the front, and the cases that have none
 pub mod Values

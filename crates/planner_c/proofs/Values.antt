@@ -1,7 +1,7 @@
 -- Values stored from the first on stand in front of those that stay, and the cases without a value change none.
 -- Assumes nothing.
 use Prim.{tt}
-use Prim.Native.Nat.{ℕ, zero, suc}
+use Prim.Native.Nat.{ℕ, zero, suc, _≤_}
 use mathlib.Core.Path.{_≡_, refl}
 use mathlib.Core.List.{List, [], _∷_}
 use native.Mathlib.Omega.{arith}
@@ -27,17 +27,17 @@ pub verdict-number : (v : rules.Verdict) → numberOr0 v ≡ saidOf v .number
 verdict-number (rules.yes heaviest) = refl
 verdict-number (rules.number number) = refl
 
--- One value, two and three, stored in a list of three.
-pub puts-one : {number x : ℕ} (before : List ℕ) → length before ≡ 3 → Puts (said number (x ∷ [])) before (set before 0 x)
+-- One value, two and three, stored in a list that has room for them.
+pub puts-one : {number x : ℕ} (before : List ℕ) → 1 ≤ length before → Puts (said number (x ∷ [])) before (set before 0 x)
 puts-one [] long = absurd (omega (arith, long))
 puts-one (a ∷ rest) long = record { values = refl }
 
-pub puts-two : {number x y : ℕ} (before : List ℕ) → length before ≡ 3 → Puts (said number (x ∷ y ∷ [])) before (set (set before 0 x) 1 y)
+pub puts-two : {number x y : ℕ} (before : List ℕ) → 2 ≤ length before → Puts (said number (x ∷ y ∷ [])) before (set (set before 0 x) 1 y)
 puts-two [] long = absurd (omega (arith, long))
 puts-two (a ∷ []) long = absurd (omega (arith, long))
 puts-two (a ∷ b ∷ rest) long = record { values = refl }
 
-pub puts-three : {number x y z : ℕ} (before : List ℕ) → length before ≡ 3
+pub puts-three : {number x y z : ℕ} (before : List ℕ) → 3 ≤ length before
     → Puts (said number (x ∷ y ∷ z ∷ [])) before (set (set (set before 0 x) 1 y) 2 z)
 puts-three [] long = absurd (omega (arith, long))
 puts-three (a ∷ []) long = absurd (omega (arith, long))

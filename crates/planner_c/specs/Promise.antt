@@ -9,6 +9,8 @@ use Rattle.filed.specs.declared.check.Verdict.{Verdict}
 use Rattle.filed.specs.Promise.{CheckPromise}
 use Rattle.replies.specs.declared.Reply.{Reply}
 use Rattle.replies.specs.Replies.{says}
+use Rattle.closed_walk.specs.declared.walk.Walked.{Walked}
+use Rattle.closed_walk.specs.Promise as walks
 use Rattle.planner.specs.Promise.{TrialPromise, BestPromise}
 use Rattle.planner_c.specs.Numbers.{sayingOf, Puts}
 
@@ -32,3 +34,10 @@ pub record CheckExported (q : Question) (c values valuesAfter : List ℕ) (r : �
   pub promise : CheckPromise q c verdict
   pub number : r ≡ sayingOf verdict .number
   pub puts : Puts (sayingOf verdict) values valuesAfter
+
+-- The walk along a tree of a filed cover.
+pub record WalkExported (q : Question) (c : List ℕ) (tree : ℕ) (values valuesAfter before after : List ℕ) (r : ℕ) : Type 0 where
+  pub walked : Walked
+  pub promise : walks.WalkPromise q c tree before after walked
+  pub number : r ≡ walks.says walked .number
+  pub puts : Puts (walks.says walked) values valuesAfter

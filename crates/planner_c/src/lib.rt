@@ -4,10 +4,11 @@ pub mod said;
 use crate::said::kind_of;
 use crate::said::put_heaviest;
 use crate::said::put_values;
+use crate::said::put_walk;
 use replies::number_of;
 ghost use Rattle.admit.specs.Crews.{asks};
 ghost use Rattle.planner_c.specs.Numbers.{kindOf};
-ghost use Rattle.planner_c.specs.Promise.{TrialExported, BestExported, CheckExported};
+ghost use Rattle.planner_c.specs.Promise.{TrialExported, BestExported, CheckExported, WalkExported};
 
 // A trial at a limit, with its reply as a number and values.
 #[no_mangle]
@@ -59,4 +60,23 @@ pub extern "C" fn planner_check(
     let verdict = filed::check::check_cover(kind_of(kind), k, graph, cover);
     put_heaviest(verdict, values);
     filed::check::number_of(verdict)
+}
+
+// The walk along a tree of a filed cover, with its answer as a number and two values.
+#[no_mangle]
+pub extern "C" fn planner_walk(
+    kind: u32,
+    k: usize,
+    graph: &[u8],
+    cover: &[u8],
+    tree: usize,
+    values: &mut [u64; 2],
+    buffer: &mut [u8],
+) -> u32
+    ensures { λ r. ⌜ WalkExported (asks (kindOf kind) k (now (graph .entry))) (now (cover .entry)) tree
+        (now (values .entry)) (now (values .exit)) (now (buffer .entry)) (now (buffer .exit)) r ⌝ }
+{
+    let walked = closed_walk::walk::walk(kind_of(kind), k, graph, cover, tree, buffer);
+    put_walk(walked, values);
+    closed_walk::walk::number_of(walked)
 }

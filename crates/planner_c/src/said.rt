@@ -1,10 +1,12 @@
-// What crosses to C as numbers: the kind of a question, and what a reply and a verdict say.
+// What crosses to C as numbers: the kind of a question, and what a reply, a verdict and a walk say.
 use admit::crews::Kind;
+use closed_walk::walk::Walked;
 use filed::check::Verdict;
 use replies::Reply;
 ghost use mathlib.Core.Path.{_≡_};
 ghost use lib.ListN.{length};
 ghost use Rattle.replies.specs.Replies.{says};
+ghost use Rattle.closed_walk.specs.Promise as walks;
 ghost use Rattle.planner_c.specs.Numbers.{kindOf, sayingOf, Puts};
 
 // The kind that a number names: 0 rooted, every other unrooted.
@@ -52,5 +54,19 @@ pub(crate) fn put_heaviest(verdict: Verdict, values: &mut [u64])
             values[0] = heaviest;
         }
         Verdict::Refused(_) => {}
+    }
+}
+
+// Writes the count of stops and the length, where there is a walk.
+pub(crate) fn put_walk(walked: Walked, values: &mut [u64])
+    requires { ⌜ length (now values) ≡ 2 ⌝ }
+    ensures { λ _. ⌜ Puts (walks.says walked) (now (values .entry)) (now (values .exit)) ⌝ }
+{
+    match walked {
+        Walked::Walk(stops, length) => {
+            values[0] = stops as u64;
+            values[1] = length;
+        }
+        Walked::Refused(_) => {}
     }
 }

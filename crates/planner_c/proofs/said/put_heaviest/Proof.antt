@@ -1,5 +1,6 @@
 -- `planner_c::said::put_heaviest` meets its contract. Assumes nothing.
 use mathlib.Core.Path.{refl}
+use native.Mathlib.Omega.{arith}
 use Rattle.planner_c.proofs.Values.{puts-one}
 use borrow.Author.Needs.{needs}
 use Rattle.planner_c.proofs.said.put_heaviest.Statement.{statement}
@@ -18,7 +19,7 @@ same-length : tie.Need-same-length
 same-length c = search needs
 
 returns : tie.Need-returns
-returns c = let s = c .before .before .before in rw (c .before .verdict .given .1) (puts-one (s .args .values .now) (s .pre))
+returns c = let s = c .before .before .before in rw (c .before .verdict .given .1) (puts-one (s .args .values .now) (omega (arith, s .pre)))
 
 returns-2 : tie.Need-returns-2
 returns-2 c = rw (c .enum-told .given .1) (record { values = refl })

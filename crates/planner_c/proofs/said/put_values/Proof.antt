@@ -1,4 +1,5 @@
 -- `planner_c::said::put_values` meets its contract: each arm stores the values of its case. Assumes nothing.
+use native.Mathlib.Omega.{arith}
 use Rattle.planner_c.proofs.Values.{puts-one, puts-two, puts-three, puts-no-value}
 use borrow.Author.Needs.{needs}
 use Rattle.planner_c.proofs.said.put_values.Statement.{statement}
@@ -41,25 +42,25 @@ same-length : tie.Need-same-length
 same-length c = search needs
 
 returns : tie.Need-returns
-returns c = let s = c .before .before .before in rw (c .before .reply .given .1) (puts-three (s .args .values .now) (s .pre))
+returns c = let s = c .before .before .before in rw (c .before .reply .given .1) (puts-three (s .args .values .now) (omega (arith, s .pre)))
 
 same-length-2 : tie.Need-same-length-2
 same-length-2 c = search needs
 
 returns-2 : tie.Need-returns-2
-returns-2 c = let s = c .before .before .before in rw (c .before .reply2 .given .1) (puts-one (s .args .values .now) (s .pre))
+returns-2 c = let s = c .before .before .before in rw (c .before .reply2 .given .1) (puts-one (s .args .values .now) (omega (arith, s .pre)))
 
 same-length-3 : tie.Need-same-length-3
 same-length-3 c = search needs
 
 returns-3 : tie.Need-returns-3
-returns-3 c = let s = c .before .before .before in rw (c .before .reply3 .given .1) (puts-two (s .args .values .now) (s .pre))
+returns-3 c = let s = c .before .before .before in rw (c .before .reply3 .given .1) (puts-two (s .args .values .now) (omega (arith, s .pre)))
 
 same-length-4 : tie.Need-same-length-4
 same-length-4 c = search needs
 
 returns-4 : tie.Need-returns-4
-returns-4 c = let s = c .before .before .before in rw (c .before .reply4 .given .1) (puts-one (s .args .values .now) (s .pre))
+returns-4 c = let s = c .before .before .before in rw (c .before .reply4 .given .1) (puts-one (s .args .values .now) (omega (arith, s .pre)))
 
 returns-5 : tie.Need-returns-5
 returns-5 c = let s = c .before in puts-no-value (s .args .reply) (s .args .values .now) (c .match .keys5)

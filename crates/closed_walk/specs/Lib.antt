@@ -1,0 +1,7 @@
+-- What the contracts of `closed_walk` say, in reading order.
+-- the entries of one tree
+pub mod Run
+-- the walk as arrays hold it, and one turn of it
+pub mod Turn
+-- what the question of the walk promises
+pub mod Promise

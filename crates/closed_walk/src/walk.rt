@@ -1,0 +1,75 @@
+// The question of the walk: the check of the cover first, then 51 and 52, and then the walk.
+use crate::run::read_run;
+use crate::run::run_begin;
+use crate::write::write_walk;
+use admit::crews::Kind;
+use admit::refusal::LEAST_WALK_ROOM;
+use admit::refusal::Refusal;
+use cover::heaviest::run_weight;
+use cover::read::start_in;
+use cover::read::trees_in;
+use cover::runs::run_end;
+use filed::check::Verdict;
+use filed::check::check_cover;
+ghost use mathlib.Core.Path.{_≡_};
+ghost use lib.ListN.{length};
+ghost use Rattle.graph.specs.Bytes.{graphOf};
+ghost use Rattle.admit.specs.Crews.{asks};
+ghost use Rattle.closed_walk.specs.Promise.{says, TreeAsked, TreeWalked, CheckedGiven, CheckedWalked, WalkPromise};
+
+// What is answered. The stops stand in the buffer.
+pub enum Walked {
+    // The question is refused.
+    Refused(Refusal),
+    // The walk: how many stops it has, and its length.
+    Walk(usize, u64),
+}
+
+// Document 01's and 02's number of an answer; 0 for a walk.
+pub fn number_of(walked: Walked) -> u32
+    ensures { λ r. ⌜ r ≡ says walked .number ⌝ }
+{
+    match walked {
+        Walked::Refused(f) => admit::refusal::number(f),
+        Walked::Walk(_, _) => 0,
+    }
+}
+
+// The walk along tree j, a tree of a cover.
+fn walk_tree(b: &[u8], c: &[u8], j: usize, buf: &mut [u8]) -> Walked
+    requires { ⌜ TreeAsked (graphOf (now b)) (now c) j (length (now buf)) ⌝ }
+    ensures { λ r. ⌜ TreeWalked (graphOf (now (b .entry))) (now (c .entry)) j (now (buf .entry)) (now (buf .exit)) r ⌝ }
+{
+    let from = run_begin(c, j);
+    let to = run_end(c, j, from);
+    let mut edges = [0u16; 255];
+    let q = read_run(c, from, to, &mut edges);
+    let written = write_walk(b, start_in(c, j), &edges[..q], buf);
+    Walked::Walk(written / 2, 2 * run_weight(b, c, from, to))
+}
+
+// The walk along tree j of a cover that passed the check, unless there is no such tree or too little room.
+fn walk_checked(b: &[u8], c: &[u8], j: usize, buf: &mut [u8]) -> Walked
+    requires { ⌜ CheckedGiven (graphOf (now b)) (now c) ⌝ }
+    ensures { λ r. ⌜ CheckedWalked (graphOf (now (b .entry))) (now (c .entry)) j (now (buf .entry)) (now (buf .exit))
+        r ⌝ }
+{
+    if trees_in(c) <= j {
+        return Walked::Refused(Refusal::TreeNumber);
+    }
+    if buf.len() < LEAST_WALK_ROOM {
+        return Walked::Refused(Refusal::WalkRoom);
+    }
+    walk_tree(b, c, j, buf)
+}
+
+// The walk along tree j of a filed cover.
+pub fn walk(kind: Kind, k: usize, b: &[u8], c: &[u8], j: usize, buf: &mut [u8]) -> Walked
+    ensures { λ r. ⌜ WalkPromise (asks kind k (now (b .entry))) (now (c .entry)) j (now (buf .entry)) (now (buf .exit))
+        r ⌝ }
+{
+    match check_cover(kind, k, b, c) {
+        Verdict::Refused(f) => Walked::Refused(f),
+        Verdict::Yes(_) => walk_checked(b, c, j, buf),
+    }
+}
