@@ -6,8 +6,8 @@ use crate::question::{admit, is_rooted};
 
 /// Answers 0 for yes, with the heaviest weight in the first value, otherwise with the number of the refusal.
 pub fn check(kind: u32, k: usize, sheet: &[u8], cover: &[u8], values: &mut [u64; 3]) -> u32 {
-    let checked = admit(kind, k, sheet).and_then(|graph| check_on(kind, k, &graph, cover));
-    match checked {
+    let heaviest = |graph| checked(kind, k, &graph, cover).map(|(_, heaviest)| heaviest);
+    match admit(kind, k, sheet).and_then(heaviest) {
         Ok(heaviest) => {
             values[0] = heaviest;
             0
@@ -17,9 +17,9 @@ pub fn check(kind: u32, k: usize, sheet: &[u8], cover: &[u8], values: &mut [u64;
 }
 
 /// A filed cover's fields: two counts, the starts, the tree numbers, the edge numbers.
-struct Filed<'a> {
+pub struct Filed<'a> {
     bytes: &'a [u8],
-    t: usize,
+    pub t: usize,
     q: usize,
 }
 
@@ -41,8 +41,27 @@ impl Filed<'_> {
         u16::from_le_bytes([self.bytes[2 * at], self.bytes[2 * at + 1]])
     }
 
-    fn start(&self, tree: usize) -> u16 {
+    pub fn start(&self, tree: usize) -> u16 {
         self.field(2 + tree)
+    }
+
+    /// The edges of a tree by rising number; the entries must rise.
+    pub fn edges(&self, tree: usize) -> impl Iterator<Item = u16> + Clone + '_ {
+        (self.first_of(tree)..self.first_of(tree + 1)).map(|i| self.entry(i).1)
+    }
+
+    /// The first entry whose tree is not below this one.
+    fn first_of(&self, tree: usize) -> usize {
+        let (mut low, mut high) = (0, self.q);
+        while low < high {
+            let middle = (low + high) / 2;
+            if (self.entry(middle).0 as usize) < tree {
+                low = middle + 1;
+            } else {
+                high = middle;
+            }
+        }
+        low
     }
 
     /// The tree and the edge of an entry.
@@ -71,8 +90,13 @@ impl Filed<'_> {
     }
 }
 
-/// Checks cover bytes on a graph: the heaviest weight, or 31 to 35.
-fn check_on(kind: u32, k: usize, graph: &Graph, cover: &[u8]) -> Result<u64, u32> {
+/// Checks cover bytes on a graph: the cover and its heaviest weight, or 31 to 35.
+pub fn checked<'a>(
+    kind: u32,
+    k: usize,
+    graph: &Graph,
+    cover: &'a [u8],
+) -> Result<(Filed<'a>, u64), u32> {
     let filed = Filed::read(cover)?;
     if !filed.starts_fit(kind, k, graph.n) {
         return Err(32);
@@ -95,7 +119,7 @@ fn check_on(kind: u32, k: usize, graph: &Graph, cover: &[u8]) -> Result<u64, u32
     if !covered[..graph.n].iter().all(|&is| is) {
         return Err(35);
     }
-    Ok(heaviest)
+    Ok((filed, heaviest))
 }
 
 /// The weight of a tree, whose vertices are marked, or nothing if it has a loop or an edge not joined to its start.

@@ -19,3 +19,4 @@ pub mod rooted;
 pub mod split;
 pub mod trial;
 pub mod unrooted;
+pub mod walk;

@@ -6,13 +6,15 @@ use bench::measure::{medians, Asked, Question};
 use bench::planners::{linked, plain};
 use bench::question::{ROOTED, UNROOTED};
 
-const QUESTIONS: [(&str, Asked, u32); 6] = [
+const QUESTIONS: [(&str, Asked, u32); 8] = [
     ("rooted best", Asked::Best, ROOTED),
     ("unrooted best", Asked::Best, UNROOTED),
     ("rooted trial", Asked::Trial, ROOTED),
     ("unrooted trial", Asked::Trial, UNROOTED),
     ("rooted check", Asked::Check, ROOTED),
     ("unrooted check", Asked::Check, UNROOTED),
+    ("rooted walk", Asked::Walk, ROOTED),
+    ("unrooted walk", Asked::Walk, UNROOTED),
 ];
 
 /// More and more edges, at fixed n and k.
@@ -28,6 +30,9 @@ const BY_CREWS: [Size; 3] = [
     Size { n: 256, m: 2_048, k: 16 },
     Size { n: 256, m: 2_048, k: 32 },
 ];
+
+/// One crew, whose tree has an edge for every vertex but one.
+const WHOLE_TREE: [Size; 1] = [Size { n: 256, m: 2_048, k: 1 }];
 
 fn main() {
     let rounds = std::env::args().nth(1).map_or(101, |word| word.parse().expect("a number"));
@@ -55,6 +60,14 @@ fn main() {
     for (name, asked, kind) in QUESTIONS.iter().copied().filter(|row| row.1 == Asked::Best) {
         rows(name, asked, kind, Shape::Random, &BY_EDGES, rounds);
         rows(name, asked, kind, Shape::Random, &BY_CREWS, rounds);
+    }
+    println!();
+    println!("The walk along one tree of 255 edges.");
+    heading();
+    for (name, asked, kind) in QUESTIONS.iter().copied().filter(|row| row.1 == Asked::Walk) {
+        for shape in SHAPES {
+            rows(name, asked, kind, shape, &WHOLE_TREE, rounds);
+        }
     }
     println!();
     for (name, _, _) in QUESTIONS {

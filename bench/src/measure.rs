@@ -16,6 +16,8 @@ pub enum Asked {
     Trial,
     /// The check of the best limit's cover.
     Check,
+    /// The walk of the tree of that cover that has the most edges.
+    Walk,
 }
 
 /// A question with all that it needs; the limit and the cover are those of the plain version's best answer.
@@ -26,6 +28,7 @@ pub struct Question {
     sheet: Vec<u8>,
     limit: u64,
     cover: Vec<u8>,
+    tree: usize,
 }
 
 impl Question {
@@ -36,7 +39,8 @@ impl Question {
         let case = (plain().best)(kind, size.k, &sheet, &mut values, &mut buffer);
         assert_eq!(case, 0, "the graphs measured have covers");
         let cover = written(&buffer).to_vec();
-        Question { asked, kind, k: size.k, sheet, limit: values[0], cover }
+        let tree = largest_tree(&cover);
+        Question { asked, kind, k: size.k, sheet, limit: values[0], cover, tree }
     }
 
     /// Puts the question to a planner.
@@ -46,31 +50,49 @@ impl Question {
             Asked::Best => (planner.best)(kind, k, sheet, values, buffer),
             Asked::Trial => (planner.trial)(kind, k, self.limit, sheet, values, buffer),
             Asked::Check => (planner.check)(kind, k, sheet, &self.cover, values),
+            Asked::Walk => {
+                let values = values.first_chunk_mut().expect("three values");
+                (planner.walk)(kind, k, sheet, &self.cover, self.tree, values, buffer)
+            }
         }
     }
 
     /// Fails unless a planner's answer is right: the case, what the rules fix of the values, and a cover that the plain
-    /// check says yes to.
+    /// check says yes to; of a walk all values and bytes.
     pub fn assert_right(&self, planner: &Planner) {
         let (mut due, mut values) = ([0; 3], [0; 3]);
-        let mut buffer = vec![0; BUFFER];
-        assert_eq!(self.put(&plain(), &mut due, &mut buffer), 0);
-        buffer.fill(0);
-        assert_eq!(self.put(planner, &mut values, &mut buffer), 0, "a cover is due");
-        assert_eq!(values[0], due[0], "the limit, or the heaviest of the check");
-        if self.asked != Asked::Check {
-            let mut heaviest = [0; 3];
-            let cover = written(&buffer);
-            let said = (plain().check)(self.kind, self.k, &self.sheet, cover, &mut heaviest);
-            assert_eq!((said, heaviest[0]), (0, values[1]), "the cover written");
+        let (mut right, mut buffer) = (vec![0; BUFFER], vec![0; BUFFER]);
+        assert_eq!(self.put(&plain(), &mut due, &mut right), 0);
+        assert_eq!(self.put(planner, &mut values, &mut buffer), 0, "a cover, yes or a walk is due");
+        assert_eq!(values[0], due[0], "the limit, the heaviest of the check, or the stops");
+        match self.asked {
+            Asked::Best | Asked::Trial => {
+                let mut heaviest = [0; 3];
+                let cover = written(&buffer);
+                let said = (plain().check)(self.kind, self.k, &self.sheet, cover, &mut heaviest);
+                assert_eq!((said, heaviest[0]), (0, values[1]), "the cover written");
+            }
+            Asked::Check => {}
+            Asked::Walk => assert!(values == due && buffer == right, "the walk"),
         }
     }
 }
 
+/// The field of two bytes at a place.
+fn field(bytes: &[u8], at: usize) -> usize {
+    usize::from(u16::from_le_bytes([bytes[at], bytes[at + 1]]))
+}
+
 /// The bytes of a cover at a buffer's front.
 fn written(buffer: &[u8]) -> &[u8] {
-    let field = |at: usize| usize::from(u16::from_le_bytes([buffer[at], buffer[at + 1]]));
-    &buffer[..4 + 2 * field(0) + 4 * field(2)]
+    &buffer[..4 + 2 * field(buffer, 0) + 4 * field(buffer, 2)]
+}
+
+/// The tree of a cover that has the most edges, the lowest of several.
+fn largest_tree(cover: &[u8]) -> usize {
+    let (t, q) = (field(cover, 0), field(cover, 2));
+    let of_tree = |tree: usize| (0..q).filter(move |i| field(cover, 4 + 2 * (t + i)) == tree);
+    (0..t).rev().max_by_key(|&tree| of_tree(tree).count()).expect("a cover has a tree")
 }
 
 /// How long one measurement takes at least: short questions are put many times in a row.
