@@ -43,9 +43,9 @@ extern "C" {
  * buffer only the front that a walk fills, or that the cover or the parts fill, as cover bytes, whose length is
  * 4 + 2t + 4q by the t and q that they begin with. All else, and all of both at a refusal, is left as it came.
  *
- * Stack: planner_trial and planner_best take up to 320 KiB, planner_walk up to 12 KiB; planner_check, and a refusal by any
- * of them, up to 4 KiB. Measured, with some room to spare, and not proved: a stack that is too small ends the program. No
- * memory is allocated.
+ * Stack: planner_trial and planner_best take up to 320 KiB, planner_walk, refused or not, up to 12 KiB; planner_check, and
+ * a refusal by the first two, up to 4 KiB. Measured, with some room to spare, and not proved: a stack that is too small ends
+ * the program. No memory is allocated.
  */
 
 /*

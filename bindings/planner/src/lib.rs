@@ -2,9 +2,9 @@
 //! a filed cover, and the closed walk of one of its trees. `include/planner.h` says what the bytes of a graph and of a cover
 //! are.
 //!
-//! Stack: [`trial`] and [`best`] take up to 320 KiB, [`walk`] up to 12 KiB; [`check`], and a refusal by any of them, up to 4
-//! KiB. Measured, with some room to spare, and not proved: a stack that is too small ends the program. The 2 MiB that a thread
-//! of the standard library has are enough; [`std::thread::Builder::stack_size`] gives a thread less.
+//! Stack: [`trial`] and [`best`] take up to 320 KiB, [`walk`], refused or not, up to 12 KiB; [`check`], and a refusal by the
+//! first two, up to 4 KiB. Measured, with some room to spare, and not proved: a stack that is too small ends the program. The
+//! 2 MiB that a thread of the standard library has are enough; [`std::thread::Builder::stack_size`] gives a thread less.
 
 mod cover;
 mod walk;

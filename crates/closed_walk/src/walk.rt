@@ -35,41 +35,42 @@ pub fn number_of(walked: Walked) -> u32
     }
 }
 
-// The walk along tree j, a tree of a cover.
-fn walk_tree(b: &[u8], c: &[u8], j: usize, buf: &mut [u8]) -> Walked
-    requires { ⌜ TreeAsked (graphOf (now b)) (now c) j (length (now buf)) ⌝ }
-    ensures { λ r. ⌜ TreeWalked (graphOf (now (b .entry))) (now (c .entry)) j (now (buf .entry)) (now (buf .exit)) r ⌝ }
+// The walk along one tree of a cover: its stops, two bytes each, and its length, twice the tree's weight.
+fn walk_tree(b: &[u8], c: &[u8], tree: usize, buf: &mut [u8]) -> Walked
+    requires { ⌜ TreeAsked (graphOf (now b)) (now c) tree (length (now buf)) ⌝ }
+    ensures { λ r. ⌜ TreeWalked (graphOf (now (b .entry))) (now (c .entry)) tree (now (buf .entry)) (now (buf .exit)) r ⌝ }
 {
-    let from = run_begin(c, j);
-    let to = run_end(c, j, from);
+    let from = run_begin(c, tree);
+    let to = run_end(c, tree, from);
     let mut edges = [0u16; 255];
     let q = read_run(c, from, to, &mut edges);
-    let written = write_walk(b, start_in(c, j), &edges[..q], buf);
-    Walked::Walk(written / 2, 2 * run_weight(b, c, from, to))
+    let written = write_walk(b, start_in(c, tree), &edges[..q], buf);
+    let length = 2 * run_weight(b, c, from, to);
+    Walked::Walk(written / 2, length)
 }
 
-// The walk along tree j of a cover that passed the check, unless there is no such tree or too little room.
-fn walk_checked(b: &[u8], c: &[u8], j: usize, buf: &mut [u8]) -> Walked
+// The same of a cover that passed the check, unless it has no such tree (51) or the buffer is too small (52).
+fn walk_checked(b: &[u8], c: &[u8], tree: usize, buf: &mut [u8]) -> Walked
     requires { ⌜ CheckedGiven (graphOf (now b)) (now c) ⌝ }
-    ensures { λ r. ⌜ CheckedWalked (graphOf (now (b .entry))) (now (c .entry)) j (now (buf .entry)) (now (buf .exit))
+    ensures { λ r. ⌜ CheckedWalked (graphOf (now (b .entry))) (now (c .entry)) tree (now (buf .entry)) (now (buf .exit))
         r ⌝ }
 {
-    if trees_in(c) <= j {
+    if trees_in(c) <= tree {
         return Walked::Refused(Refusal::TreeNumber);
     }
     if buf.len() < LEAST_WALK_ROOM {
         return Walked::Refused(Refusal::WalkRoom);
     }
-    walk_tree(b, c, j, buf)
+    walk_tree(b, c, tree, buf)
 }
 
-// The walk along tree j of a filed cover.
-pub fn walk(kind: Kind, k: usize, b: &[u8], c: &[u8], j: usize, buf: &mut [u8]) -> Walked
-    ensures { λ r. ⌜ WalkPromise (asks kind k (now (b .entry))) (now (c .entry)) j (now (buf .entry)) (now (buf .exit))
+// The walk along one tree of a filed cover.
+pub fn walk(kind: Kind, k: usize, b: &[u8], c: &[u8], tree: usize, buf: &mut [u8]) -> Walked
+    ensures { λ r. ⌜ WalkPromise (asks kind k (now (b .entry))) (now (c .entry)) tree (now (buf .entry)) (now (buf .exit))
         r ⌝ }
 {
     match check_cover(kind, k, b, c) {
         Verdict::Refused(f) => Walked::Refused(f),
-        Verdict::Yes(_) => walk_checked(b, c, j, buf),
+        Verdict::Yes(_) => walk_checked(b, c, tree, buf),
     }
 }

@@ -11,7 +11,7 @@ use Rattle.closed_walk.proofs.walk.walk_checked.Tie as tie
 abbrev start : tie.After-walk-tree-arg → tie.Start
 start c = c .before .before .before .before .before .before .before
 
-there : (c : tie.After-walk-tree-arg) → start c .args .j < treesIn (start c .args .c .now)
+there : (c : tie.After-walk-tree-arg) → start c .args .tree < treesIn (start c .args .c .now)
 there c = omega (arith, c .before .before .before .trees-in .ensures .is)
 
 trees-in-requires : tie.Need-trees-in-requires

@@ -20,13 +20,13 @@ module _ (r : tie.After-read-run) where
   abbrev e : tie.After-run-end
   e = r .before .before
 
-  asked : TreeAsked (graphOf (start e .args .b .now)) (start e .args .c .now) (start e .args .j) (length (start e .args .buf .now))
+  asked : TreeAsked (graphOf (start e .args .b .now)) (start e .args .c .now) (start e .args .tree) (length (start e .args .buf .now))
   asked = start e .pre
 
-  began : FirstOf (start e .args .c .now) (start e .args .j) (e .before .run-begin .result)
+  began : FirstOf (start e .args .c .now) (start e .args .tree) (e .before .run-begin .result)
   began = e .before .run-begin .ensures
 
-  ended : RunOf (start e .args .c .now) (start e .args .j) (e .before .run-begin .result) (e .run-end .result)
+  ended : RunOf (start e .args .c .now) (start e .args .tree) (e .before .run-begin .result) (e .run-end .result)
   ended = e .run-end .ensures
 
 abbrev taken : tie.After-run-weight → tie.After-read-run
@@ -63,8 +63,8 @@ write-walk-requires c κs =
 run-weight-requires : tie.Need-run-weight-requires
 run-weight-requires c κs = search needs
 
-mul-t18 : tie.Need-mul-t18
-mul-t18 c = let r = taken c in omega (arith, c .run-weight .ensures, weight-few (asked r) (began r) (ended r))
+mul-length : tie.Need-mul-length
+mul-length c = let r = taken c in omega (arith, c .run-weight .ensures, weight-few (asked r) (began r) (ended r))
 
 same-length : tie.Need-same-length
 same-length c = search needs
@@ -88,6 +88,6 @@ walk-tree-spec =
     slice-aggregate-write-walk
     write-walk-requires
     run-weight-requires
-    mul-t18
+    mul-length
     same-length
     returns)
