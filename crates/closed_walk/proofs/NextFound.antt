@@ -1,6 +1,6 @@
 -- The next edge as the arrays tell it: the first arc around the stop, past those that were passed over, whose edge is not marked.
 -- Assumes nothing.
-use Prim.Native.Nat.{ℕ, _+_, _-_, _≤_, _<_, min}
+use Prim.Native.Nat.{ℕ, _+_, _-_, _<_, min}
 use mathlib.Core.Path.{_≡_, refl, sym, ap, subst, _∙_}
 use mathlib.Core.Bool.{true, not}
 use mathlib.Core.List.{List, [], _∷_, map, Memᴰ·cast}
@@ -25,7 +25,7 @@ use Rattle.edges.proofs.Arcs.{arc-edge, valid-arc-head}
 use Rattle.closed_walk.specs.Turn.{PlaceAsked, NextPlace, ArcsHeld, edgesAt, Walking}
 
 -- A walk's first stop is where it begins.
-pub stops-first : (g : Graph) (u : ℕ) (path : List ℕ) → getD (stopsFrom g u path) 0 0 ≡ u
+stops-first : (g : Graph) (u : ℕ) (path : List ℕ) → getD (stopsFrom g u path) 0 0 ≡ u
 unfolding stopsFrom
 stops-first g u [] = refl
 stops-first g u (e ∷ path) = refl

@@ -29,7 +29,7 @@ use Rattle.closed_walk.proofs.NextFound.{at-stop, stop-vertex, as-many,
 
 module _ {g : Graph} {t : Tree} {s : Underway} {bounds arcs places marks way : List ℕ} {depth : ℕ} (w : Walking g t s bounds arcs places marks way depth) where
   -- Arcs of walked edges are passed over.
-  pub passed-over : {around : List ℕ} (is : around ≡ segment bounds arcs (s .stop)) {at : ℕ} → NextPlace around marks (getD places (s .stop) 0) at
+  passed-over : {around : List ℕ} (is : around ≡ segment bounds arcs (s .stop)) {at : ℕ} → NextPlace around marks (getD places (s .stop) 0) at
       → Walking g t s bounds arcs (set places (s .stop) at) marks way depth
   passed-over is {at} n = record {
     around = w .around;
@@ -54,7 +54,7 @@ module _ {g : Graph} {t : Tree} {s : Underway} {bounds arcs places marks way : L
     joins = unfold touches in joins-far e (s .stop) at-stop
 
     -- An edge is crossed onward: it is marked, and where it leads is the last stop of the way.
-    pub crossed-on : {head : ℕ} → head ≡ farEnd g e (s .stop)
+    crossed-on : {head : ℕ} → head ≡ farEnd g e (s .stop)
         → Walking g t (crossed g s e (e ∷ s .way)) bounds arcs places (set marks e 1) (set way (depth + 1) head) (depth + 1)
     unfolding crossed stopsFrom
     crossed-on {head} there = record {
@@ -94,7 +94,7 @@ module _ {g : Graph} {t : Tree} {s : Underway} {bounds arcs places marks way : L
             rw (lower, far-end (joins-back joins)) (getD-set-other way (depth + 1) (depth - i) head 0 (λ q. omega arith) ∙ w .stack i (omega arith))
 
   -- The edge by which the stop was reached is crossed back.
-  pub crossed-back : {e : ℕ} {rest : List ℕ} → s .way ≡ e ∷ rest → e ∈ s .crossings → Walking g t (crossed g s e rest) bounds arcs places marks way (depth - 1)
+  crossed-back : {e : ℕ} {rest : List ℕ} → s .way ≡ e ∷ rest → e ∈ s .crossings → Walking g t (crossed g s e rest) bounds arcs places marks way (depth - 1)
   unfolding crossed stopsFrom
   crossed-back {e} {rest} q walked = record {
     around = w .around;

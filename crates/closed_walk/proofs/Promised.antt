@@ -20,11 +20,11 @@ use Rattle.rules.specs.CoverBytes.{treesIn, treeIn, decode}
 use Rattle.rules.specs.CheckCover.{coverFault}
 use Rattle.rules.specs.Reply as reply
 use Rattle.rules.specs.Questions.{Question, graphIn, crewsIn, questionFault, checkFault, askCheck}
-use Rattle.rules.specs.WalkQuestion.{leastWalkRoom, walkFault, WalkReply, refused, askWalk, stopBytes, walkAfter}
+use Rattle.rules.specs.WalkQuestion.{leastWalkRoom, walkFault, refused, askWalk, stopBytes, walkAfter}
 use Rattle.rules.proofs.Admitted.{admitted}
 use Rattle.cover_laws.proofs.PassedTests.{quiet-passed}
 use Rattle.cover_laws.proofs.CheckedCovers.{cover-read}
-use Rattle.cover_laws.proofs.ClosedWalk.{closed-walk-length, closed-walk-stops, closed-walk-few}
+use Rattle.cover_laws.proofs.ClosedWalk.{closed-walk-length, closed-walk-stops, closed-walk-few, walk-passes}
 use Rattle.cover_laws.proofs.OnlyWalk.{closed-walk-is, closed-walk-only}
 use Rattle.admit.specs.declared.refusal.Refusal.{Refusal}
 use Rattle.admit.specs.declared.refusal.Refusal.the-variants.{TreeNumber, WalkRoom}
@@ -34,7 +34,8 @@ use Rattle.filed.specs.Promise.{CheckPromise}
 use Rattle.replies.specs.Replies.{said}
 use Rattle.closed_walk.specs.declared.walk.Walked.{Walked}
 use Rattle.closed_walk.specs.declared.walk.Walked.the-variants.{Refused}
-use Rattle.closed_walk.specs.Promise.{says, saidOf, WalkReplied, WalksTree, WalkPromise, CheckedGiven, TreeAsked, TreeWalked, treeFault, replyTo, CheckedWalked}
+use Rattle.closed_walk.specs.Promise.{WalkReplied, WalksTree, WalkPromise}
+use Rattle.closed_walk.specs.Checked.{CheckedGiven, TreeAsked, TreeWalked, CheckedWalked}
 
 -- A refusal says its number and leaves the buffer as it is.
 refuses : {number : ℕ} (f : Refusal) (buffer : List ℕ) → number ≡ numberOf f → WalkReplied (refused number) buffer buffer (Refused f)
@@ -88,6 +89,7 @@ walks-tree valid is = record {
   long = closed-walk-length is;
   count = closed-walk-stops is;
   few = closed-walk-few is valid;
+  passes = walk-passes is;
 }
 
 module _ (q : Question) (c : List ℕ) where

@@ -1,7 +1,7 @@
 -- The stops of the walk along a tree, written turn by turn.
 -- Assumes nothing.
 use Prim.Native.Nat.{ℕ, zero, suc, _+_, _-_, _*_, _≤_, _<_}
-use mathlib.Core.Path.{_≡_, refl, sym, ap, _∙_}
+use mathlib.Core.Path.{_≡_, refl, _∙_}
 use mathlib.Core.List.{List, [], _∷_, _++_, List·Memᴰ·not-nil}
 use native.Mathlib.Omega.{arith}
 use lib.ListN.{length, drop, getD, set, replicate, length-set, length-replicate}
@@ -10,7 +10,7 @@ use Rattle.lists.specs.Put.{PutTo}
 use Rattle.lists.proofs.Put.{put-length}
 use Rattle.lists.proofs.Zeros.{zeros-at}
 use Rattle.graph.specs.Graph.{Graph}
-use Rattle.rules.specs.Cover.{Tree, IsTree}
+use Rattle.rules.specs.Cover.{Tree}
 use Rattle.rules.specs.CoverBytes.{u16Bytes, u16List}
 use Rattle.rules.specs.ClosedWalk.{stopsFrom, stopsOf, afterTurns, closedWalk}
 use Rattle.rules.proofs.Fields.{field-length}

@@ -1,7 +1,7 @@
 -- The walk along one tree of a cover: its edges are a run of entries, and what is written and answered is the rules' reply.
 -- Assumes nothing.
 use Prim.Native.Nat.{ℕ, _-_, _*_, _/_, _≤_}
-use mathlib.Core.Path.{_≡_, refl, sym, ap, ap₂, subst, _∙_}
+use mathlib.Core.Path.{_≡_, sym, ap, ap₂, subst, _∙_}
 use mathlib.Core.List.{List, [], _∷_}
 use native.Mathlib.Omega.{arith}
 use lib.ListN.{length}
@@ -24,7 +24,7 @@ use Rattle.replies.specs.Replies.{said}
 use Rattle.closed_walk.specs.declared.walk.Walked.the-variants.{Walk}
 use Rattle.closed_walk.specs.Run.{FirstOf}
 use Rattle.closed_walk.specs.Turn.{treeOf, WriteAsked, walkStops}
-use Rattle.closed_walk.specs.Promise.{TreeAsked, TreeWalked}
+use Rattle.closed_walk.specs.Checked.{TreeAsked, TreeWalked}
 use Rattle.closed_walk.proofs.OneRun.{first-begins, run-length}
 
 module _ {g : Graph} {c : List ℕ} {j room : ℕ} (asked : TreeAsked g c j room) {from to : ℕ} (first : FirstOf c j from) (run : RunOf c j from to) where

@@ -5,3 +5,5 @@ pub mod Run
 pub mod Turn
 -- what the question of the walk promises
 pub mod Promise
+-- what is left of it where the cover passed the check
+pub mod Checked

@@ -1,22 +1,19 @@
 -- What the question of the walk promises on every input, refused ones too (document 02, A.1).
 -- Assumes nothing.
-use Prim.Native.Nat.{ℕ, _+_, _*_, _≤_, _<_}
+use Prim.Native.Nat.{ℕ, _+_, _*_, _≤_}
 use mathlib.Core.Path.{_≡_}
 use mathlib.Core.List.{List, [], _∷_}
 use mathlib.Core.Option.{some, none}
-use lib.Dec.{ltb}
+use mathlib.Core.Logic.{_↔_}
 use lib.ListN.{length}
 use Rattle.lists.specs.Member.{_∈_}
 use Rattle.graph.specs.Graph.{Graph}
-use Rattle.graph.specs.Fault.{Fault, faultIf, faultUnless, firstFault, refusedOr}
-use Rattle.graph.specs.Valid.{Valid}
-use Rattle.rules.specs.Cover.{Tree, IsTree, treeWeight}
-use Rattle.rules.specs.CoverBytes.{treesIn, treeIn, decode}
+use Rattle.rules.specs.Cover.{Tree, IsTree, Covers, treeWeight}
+use Rattle.rules.specs.CoverBytes.{treeIn}
 use Rattle.rules.specs.Questions.{Question, graphIn}
 use Rattle.rules.specs.ClosedWalk.{stopsOf, lengthOf, closedWalk}
 use Rattle.rules.specs.WalkRule.{IsClosedWalk}
-use Rattle.rules.specs.WalkQuestion.{leastWalkRoom, walkFault, WalkReply, refused, walks, askWalk, walkAfter}
-use Rattle.cover.specs.Runs.{CoverGiven}
+use Rattle.rules.specs.WalkQuestion.{walkFault, WalkReply, refused, walks, askWalk, walkAfter}
 use Rattle.admit.specs.Refusals.{numberOf}
 use Rattle.replies.specs.Replies.{Said, said}
 use Rattle.closed_walk.specs.declared.walk.Walked.{Walked}
@@ -38,7 +35,7 @@ pub record WalkReplied (reply : WalkReply) (before after : List ℕ) (r : Walked
   pub buffer : after ≡ walkAfter reply before
 
 -- What the walk along a tree is: closed, each edge of the tree crossed exactly twice and no other, each crossing by the rule; the only such walk;
--- "twice the tree's weight" long; "at most 511" stops.
+-- "twice the tree's weight" long; "at most 511" stops, at the vertices that the tree covers.
 pub record WalksTree (g : Graph) (t : Tree) : Type 0 where
   pub is-tree : IsTree g t
   pub is-closed : IsClosedWalk g t (closedWalk g t .crossings)
@@ -46,6 +43,7 @@ pub record WalksTree (g : Graph) (t : Tree) : Type 0 where
   pub long : lengthOf g (closedWalk g t) ≡ 2 * treeWeight g t
   pub count : length (stopsOf g (closedWalk g t)) ≡ 2 * length (t .edges) + 1
   pub few : length (stopsOf g (closedWalk g t)) ≤ 511
+  pub passes : (v : ℕ) → (v ∈ stopsOf g (closedWalk g t)) ↔ Covers g t v
 
 -- The question of the walk. Refused exactly where documents 01 and 02 say so, with the number alone, and no lent byte changes. Otherwise the answer and
 -- the buffer are those of the walk along the tree, which is what document 02 says of it.
@@ -53,30 +51,3 @@ pub record WalkPromise (q : Question) (c : List ℕ) (tree : ℕ) (before after 
   pub refuses : (n : ℕ) → walkFault q c tree (length before) ≡ some n → (says r ≡ said n []) × (after ≡ before)
   pub rule : WalkReplied (askWalk q c tree (length before)) before after r
   pub means : walkFault q c tree (length before) ≡ none → WalksTree (graphIn q) (treeIn c tree)
-
--- WITHIN
-
--- A cover that passed the check.
-pub record CheckedGiven (g : Graph) (c : List ℕ) : Type 0 where
-  pub cover : CoverGiven g c
-  pub are-trees : (t : Tree) → t ∈ decode c → IsTree g t
-
--- One of its trees, and room for any walk.
-pub record TreeAsked (g : Graph) (c : List ℕ) (j room : ℕ) : Type 0 where
-  pub cover : CoverGiven g c
-  pub is-tree : IsTree g (treeIn c j)
-  pub fits : leastWalkRoom ≤ room
-
--- What is answered of a tree.
-abbrev pub replyTo : Graph → Tree → WalkReply
-replyTo g t = let walk = closedWalk g t in walks (stopsOf g walk) (lengthOf g walk)
-
-abbrev pub TreeWalked : Graph → List ℕ → ℕ → List ℕ → List ℕ → Walked → Type 0
-TreeWalked g c j before after r = WalkReplied (replyTo g (treeIn c j)) before after r
-
--- The two numbers that the walk alone has.
-abbrev pub treeFault : List ℕ → ℕ → ℕ → Fault
-treeFault c j room = firstFault (faultUnless (ltb j (treesIn c)) 51 ∷ faultIf (ltb room leastWalkRoom) 52 ∷ [])
-
-abbrev pub CheckedWalked : Graph → List ℕ → ℕ → List ℕ → List ℕ → Walked → Type 0
-CheckedWalked g c j before after r = WalkReplied (refusedOr refused (treeFault c j (length before)) (replyTo g (treeIn c j))) before after r

@@ -15,7 +15,8 @@ ghost use mathlib.Core.Path.{_≡_};
 ghost use lib.ListN.{length};
 ghost use Rattle.graph.specs.Bytes.{graphOf};
 ghost use Rattle.admit.specs.Crews.{asks};
-ghost use Rattle.closed_walk.specs.Promise.{says, TreeAsked, TreeWalked, CheckedGiven, CheckedWalked, WalkPromise};
+ghost use Rattle.closed_walk.specs.Promise.{says, WalkPromise};
+ghost use Rattle.closed_walk.specs.Checked.{CheckedGiven, TreeAsked, TreeWalked, CheckedWalked};
 
 // What is answered. The stops stand in the buffer.
 pub enum Walked {

@@ -1,12 +1,12 @@
 -- The closed walk along a tree: it begins and ends at the start, crosses each edge of the tree exactly twice and no other, is twice as long as the tree is
--- heavy, and passes two stops for each edge and one more, at most 511. Each of its turns adds one stop; after them nothing is left, so that more turns
--- change nothing.
+-- heavy, and has two stops for each edge and one more, at most 511, at the vertices that the tree covers. Each of its turns adds one stop; after them
+-- nothing is left, so that more turns change nothing.
 -- Assumes nothing.
 use Prim.Native.Nat.{ℕ, zero, suc, _+_, _*_, _≤_, _<_}
 use mathlib.Core.Path.{_≡_, refl, sym, ap, _∙_}
 use mathlib.Core.Bool.{true, false}
-use mathlib.Core.List.{List, [], _∷_, _++_}
-use mathlib.Core.Logic.{_⊎_, inl, inr, dite}
+use mathlib.Core.List.{List, [], _∷_, _++_, Memᴰ·cast}
+use mathlib.Core.Logic.{_↔_, _⊎_, inl, inr, dite}
 use mathlib.Core.Option.{none}
 use native.Mathlib.Decide.{ℕ-discrete}
 use native.Mathlib.Numerals.{add-one}
@@ -20,14 +20,16 @@ use Rattle.lists.proofs.Lengths.{within-whole}
 use Rattle.lists.proofs.Sums.{sum-append}
 use Rattle.lists.proofs.SameTimes.{same-sum}
 use Rattle.lists.proofs.Times.{times-none, times-append, in-times, times-in, not-in-times, once-times}
-use Rattle.graph.specs.Graph.{Graph, weightOf}
+use Rattle.graph.specs.Graph.{Graph, oneEnd, otherEnd, weightOf}
 use Rattle.graph.specs.Valid.{Valid}
-use Rattle.rules.specs.Walk.{Walk, stay, totalWeight}
-use Rattle.rules.specs.Cover.{Tree, IsTree, treeWeight}
+use Rattle.rules.specs.Walk.{onward, back, Walk, stay, totalWeight}
+use Rattle.rules.specs.Cover.{Tree, IsTree, Covers, at-start, at-one-end, at-other-end, treeWeight}
 use Rattle.rules.specs.Grow.{farEnd}
 use Rattle.rules.specs.ClosedWalk.{stopsFrom, stopsOf, lengthOf, Underway, nextEdge, crossed, homeward, turnBy, turn, afterTurns, closedWalk}
-use Rattle.rules.proofs.WalkStops.{stops-length, walk-last, stops-more}
+use Rattle.rules.proofs.Linked.{linked-more}
+use Rattle.rules.proofs.WalkStops.{stops-length, first-stop, walk-last, stops-more, passed-linked, joined-passed}
 use Rattle.forest_laws.proofs.FewForest.{loopless-few}
+use Rattle.forest_laws.proofs.UnionTree.{linked-covered}
 use Rattle.cover_laws.proofs.Turns.{Turned, turned, went-on, went-back, stood}
 use Rattle.cover_laws.proofs.NextEdge.{none-next}
 use Rattle.cover_laws.proofs.TurnsReached.{Reached, reached, walked-few, whole-turns}
@@ -132,17 +134,14 @@ module _ {g : Graph} {t : Tree} (tree : IsTree g t) where
           let out : e ∈ t .edges → ⊥ = member-out e (t .edges) (rw p) in
           not-in-times e (at-last .walked) (λ m. out (at-last .of-tree e m)) ∙ sym (not-in-times e (t .edges) out)
 
-  -- exactly twice where it is an edge of the tree,
+  -- exactly twice where it is an edge of the tree, so that each is crossed,
   pub each-twice : (e : ℕ) → e ∈ t .edges → times e (closedWalk g t .crossings) ≡ 2
   each-twice e m = omega (arith, crossed-times e, in-times m, once-times (rising-once (tree .rising)) e)
-
-  -- and not at all where it is none.
-  pub no-other : (e : ℕ) → (e ∈ t .edges → ⊥) → times e (closedWalk g t .crossings) ≡ 0
-  no-other e out = omega (arith, crossed-times e, not-in-times e (t .edges) out)
 
   pub crosses-each : (e : ℕ) → e ∈ t .edges → e ∈ closedWalk g t .crossings
   crosses-each e m = times-in e (closedWalk g t .crossings) (omega (arith, each-twice e m))
 
+  -- and no other.
   pub crossed-of-tree : (e : ℕ) → e ∈ closedWalk g t .crossings → e ∈ t .edges
   crossed-of-tree e m = times-in e (t .edges) (omega (arith, crossed-times e, in-times m))
 
@@ -156,11 +155,7 @@ module _ {g : Graph} {t : Tree} (tree : IsTree g t) where
         sum-append (weightOf g) (t .edges) (t .edges),
       )
 
-  -- Two crossings for each edge, and one stop more,
-  pub closed-walk-crossings : length (closedWalk g t .crossings) ≡ 2 * length (t .edges)
-  unfolding closedWalk last
-  closed-walk-crossings = last-length
-
+  -- Two stops for each edge, and one more,
   pub closed-walk-stops : length (stopsOf g (closedWalk g t)) ≡ 2 * length (t .edges) + 1
   unfolding stopsOf closedWalk last
   closed-walk-stops = omega (arith, stops-length g (t .start) (last .crossings), last-length)
@@ -168,3 +163,13 @@ module _ {g : Graph} {t : Tree} (tree : IsTree g t) where
   -- "at most 511 of them".
   pub closed-walk-few : Valid g → length (stopsOf g (closedWalk g t)) ≤ 511
   closed-walk-few valid = omega (arith, closed-walk-stops, valid .vertices-most, loopless-few valid (rising-once (tree .rising)) (tree .no-loop))
+
+  -- It passes the vertices that the tree covers, and no other.
+  pub walk-passes : (v : ℕ) → (v ∈ stopsOf g (closedWalk g t)) ↔ Covers g t v
+  unfolding stopsOf closedWalk
+  walk-passes v = (λ m. linked-covered t (linked-more crossed-of-tree (passed-linked closed-walk-closed m)), passed)
+    where
+      passed : Covers g t v → v ∈ stopsOf g (closedWalk g t)
+      passed (at-start q) = Memᴰ·cast q (first-stop g (t .start) (closedWalk g t .crossings))
+      passed (at-one-end e m q) = joined-passed {a = otherEnd g e} closed-walk-closed (crosses-each e m) (back refl q)
+      passed (at-other-end e m q) = joined-passed {a = oneEnd g e} closed-walk-closed (crosses-each e m) (onward refl q)

@@ -1,9 +1,9 @@
 -- Our longest closed walk is at most eight times the longest of anybody's closed walks that together come to every vertex: of each rival's walk take the
 -- tree made of its edges. These trees are a cover, none heavier than its walk is long.
 -- Assumes nothing.
-use Prim.Native.Nat.{ℕ, _*_, _≤_, _<_}
-use mathlib.Core.Path.{_≡_, refl, _∙_}
-use mathlib.Core.List.{List, map, map-map, Memᴰ·cast}
+use Prim.Native.Nat.{_*_, _≤_, _<_}
+use mathlib.Core.Path.{_≡_, _∙_}
+use mathlib.Core.List.{List, map, map-map}
 use native.Mathlib.Omega.{arith}
 use lib.ListN.{length, length-map}
 use Rattle.lists.specs.Lists.{largest}
@@ -11,18 +11,17 @@ use Rattle.lists.specs.Member.{_∈_}
 use Rattle.lists.proofs.Member.{in-map, of-map}
 use Rattle.lists.proofs.Lengths.{some-member}
 use Rattle.lists.proofs.Largest.{largest-most, in-largest}
-use Rattle.graph.specs.Graph.{Graph, oneEnd, otherEnd}
+use Rattle.graph.specs.Graph.{Graph}
 use Rattle.graph.specs.Valid.{Valid}
-use Rattle.rules.specs.Walk.{Walk, onward, back}
-use Rattle.rules.specs.Cover.{Tree, IsTree, Covers, at-start, at-one-end, at-other-end, treeWeight, heaviest, Crews, rooted, unrooted, Starts, IsCover}
+use Rattle.rules.specs.Walk.{Walk}
+use Rattle.rules.specs.Cover.{Tree, IsTree, treeWeight, heaviest, Crews, rooted, unrooted, Starts, IsCover}
 use Rattle.rules.specs.RootedTrial.{unionTree}
 use Rattle.rules.specs.ClosedWalk.{Route, stopsOf, lengthOf, closedWalk}
 use Rattle.rules.specs.RivalWalks.{Begin, ClosedWalks, longest, walksAlong}
-use Rattle.rules.proofs.Linked.{linked-more}
 use Rattle.rules.proofs.Joined.{walk-joined}
-use Rattle.rules.proofs.WalkStops.{first-stop, passed-linked, joined-passed}
-use Rattle.forest_laws.proofs.UnionTree.{linked-covered, union-is-tree, union-weight, union-covers}
-use Rattle.cover_laws.proofs.ClosedWalk.{closed-walk-closed, closed-walk-length, crosses-each, crossed-of-tree}
+use Rattle.rules.proofs.WalkStops.{passed-linked}
+use Rattle.forest_laws.proofs.UnionTree.{union-is-tree, union-weight, union-covers}
+use Rattle.cover_laws.proofs.ClosedWalk.{closed-walk-closed, closed-walk-length, walk-passes}
 
 -- THEIRS
 
@@ -83,25 +82,13 @@ eightfold {g} {trees = trees} valid cover four walks rivals =
       rivals-heaviest g walks,
     )
 
--- What a tree covers its walk passes,
-pub covered-passed : {g : Graph} {t : Tree} {v : ℕ} → IsTree g t → Covers g t v → v ∈ stopsOf g (closedWalk g t)
-unfolding stopsOf closedWalk
-covered-passed {g} {t} tree (at-start q) = Memᴰ·cast q (first-stop g (t .start) (closedWalk g t .crossings))
-covered-passed {g} {t} tree (at-one-end e m q) = joined-passed {a = otherEnd g e} (closed-walk-closed tree) (crosses-each tree e m) (back refl q)
-covered-passed {g} {t} tree (at-other-end e m q) = joined-passed {a = oneEnd g e} (closed-walk-closed tree) (crosses-each tree e m) (onward refl q)
-
--- and nothing else,
-pub passed-covered : {g : Graph} {t : Tree} {v : ℕ} → IsTree g t → v ∈ stopsOf g (closedWalk g t) → Covers g t v
-unfolding stopsOf closedWalk
-passed-covered {g} {t} tree m = linked-covered t (linked-more (crossed-of-tree tree) (passed-linked (closed-walk-closed tree) m))
-
--- so that the walks along a cover's trees are such walks as the rivals'.
+-- The walks along a cover's trees are such walks as the rivals'.
 pub ours-are-closed-walks : {g : Graph} (crews : Crews) {trees : List Tree} → IsCover g crews trees → ClosedWalks g crews (walksAlong g trees)
 ours-are-closed-walks {g} crews {trees} c = record {
   begin = begin crews (c .starts);
   inside = λ w m. let (t, n, q) = of-map (closedWalk g) trees m in rw q (at t n .0);
   closed = λ w m. let (t, n, q) = of-map (closedWalk g) trees m in rw q (at t n .1);
-  together = λ v h. let (t, n, k) = c .all-covered .covered v h in (closedWalk g t, in-map (closedWalk g) n, covered-passed (c .all-covered .are-trees t n) k);
+  together = λ v h. let (t, n, k) = c .all-covered .covered v h in (closedWalk g t, in-map (closedWalk g) n, walk-passes (c .all-covered .are-trees t n) v .1 k);
 }
   where
     begin : (crews : Crews) → Starts crews trees → Begin crews (walksAlong g trees)

@@ -1,7 +1,7 @@
 -- `closed_walk::turn::next_place` meets its contract. The loop's invariant: the edges of the arcs before i are marked. The measure is how many arcs are
 -- left. Assumes nothing.
 use Prim.Native.Nat.{ℕ, _-_, _≤_, _<_}
-use mathlib.Core.Path.{_≡_, sym, ap, _∙_}
+use mathlib.Core.Path.{_≡_, _∙_}
 use native.Mathlib.Omega.{arith}
 use lib.ListN.{length, getD}
 use borrow.Author.Count.{below-more}

@@ -1,14 +1,12 @@
 -- `closed_walk::turn::take_turn` meets its contract: the next edge is found among the arcs of the last stop, and the arrays are as one turn makes them.
 -- Assumes nothing.
 use Prim.Native.Nat.{ℕ, _-_, _≤_, _<_}
-use mathlib.Core.Path.{_≡_, sym, ap, subst, _∙_}
+use mathlib.Core.Path.{_≡_}
 use mathlib.Core.List.{List}
 use native.Mathlib.Omega.{arith}
 use lib.ListN.{length, getD}
 use borrow.Author.Needs.{needs}
-use Rattle.lists.specs.Segments.{segment}
-use Rattle.rules.specs.ClosedWalk.{Underway, afterTurns}
-use Rattle.edges.specs.Around.{arcEdge, arcHead}
+use Rattle.edges.specs.Around.{arcHead}
 use Rattle.closed_walk.specs.Turn.{PlaceAsked}
 use Rattle.closed_walk.proofs.NextFound.{last-vertex, arcs-held, places-asked}
 use Rattle.closed_walk.proofs.NextTurn.{FoundAt, turn-on, turn-home}
@@ -32,18 +30,18 @@ module _ (a : tie.After-arcs-at) where
 
 -- The place was found.
 module _ (n : tie.After-next-place) where
-  abbrev told : tie.After-wide
-  told = n .before .before .before .before .before
+  abbrev taken : tie.After-arcs-at
+  taken = n .before .before .before .before
 
-  found : FoundAt (start told .args .bounds .now) (start told .args .arcs .now) (start told .args .places .now) (start told .args .marks .now)
-      (n .before .before .before .before .arcs-at .result .now) (n .next-place .result) (told .wide .result)
-  found = record {
-    is = n .before .before .before .before .arcs-at .ensures .is;
-    next = rw (n .before .wide2 .ensures .is) at (n .next-place .ensures);
-  }
+  abbrev told : tie.After-wide
+  told = taken .before
 
   abbrev arcs-here : List ℕ
-  arcs-here = n .before .before .before .before .arcs-at .result .now
+  arcs-here = taken .arcs-at .result .now
+
+  found : FoundAt (start told .args .bounds .now) (start told .args .arcs .now) (start told .args .places .now) (start told .args .marks .now)
+      arcs-here (n .next-place .result) (told .wide .result)
+  found = record { is = taken .arcs-at .ensures .is; next = rw (n .before .wide2 .ensures .is) at (n .next-place .ensures) }
 
   none-next : length arcs-here ≤ n .next-place .result → n .next-place .result ≡ length arcs-here
   none-next h = omega (arith, n .next-place .ensures .within)
@@ -73,7 +71,7 @@ next-place-requires : tie.Need-next-place-requires
 next-place-requires c κs = rw (c .wide2 .ensures .is) (place (c .before .before .before))
 
 cast-places : tie.Need-cast-places
-cast-places c = omega (arith, c .next-place .ensures .within, c .before .before .before .before .arcs-at .ensures .few)
+cast-places c = omega (arith, c .next-place .ensures .within, taken c .arcs-at .ensures .few)
 
 mul-places : tie.Need-mul-places
 mul-places c = search needs
@@ -96,7 +94,7 @@ wide-requires-3 c κs = search needs
 slice-write-marks : tie.Need-slice-write-marks
 slice-write-marks c =
     let n = c .before .before .before .before in
-    rw (c .wide3 .ensures .is, c .before .arc-edge .ensures) (place (n .before .before .before .before) .each (n .next-place .result) (omega arith))
+    rw (c .wide3 .ensures .is, c .before .arc-edge .ensures) (place (taken n) .each (n .next-place .result) (omega arith))
 
 arc-head-requires : tie.Need-arc-head-requires
 arc-head-requires c κs = search needs

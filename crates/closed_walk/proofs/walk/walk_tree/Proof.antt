@@ -6,7 +6,7 @@ use Rattle.lists.proofs.Put.{put-count, put-taken}
 use Rattle.graph.specs.Bytes.{graphOf}
 use Rattle.cover.specs.Runs.{RunOf}
 use Rattle.closed_walk.specs.Run.{FirstOf}
-use Rattle.closed_walk.specs.Promise.{TreeAsked}
+use Rattle.closed_walk.specs.Checked.{TreeAsked}
 use Rattle.closed_walk.proofs.TreeWalks.{run-few, weight-few, write-asked, tree-walked}
 use borrow.Author.Needs.{needs}
 use Rattle.closed_walk.proofs.walk.walk_tree.Statement.{statement}

@@ -20,26 +20,39 @@ abbrev μ-loop : tie.MeasureT-loop
 μ-loop b start edges buf₀ bounds arcs places₀ marks₀ way₀ depth₀ next₀ i₀ buf places marks way depth next i =
     2 * length edges - i
 
--- The edges around each vertex were put.
-abbrev begun : tie.After-put-around Inv-loop μ-loop → tie.Start Inv-loop μ-loop
-begun a = a .before .before .before .before .before .before
+-- Where the arrays were made, the edges around each vertex put, the first stop put.
+abbrev start-of : tie.After-arcs Inv-loop μ-loop → tie.Start Inv-loop μ-loop
+start-of c = c .before .before .before .before .before
 
--- In a turn: the walk is one turn further.
+abbrev around-put : tie.After-put-u16 Inv-loop μ-loop → tie.After-put-around Inv-loop μ-loop
+around-put p = p .before .before .before .before
+
+abbrev first-put : tie.At-loop Inv-loop μ-loop → tie.After-put-u16 Inv-loop μ-loop
+first-put l = l .before .before .before
+
+abbrev start : tie.At-loop Inv-loop μ-loop → tie.Start Inv-loop μ-loop
+start l = start-of (around-put (first-put l) .before)
+
+-- A turn, and its stop.
+abbrev turn : tie.After-way Inv-loop μ-loop → tie.At-loop Inv-loop μ-loop
+turn c = c .before .before .before .before .before .before
+
+abbrev turned : tie.After-wide Inv-loop μ-loop → tie.After-take-turn Inv-loop μ-loop
+turned w = w .before .before .before .before .before
+
+-- The walk is one turn further, and no deeper than the tree has edges.
 module _ (k : tie.After-take-turn Inv-loop μ-loop) where
-  abbrev turn : tie.At-loop Inv-loop μ-loop
-  turn = k .before .before .before .before .before .before .before
-
-  abbrev start : tie.Start Inv-loop μ-loop
-  start = begun (turn .before .before .before .before .before .before .before)
+  abbrev l : tie.At-loop Inv-loop μ-loop
+  l = turn (k .before)
 
   abbrev graph : Graph
-  graph = graphOf (start .args .b .now)
+  graph = graphOf (start l .args .b .now)
 
   abbrev tree : Tree
-  tree = treeOf (start .args .start) (start .args .edges .now)
+  tree = treeOf (start l .args .start) (start l .args .edges .now)
 
   deep : k .take-turn .result < 256
-  deep = shallow (start .pre) (turn .loop .i + 1) (k .take-turn .ensures .further graph tree (turn .loop .i) (turn .loop .inv .walking))
+  deep = shallow (start l .pre) (l .loop .i + 1) (k .take-turn .ensures .further graph tree (l .loop .i) (l .loop .inv .walking))
 
 slice-aggregate-put-around : tie.Need-slice-aggregate-put-around Inv-loop μ-loop
 slice-aggregate-put-around c = search needs
@@ -48,7 +61,7 @@ slice-aggregate-put-around-2 : tie.Need-slice-aggregate-put-around-2 Inv-loop μ
 slice-aggregate-put-around-2 c = search needs
 
 put-around-requires : tie.Need-put-around-requires Inv-loop μ-loop
-put-around-requires c κs = room-around (c .before .before .before .before .before .pre)
+put-around-requires c κs = room-around (start-of c .pre)
 
 cast-way : tie.Need-cast-way Inv-loop μ-loop
 cast-way c = search needs
@@ -57,12 +70,13 @@ array-write-way : tie.Need-array-write-way Inv-loop μ-loop
 array-write-way c = search needs
 
 put-u16-requires : tie.Need-put-u16-requires Inv-loop μ-loop
-put-u16-requires c κs = omega (arith, c .before .before .before .before .before .before .before .before .before .pre .fits)
+put-u16-requires c κs = omega (arith, start-of (c .before .before .before .before) .pre .fits)
 
 loop-holds : tie.Need-loop-holds Inv-loop μ-loop
 loop-holds c =
-    let a = c .before .before .before .before .before .before in
-    walk-begun (a .put-around .ensures .around) (begun a .pre .is-tree .start-inside) (c .before .before .put-u16 .ensures)
+    let p = c .before .before in
+    let a = around-put p in
+    walk-begun (a .put-around .ensures .around) (start-of (a .before) .pre .is-tree .start-inside) (p .put-u16 .ensures)
 
 mul-loop : tie.Need-mul-loop Inv-loop μ-loop
 mul-loop c = search needs
@@ -84,8 +98,8 @@ slice-aggregate-take-turn-5 c = search needs
 
 take-turn-requires : tie.Need-take-turn-requires Inv-loop μ-loop
 take-turn-requires c κs =
-    let l = c .before .before .before .before .before .before in
-    turn-asked (l .loop .inv) (l .before .before .before .put-u16 .ensures) (begun (l .before .before .before .before .before .before .before) .pre)
+    let l = turn c in
+    turn-asked (l .loop .inv) (first-put l .put-u16 .ensures) (start l .pre)
 
 mul-wide : tie.Need-mul-wide Inv-loop μ-loop
 mul-wide c = omega (arith, deep (c .before .before .before .before))
@@ -98,8 +112,8 @@ wide-requires c κs = search needs
 
 put-u16-requires-2 : tie.Need-put-u16-requires-2 Inv-loop μ-loop
 put-u16-requires-2 c κs =
-    let k = c .before .before .before .before .before in
-    stop-room (turn k .loop .inv) (turn k .before .before .before .put-u16 .ensures) (start k .pre) (omega arith)
+    let l = turn (turned c .before) in
+    stop-room (l .loop .inv) (first-put l .put-u16 .ensures) (start l .pre) (omega arith)
 
 add-i : tie.Need-add-i Inv-loop μ-loop
 add-i c = search needs
@@ -110,15 +124,15 @@ loop-less c = search needs
 loop-again : tie.Need-loop-again Inv-loop μ-loop
 loop-again c =
     let w = c .before .before .before in
-    let k = w .before .before .before .before .before in
-    walk-further (turn k .loop .inv) (turn k .before .before .before .put-u16 .ensures) (start k .pre) (omega arith)
-    (k .take-turn .ensures .further (graph k) (tree k) (turn k .loop .i) (turn k .loop .inv .walking)) (w .wide .ensures .is) (c .before .before .put-u162 .ensures)
+    let k = turned w in
+    walk-further (l k .loop .inv) (first-put (l k) .put-u16 .ensures) (start (l k) .pre) (omega arith)
+    (k .take-turn .ensures .further (graph k) (tree k) (l k .loop .i) (l k .loop .inv .walking)) (w .wide .ensures .is) (c .before .before .put-u162 .ensures)
 
 same-length : tie.Need-same-length Inv-loop μ-loop
-same-length c = walk-length (c .before .loop .inv) (c .before .before .before .before .put-u16 .ensures)
+same-length c = walk-length (c .before .loop .inv) (first-put (c .before) .put-u16 .ensures)
 
 returns : tie.Need-returns Inv-loop μ-loop
-returns c = walk-all (c .before .loop .inv) (c .before .before .before .before .put-u16 .ensures) (omega (arith, c .before .loop .inv .within))
+returns c = walk-all (c .before .loop .inv) (first-put (c .before) .put-u16 .ensures) (omega (arith, c .before .loop .inv .within))
 
 pub write-walk-spec : {M : Type 1} → statement M
 write-walk-spec =
