@@ -46,8 +46,8 @@ pub record ArcsOf (bounds arcs : List ℕ) (v : ℕ) (r : List ℕ) : Type 0 whe
 abbrev pub edgesAt : Graph → Tree → ℕ → List ℕ
 edgesAt g t v = filter (touches g v) (t .edges)
 
--- The arrays say where the walk is: those edges of a vertex that are passed over are walked; the marks are those of the walked edges; and the stops on
--- the way back stand in their array, the last first.
+-- The arrays say where the walk is: those edges of a vertex that are passed over are walked; the marks are those of the walked edges; and the stops of
+-- the way back stand in their array from the depth downwards, the first where the walk is.
 pub record Walking (g : Graph) (t : Tree) (s : Underway) (bounds arcs places marks way : List ℕ) (depth : ℕ) : Type 0 where
   pub around : Around g (t .edges) bounds arcs
   pub places-room : length places ≡ 256

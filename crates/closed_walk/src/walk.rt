@@ -5,7 +5,7 @@ use crate::write::write_walk;
 use admit::crews::Kind;
 use admit::refusal::LEAST_WALK_ROOM;
 use admit::refusal::Refusal;
-use cover::heaviest::run_weight;
+use cover::heaviest::edges_weight;
 use cover::read::start_in;
 use cover::read::trees_in;
 use cover::runs::run_end;
@@ -43,10 +43,11 @@ fn walk_tree(b: &[u8], c: &[u8], tree: usize, buf: &mut [u8]) -> Walked
 {
     let from = run_begin(c, tree);
     let to = run_end(c, tree, from);
-    let mut edges = [0u16; 255];
-    let q = read_run(c, from, to, &mut edges);
-    let written = write_walk(b, start_in(c, tree), &edges[..q], buf);
-    let length = 2 * run_weight(b, c, from, to);
+    let mut room = [0u16; 255];
+    let q = read_run(c, from, to, &mut room);
+    let edges = &room[..q];
+    let written = write_walk(b, start_in(c, tree), edges, buf);
+    let length = 2 * edges_weight(b, edges);
     Walked::Walk(written / 2, length)
 }
 
