@@ -22,7 +22,7 @@ use Rattle.rules.specs.ClosedWalk.{stopsFrom, Underway, nextEdge}
 use Rattle.cover_laws.proofs.NextEdge.{next-past}
 use Rattle.edges.specs.Around.{arcOf, arcEdge, arcHead, arcsAt}
 use Rattle.edges.proofs.Arcs.{arc-edge, valid-arc-head}
-use Rattle.closed_walk.specs.Turn.{PlaceAsked, NextPlace, ArcsHeld, edgesAt, Walking}
+use Rattle.closed_walk.specs.Turn.{PlaceAsked, NextPlace, ArcsHeld, edgesAround, Walking}
 
 -- A walk's first stop is where it begins.
 stops-first : (g : Graph) (u : ℕ) (path : List ℕ) → getD (stopsFrom g u path) 0 0 ≡ u
@@ -43,7 +43,7 @@ module _ {g : Graph} {t : Tree} {s : Underway} {bounds arcs places marks way : L
   -- Its arcs are those of the tree's edges there.
   module _ {around : List ℕ} (is : around ≡ segment bounds arcs (s .stop)) where
     abbrev here : List ℕ
-    here = edgesAt g t (s .stop)
+    here = edgesAround g t (s .stop)
 
     arcs-here : around ≡ map (arcOf g (s .stop)) here
     unfolding arcsAt

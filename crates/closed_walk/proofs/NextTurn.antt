@@ -24,7 +24,7 @@ use Rattle.rules.proofs.FarEnd.{far-end, joins-far}
 use Rattle.cover_laws.proofs.TurnsReached.{way-walked}
 use Rattle.edges.specs.Around.{arcEdge, arcHead}
 use Rattle.edges.proofs.Arcs.{far-end-below}
-use Rattle.closed_walk.specs.Turn.{NextPlace, edgesAt, Walking}
+use Rattle.closed_walk.specs.Turn.{NextPlace, edgesAround, Walking}
 use Rattle.closed_walk.proofs.NextFound.{at-stop, stop-vertex, as-many, edge-here, edge-fits, edge-of, head-of, all-passed, next-is, next-none}
 
 module _ {g : Graph} {t : Tree} {s : Underway} {bounds arcs places marks way : List ℕ} {depth : ℕ} (w : Walking g t s bounds arcs places marks way depth) where
@@ -36,9 +36,9 @@ module _ {g : Graph} {t : Tree} {s : Underway} {bounds arcs places marks way : L
     places-room = length-set places (s .stop) at ∙ w .places-room;
     marks-room = w .marks-room;
     way-room = w .way-room;
-    within = λ v h. after-store (λ v x. x ≤ length (edgesAt g t v)) places (s .stop) at v room (omega (arith, n .within, as-many w is)) (λ away. w .within v h);
+    within = λ v h. after-store (λ v x. x ≤ length (edgesAround g t v)) places (s .stop) at v room (omega (arith, n .within, as-many w is)) (λ away. w .within v h);
     passed = λ v i h.
-        after-store (λ v x. i < x → getD (edgesAt g t v) i 0 ∈ s .crossings) places (s .stop) at v room (all-passed w is n i) (λ away. w .passed v i h);
+        after-store (λ v x. i < x → getD (edgesAround g t v) i 0 ∈ s .crossings) places (s .stop) at v room (all-passed w is n i) (λ away. w .passed v i h);
     marked = w .marked;
     only-marked = w .only-marked;
     deep = w .deep;

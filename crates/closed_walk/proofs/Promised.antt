@@ -24,8 +24,9 @@ use Rattle.rules.specs.WalkQuestion.{leastWalkRoom, walkFault, refused, askWalk
 use Rattle.rules.proofs.Admitted.{admitted}
 use Rattle.cover_laws.proofs.PassedTests.{quiet-passed}
 use Rattle.cover_laws.proofs.CheckedCovers.{cover-read}
+use Rattle.cover_laws.proofs.CheckQuestion.{yes-says, number-says}
 use Rattle.cover_laws.proofs.ClosedWalk.{closed-walk-length, closed-walk-stops, closed-walk-few, walk-passes}
-use Rattle.cover_laws.proofs.OnlyWalk.{closed-walk-is, closed-walk-only}
+use Rattle.cover_laws.proofs.OnlyWalk.{closed-walk-exactly}
 use Rattle.admit.specs.declared.refusal.Refusal.{Refusal}
 use Rattle.admit.specs.declared.refusal.Refusal.the-variants.{TreeNumber, WalkRoom}
 use Rattle.admit.specs.Refusals.{numberOf}
@@ -69,23 +70,11 @@ module _ (g : Graph) (c : List ℕ) (j : ℕ) (buffer : List ℕ) where
 
 -- THE CHECK BEFORE THEM
 
--- What the check's answer says of its faults.
-number-says : (f : Fault) (k h : ℕ) → reply.number k ≡ refusedOr reply.number f (reply.yes h) → f ≡ some k
-unfolding refusedOr
-number-says (some n) k h e = cc
-number-says none k h e = absurd (let z : _≡_ {A = ℕ} 0 1 = cc in omega arith)
-
-yes-says : (f : Fault) (k h : ℕ) → reply.yes k ≡ refusedOr reply.number f (reply.yes h) → f ≡ none
-unfolding refusedOr
-yes-says (some n) k h e = absurd (let z : _≡_ {A = ℕ} 0 1 = cc in omega arith)
-yes-says none k h e = refl
-
 -- The laws hold of the walk along a tree.
 walks-tree : {g : Graph} {t : Tree} → Valid g → IsTree g t → WalksTree g t
 walks-tree valid is = record {
   is-tree = is;
-  is-closed = closed-walk-is is;
-  only = closed-walk-only is;
+  exactly = closed-walk-exactly is;
   long = closed-walk-length is;
   count = closed-walk-stops is;
   few = closed-walk-few is valid;
@@ -99,7 +88,7 @@ module _ (q : Question) (c : List ℕ) where
   -- Nothing is refused of a cover that passed the check,
   passed : {h : ℕ} → CheckPromise q c (verdict.Yes h) → checkFault q c ≡ none
   unfolding askCheck
-  passed {h} p = yes-says (checkFault q c) h _ (p .rule)
+  passed {h} p = yes-says (checkFault q c) h _ (sym (p .rule)) .0
 
   -- and it is one.
   pub checked-given : {h : ℕ} → CheckPromise q c (verdict.Yes h) → CheckedGiven g c
@@ -131,7 +120,7 @@ module _ (q : Question) (c : List ℕ) where
     pub check-refuses : {f : Refusal} (buffer : List ℕ) → CheckPromise q c (verdict.Refused f) → WalkPromise q c tree buffer buffer (Refused f)
     unfolding askCheck askWalk walkFault firstFault refusedOr
     check-refuses {f} buffer p =
-        let e : checkFault q c ≡ some (numberOf f) = number-says (checkFault q c) (numberOf f) _ (p .rule) in
+        let e : checkFault q c ≡ some (numberOf f) = number-says (checkFault q c) (numberOf f) _ (sym (p .rule)) in
         promised (rw e (refuses f buffer refl)) (rw e (λ n. let z : _≡_ {A = ℕ} 0 1 = cc in absurd (omega arith)))
 
     -- Where the check passes, 51 and 52 decide.

@@ -34,12 +34,11 @@ pub record WalkReplied (reply : WalkReply) (before after : List ℕ) (r : Walked
   pub same : says r ≡ saidOf reply
   pub buffer : after ≡ walkAfter reply before
 
--- What the walk along a tree is: closed, each edge of the tree crossed exactly twice and no other, each crossing by the rule; the only such walk;
+-- What the walk along a tree is: the only one that is closed, crosses each edge of the tree exactly twice and no other, and goes by the rule;
 -- "twice the tree's weight" long; "at most 511" stops, at the vertices that the tree covers.
 pub record WalksTree (g : Graph) (t : Tree) : Type 0 where
   pub is-tree : IsTree g t
-  pub is-closed : IsClosedWalk g t (closedWalk g t .crossings)
-  pub only : (crossings : List ℕ) → IsClosedWalk g t crossings → crossings ≡ closedWalk g t .crossings
+  pub exactly : (crossings : List ℕ) → IsClosedWalk g t crossings ↔ (crossings ≡ closedWalk g t .crossings)
   pub long : lengthOf g (closedWalk g t) ≡ 2 * treeWeight g t
   pub count : length (stopsOf g (closedWalk g t)) ≡ 2 * length (t .edges) + 1
   pub few : length (stopsOf g (closedWalk g t)) ≤ 511

@@ -43,8 +43,8 @@ pub record ArcsOf (bounds arcs : List ℕ) (v : ℕ) (r : List ℕ) : Type 0 whe
 -- WHERE THE WALK IS
 
 -- The tree's edges at a vertex, by number.
-abbrev pub edgesAt : Graph → Tree → ℕ → List ℕ
-edgesAt g t v = filter (touches g v) (t .edges)
+abbrev pub edgesAround : Graph → Tree → ℕ → List ℕ
+edgesAround g t v = filter (touches g v) (t .edges)
 
 -- The arrays say where the walk is: those edges of a vertex that are passed over are walked; the marks are those of the walked edges; and the stops of
 -- the way back stand in their array from the depth downwards, the first where the walk is.
@@ -53,8 +53,8 @@ pub record Walking (g : Graph) (t : Tree) (s : Underway) (bounds arcs places mar
   pub places-room : length places ≡ 256
   pub marks-room : length marks ≡ 2048
   pub way-room : length way ≡ 257
-  pub within : (v : ℕ) → v < g .vertices → getD places v 0 ≤ length (edgesAt g t v)
-  pub passed : (v i : ℕ) → v < g .vertices → i < getD places v 0 → getD (edgesAt g t v) i 0 ∈ s .crossings
+  pub within : (v : ℕ) → v < g .vertices → getD places v 0 ≤ length (edgesAround g t v)
+  pub passed : (v i : ℕ) → v < g .vertices → i < getD places v 0 → getD (edgesAround g t v) i 0 ∈ s .crossings
   pub marked : (e : ℕ) → e ∈ s .crossings → getD marks e 0 ≡ 1
   pub only-marked : (e : ℕ) → getD marks e 0 ≡ 1 → e ∈ s .crossings
   pub deep : depth ≡ length (s .way)

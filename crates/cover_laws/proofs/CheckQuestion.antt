@@ -20,11 +20,16 @@ use Rattle.graph.proofs.Faults.{quiet-each, first-quiet, none-quiet}
 use Rattle.rules.proofs.Admitted.{admitted}
 use Rattle.cover_laws.proofs.CheckedCovers.{heaviest-read, checked-covers}
 
--- An answer of yes says that nothing is refused, and what it says.
-yes-says : (f : Fault) (h k : ℕ) → refusedOr number f (Verdict.yes k) ≡ Verdict.yes h → (f ≡ none) × (h ≡ k)
+-- An answer of yes says that nothing is refused, and what it says; an answer of a number, that it is refused.
+pub yes-says : (f : Fault) (h k : ℕ) → refusedOr number f (Verdict.yes k) ≡ Verdict.yes h → (f ≡ none) × (h ≡ k)
 unfolding refusedOr
 yes-says none h k e = (refl, cc)
 yes-says (some n) h k e = absurd (let z : _≡_ {A = ℕ} 0 1 = cc in omega arith)
+
+pub number-says : (f : Fault) (n k : ℕ) → refusedOr number f (Verdict.yes k) ≡ number n → f ≡ some n
+unfolding refusedOr
+number-says none n k e = absurd (let z : _≡_ {A = ℕ} 0 1 = cc in omega arith)
+number-says (some m) n k e = cc
 
 -- Where nothing is refused, the answer stands.
 quiet-says : {f : Fault} {a : Verdict} → f ≡ none → refusedOr number f a ≡ a
