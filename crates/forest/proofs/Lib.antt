@@ -5,3 +5,5 @@ pub mod Labelling
 pub mod KeptOneByOne
 -- the lowest vertices, as loops over the vertices find them
 pub mod LowestVertices
+-- eight marks as one word
+pub mod EightMarks
