@@ -7,10 +7,11 @@ ghost use Prim.Native.Nat.{_≤_};
 ghost use lib.ListN.{length};
 ghost use Rattle.forest.specs.Marks.{AllMarked};
 
-// Eight bytes of 1 as one word.
+// Eight marks, each of them 1, as one word.
 const EIGHT_MARKS: usize = 0x0101010101010101;
 
-// Whether the first eight vertices are marked: their bytes, lowest first, are compared as one word.
+// Whether the first eight vertices are marked. The word has their bytes, lowest first: the compiler reads and compares it
+// at once.
 fn eight_marked(marks: &[u8]) -> bool
     requires { ⌜ 8 ≤ length (now marks) ⌝ }
     ensures { λ r. ⌜ (r ≡ true) ↔ AllMarked (now (marks .entry)) 8 ⌝ }
@@ -20,8 +21,8 @@ fn eight_marked(marks: &[u8]) -> bool
     low + 4294967296 * high == EIGHT_MARKS
 }
 
-// Whether each of the n vertices is marked: its byte is 1. The bytes beyond are not read. Full words are taken whole, and the
-// vertices beyond the last of them singly.
+// Whether each of the n vertices is marked: its byte is 1. The bytes beyond are not read. Eight marks are taken as one
+// word (document 02, A.2), the vertices beyond the last full word singly.
 pub fn all_marked(marks: &[u8], n: usize) -> bool
     ensures { λ r. ⌜ (r ≡ true) ↔ AllMarked (now (marks .entry)) n ⌝ }
 {

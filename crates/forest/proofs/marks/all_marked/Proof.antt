@@ -9,7 +9,7 @@ use borrow.Author.Count.{below-none, below-more}
 use borrow.Author.Needs.{needs}
 use borrow.Author.Tests.{not-true, not-false}
 use Rattle.forest.specs.Marks.{AllMarked}
-use Rattle.forest.proofs.EightMarks.{eight-more, eight-of}
+use Rattle.forest.proofs.EightMarks.{marked-more, marked-from}
 use Rattle.forest.proofs.marks.all_marked.Statement.{statement}
 use Rattle.forest.proofs.marks.all_marked.Tie as tie
 
@@ -53,7 +53,7 @@ returns-2 c =
     let marks = c .before .before .before .before .before .before .before .args .marks .now in
     let v = c .before .before .before .before .loop .v in (
       λ t. absurd (false≢true t),
-      λ all. absurd (false≢true (sym (not-true _ (c .if2 .taken)) ∙ c .before .eight-marked .ensures .1 (eight-of marks v (omega arith) λ i h. all i (omega arith)))),
+      λ all. absurd (false≢true (sym (not-true _ (c .if2 .taken)) ∙ c .before .eight-marked .ensures .1 (marked-from marks v 8 (omega arith) λ i h. all i (omega arith)))),
     )
 
 add-v : tie.Need-add-v Inv-loop μ-loop Inv-loop2 μ-loop2
@@ -66,7 +66,7 @@ loop-again : tie.Need-loop-again Inv-loop μ-loop Inv-loop2 μ-loop2
 loop-again c =
     let marks = c .before .before .before .before .before .before .before .args .marks .now in
     let v = c .before .before .before .before .loop .v in
-    (omega arith, eight-more marks v (omega arith) (c .before .before .before .before .loop .inv .1) (c .before .eight-marked .ensures .0 (not-false _ (c .if2 .left))))
+    (omega arith, marked-more marks v 8 (omega arith) (c .before .before .before .before .loop .inv .1) (c .before .eight-marked .ensures .0 (not-false _ (c .if2 .left))))
 
 loop2-holds : tie.Need-loop2-holds Inv-loop μ-loop Inv-loop2 μ-loop2
 loop2-holds c = c .before .loop .inv .1
