@@ -1,5 +1,7 @@
 //! Made filings for the check: good covers, and each kind of damage at each field of a cover.
 
+use std::ops::Range;
+
 use crate::best;
 use crate::bytes::two;
 use crate::cover::{encode, Tree};
@@ -109,6 +111,16 @@ fn refused_before_the_cover() -> Vec<Filing> {
         }
     }
     all
+}
+
+/// A path of n vertices with edges of weight 1, and trees without roots that cover each of its vertices, or each but the one
+/// left out: one tree of those before it, one of those behind it.
+pub fn along_a_path(n: usize, left_out: Option<usize>) -> Filing {
+    let path: Vec<(usize, usize, u64)> = (1..n).map(|v| (v - 1, v, 1)).collect();
+    let runs = left_out.map_or(vec![0..n], |v| vec![0..v, v + 1..n]);
+    let along = |run: Range<usize>| Tree::new(run.start, (run.start..run.end - 1).collect());
+    let trees: Vec<Tree> = runs.into_iter().filter(|run| !run.is_empty()).map(along).collect();
+    Filing { kind: Kind::Unrooted, k: 2, sheet: sheet(n, &path), cover: encode(&trees) }
 }
 
 /// Covers of full size: 32 trees of 255 edges on 256 vertices, good and damaged at the last entry.

@@ -10,6 +10,7 @@ use reference::districts::Asked;
 use reference::graph::sheet;
 use reference::judge::{self, Reply as Given};
 use reference::made_districts::records;
+use reference::made_filings::along_a_path;
 use reference::question::{Answer, Kind as Crews};
 use reference::random::Random;
 
@@ -209,6 +210,24 @@ fn every_other_kind_is_unrooted() {
         assert_eq!((got.case, got.values.1[0]), (0, 11), "kind {kind}");
         let got = call(&mut random, &Question { asked: &asked, kind: 0, k: 1, sheet: &n });
         assert_eq!(got.case, 32);
+    }
+}
+
+/// Document 02, A.2: yes exactly when each of the n vertices is covered, for n from 1 to 256, the one left out at every place.
+#[test]
+fn a_vertex_left_out_is_found_at_every_place() {
+    let mut random = Random::new(8);
+    for n in 1..=256 {
+        let mut said = |left_out| {
+            let filing = along_a_path(n, left_out);
+            let asked = Asked::Check { cover: filing.cover };
+            judged(&mut random, &asked, filing.kind, filing.k, &filing.sheet)
+        };
+        assert_eq!(said(None), 0, "n {n}");
+        // The one vertex of n 1 is the start of every tree.
+        for v in if n == 1 { 0..0 } else { 0..n } {
+            assert_eq!(said(Some(v)), 35, "n {n} without {v}");
+        }
     }
 }
 

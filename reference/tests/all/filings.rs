@@ -3,6 +3,7 @@
 use crate::common::{filing, BOTH};
 use reference::check::check;
 use reference::graph::Graph;
+use reference::made_filings::along_a_path;
 use reference::question::Kind;
 use reference::random::Random;
 
@@ -106,4 +107,20 @@ fn filings_are_answered_as_by_the_second_reading() {
     }
     assert_eq!(met[1], 0);
     assert!(met[0].min(met[2]).min(met[3]).min(met[4]).min(met[5]) > 2000, "{met:?}");
+}
+
+/// Document 02, A.2: yes exactly when each of the n vertices is covered, for n from 1 to 256, the one left out at every place.
+#[test]
+fn a_vertex_left_out_is_found_at_every_place() {
+    for n in 1..=256 {
+        let said = |left_out| {
+            let filing = along_a_path(n, left_out);
+            check(filing.kind, &filing.sheet, filing.k as u64, &filing.cover)
+        };
+        assert_eq!(said(None), Ok(n as u64 - 1), "n {n}");
+        // The one vertex of n 1 is the start of every tree.
+        for v in if n == 1 { 0..0 } else { 0..n } {
+            assert_eq!(said(Some(v)), Err(35), "n {n} without {v}");
+        }
+    }
 }
