@@ -1,5 +1,6 @@
 // Links libplanner_c.a from where `rt staticlib planner_c` writes it, or from the folder that PLANNER_LIB_DIR names.
-// Without it only the plain Rust version is measured.
+// Without it only the plain Rust version is measured. Beside it, where PLANNER_BEFORE_DIR names a folder, the library of an
+// earlier state: libplanner_before.a, whose names begin with `before_`.
 use std::env;
 use std::path::PathBuf;
 
@@ -18,5 +19,12 @@ fn main() {
         println!("cargo:rustc-cfg=linked");
         println!("cargo:rustc-link-search=native={}", folder.display());
         println!("cargo:rustc-link-lib=static=planner_c");
+    }
+    println!("cargo:rerun-if-env-changed=PLANNER_BEFORE_DIR");
+    println!("cargo:rustc-check-cfg=cfg(earlier)");
+    if let (true, Ok(folder)) = (archive.exists(), env::var("PLANNER_BEFORE_DIR")) {
+        println!("cargo:rustc-cfg=earlier");
+        println!("cargo:rustc-link-search=native={folder}");
+        println!("cargo:rustc-link-lib=static=planner_before");
     }
 }

@@ -3,7 +3,7 @@
 
 use bench::made::{Shape, Size, SHAPES, SIZES};
 use bench::measure::{medians, Asked, Question};
-use bench::planners::{linked, plain};
+use bench::planners::{linked, planners};
 use bench::question::{ROOTED, UNROOTED};
 
 const QUESTIONS: [(&str, Asked, u32); 8] = [
@@ -31,6 +31,14 @@ const BY_CREWS: [Size; 3] = [
     Size { n: 256, m: 2_048, k: 32 },
 ];
 
+/// One full word of eight vertices, eight of them, all but one of 32, and all.
+const BY_WORDS: [Size; 4] = [
+    Size { n: 8, m: 64, k: 1 },
+    Size { n: 64, m: 512, k: 8 },
+    Size { n: 255, m: 2_040, k: 31 },
+    Size { n: 256, m: 2_048, k: 32 },
+];
+
 /// One crew, whose tree has an edge for every vertex but one.
 const WHOLE_TREE: [Size; 1] = [Size { n: 256, m: 2_048, k: 1 }];
 
@@ -47,7 +55,7 @@ fn main() {
         heading();
         for shape in SHAPES {
             let sizes: Vec<Size> = SIZES.iter().rev().copied().collect();
-            if let [ours, plain] = rows(name, asked, kind, shape, &sizes, rounds)[..] {
+            if let [ours, plain, ..] = rows(name, asked, kind, shape, &sizes, rounds)[..] {
                 summary.push((name, ours / plain));
             }
         }
@@ -70,6 +78,12 @@ fn main() {
         }
     }
     println!();
+    println!("The check, which looks at the vertices eight at a time.");
+    heading();
+    for (name, asked, kind) in QUESTIONS.iter().copied().filter(|row| row.1 == Asked::Check) {
+        rows(name, asked, kind, Shape::Random, &BY_WORDS, rounds);
+    }
+    println!();
     for (name, _, _) in QUESTIONS {
         let ratios = summary.iter().filter(|row| row.0 == name).map(|row| row.1);
         if let Some(worst) = ratios.reduce(f64::max) {
@@ -87,7 +101,7 @@ fn rows(
     sizes: &[Size],
     rounds: usize,
 ) -> Vec<f64> {
-    let planners: Vec<_> = linked().into_iter().chain([plain()]).collect();
+    let planners = planners();
     let mut before: Option<Vec<f64>> = None;
     for size in sizes {
         let question = Question::new(asked, kind, shape, size);
@@ -102,21 +116,17 @@ fn rows(
 
 fn heading() {
     print!("{:15} {:11} {:>4} {:>5} {:>3}", "question", "graph", "n", "m", "k");
-    let columns = if linked().is_some() { &["planner_c", "Rust"][..] } else { &["Rust"] };
-    columns.iter().for_each(|column| print!(" {column:>10}"));
-    if columns.len() == 2 {
-        print!(" {:>7}", "ratio");
-    }
-    columns.iter().for_each(|column| print!(" {:>17}", format!("growth {column}")));
+    let names: Vec<_> = planners().iter().map(|planner| planner.name).collect();
+    names.iter().for_each(|name| print!(" {name:>10}"));
+    names[1..].iter().for_each(|name| print!(" {:>8}", format!(": {name}")));
+    names.iter().for_each(|name| print!(" {:>17}", format!("growth {name}")));
     println!();
 }
 
-/// Prints the medians of one question, their ratio, and how they grew from those of the next smaller size.
+/// Prints the medians of one question, the first over each of the others, and how they grew from those of the row above.
 fn row(now: &[f64], before: Option<&[f64]>) {
-    now.iter().for_each(|time| print!(" {time:10.1}"));
-    if let [ours, plain] = now {
-        print!(" {:7.2}", ours / plain);
-    }
+    now.iter().for_each(|time| print!(" {time:10.2}"));
+    now[1..].iter().for_each(|time| print!(" {:8.2}", now[0] / time));
     for (i, time) in now.iter().enumerate() {
         match before {
             Some(before) => print!(" {:17.1}", time / before[i]),
