@@ -30,7 +30,7 @@ pub fn all_marked(marks: &[u8], n: usize) -> bool
         return false;
     }
     let mut v = 0;
-    while v + 8 <= n {
+    while 8 <= n - v {
         if !eight_marked(&marks[v..]) {
             return false;
         }

@@ -33,8 +33,8 @@ returns c =
 loop-holds : tie.Need-loop-holds Inv-loop μ-loop Inv-loop2 μ-loop2
 loop-holds c = (omega arith, below-none _)
 
-add-loop : tie.Need-add-loop Inv-loop μ-loop Inv-loop2 μ-loop2
-add-loop c = search needs
+sub-loop : tie.Need-sub-loop Inv-loop μ-loop Inv-loop2 μ-loop2
+sub-loop c = search needs
 
 sub-eight-marked : tie.Need-sub-eight-marked Inv-loop μ-loop Inv-loop2 μ-loop2
 sub-eight-marked c = search needs
@@ -99,7 +99,7 @@ all-marked-spec =
     μ-loop2
     returns
     loop-holds
-    add-loop
+    sub-loop
     sub-eight-marked
     part-eight-marked-start
     part-eight-marked-end
