@@ -1,4 +1,4 @@
-//! Measuring two planners on the same questions, in turn.
+//! Measuring planners on the same questions, in turn.
 
 use std::hint::black_box;
 use std::time::{Duration, Instant};

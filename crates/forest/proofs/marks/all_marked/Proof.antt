@@ -1,8 +1,9 @@
 -- `forest::marks::all_marked` meets its contract. The invariant of both loops: the vertices below v are marked.
 -- The measure is how many vertices are left. Assumes nothing.
-use Prim.Native.Nat.{_-_, _≤_}
+use Prim.Native.Nat.{ℕ, _-_, _≤_}
 use mathlib.Core.Path.{refl, sym, _∙_}
 use mathlib.Core.Bool.{false≢true}
+use mathlib.Core.List.{List}
 use native.Mathlib.Omega.{arith}
 use lib.ListN.{length, length-take, length-drop, List·getD-eq-default}
 use borrow.Author.Count.{below-none, below-more}
@@ -24,6 +25,17 @@ Inv-loop2 marks n v₀ v = AllMarked marks v
 
 abbrev μ-loop2 : tie.MeasureT-loop2
 μ-loop2 marks n v₀ v = n - v
+
+-- Where a word was looked at: the vertex that it begins with, and all marks.
+module _ (k : tie.After-eight-marked Inv-loop μ-loop Inv-loop2 μ-loop2) where
+  abbrev turn : tie.At-loop Inv-loop μ-loop Inv-loop2 μ-loop2
+  turn = k .before .before .before
+
+  abbrev from : ℕ
+  from = turn .loop .v
+
+  abbrev marks : List ℕ
+  marks = turn .before .before .before .args .marks .now
 
 returns : tie.Need-returns Inv-loop μ-loop Inv-loop2 μ-loop2
 returns c =
@@ -50,10 +62,10 @@ eight-marked-requires c κs = rw (length-take, length-drop) (omega arith)
 
 returns-2 : tie.Need-returns-2 Inv-loop μ-loop Inv-loop2 μ-loop2
 returns-2 c =
-    let marks = c .before .before .before .before .before .before .before .args .marks .now in
-    let v = c .before .before .before .before .loop .v in (
+    let k = c .before in
+    let marked = k .eight-marked .ensures .1 in (
       λ t. absurd (false≢true t),
-      λ all. absurd (false≢true (sym (not-true _ (c .if2 .taken)) ∙ c .before .eight-marked .ensures .1 (marked-from marks v 8 (omega arith) λ i h. all i (omega arith)))),
+      λ all. absurd (false≢true (sym (not-true _ (c .if2 .taken)) ∙ marked (marked-from (marks k) (from k) 8 (omega arith) λ i h. all i (omega arith)))),
     )
 
 add-v : tie.Need-add-v Inv-loop μ-loop Inv-loop2 μ-loop2
@@ -64,9 +76,8 @@ loop-less c = search needs
 
 loop-again : tie.Need-loop-again Inv-loop μ-loop Inv-loop2 μ-loop2
 loop-again c =
-    let marks = c .before .before .before .before .before .before .before .args .marks .now in
-    let v = c .before .before .before .before .loop .v in
-    (omega arith, marked-more marks v 8 (omega arith) (c .before .before .before .before .loop .inv .1) (c .before .eight-marked .ensures .0 (not-false _ (c .if2 .left))))
+    let k = c .before in
+    (omega arith, marked-more (marks k) (from k) 8 (omega arith) (turn k .loop .inv .1) (k .eight-marked .ensures .0 (not-false _ (c .if2 .left))))
 
 loop2-holds : tie.Need-loop2-holds Inv-loop μ-loop Inv-loop2 μ-loop2
 loop2-holds c = c .before .loop .inv .1
