@@ -1,14 +1,15 @@
 //! The search for the best limit.
 
+use crate::brought::Brought;
 use crate::cover::Tree;
 use crate::forest::{components, lowest_unjoined, rooted, unrooted};
-use crate::graph::{read, Graph};
+use crate::graph::Graph;
 use crate::question::{tree_count, Answer, Kind, BUFFER};
 use crate::trial::{file, run, Outcome};
 
-/// The graph and tree count of a best-limit question, or its refusal: 11 to 16, 21, 23.
-pub fn admit(kind: Kind, sheet: &[u8], k: u64, room: usize) -> Result<(Graph, usize), u16> {
-    let graph = read(sheet)?;
+/// The graph and tree count of a best-limit question, or its refusal: 11 to 16, 53, 54, 21, 23.
+pub fn admit(kind: Kind, brought: Brought, k: u64, room: usize) -> Result<(Graph, usize), u16> {
+    let graph = brought.graph()?;
     let k = tree_count(kind, graph.n, k)?;
     if room < BUFFER {
         return Err(23);
@@ -16,9 +17,14 @@ pub fn admit(kind: Kind, sheet: &[u8], k: u64, room: usize) -> Result<(Graph, us
     Ok((graph, k))
 }
 
-/// Answers a best-limit question, writing the cover into the first bytes of the buffer.
+/// Answers a best-limit question without lists.
 pub fn best(kind: Kind, sheet: &[u8], k: u64, buffer: &mut [u8]) -> Answer {
-    match admit(kind, sheet, k, buffer.len()) {
+    best_with(kind, Brought::plain(sheet), k, buffer)
+}
+
+/// Answers a best-limit question, writing the cover into the first bytes of the buffer.
+pub fn best_with(kind: Kind, brought: Brought, k: u64, buffer: &mut [u8]) -> Answer {
+    match admit(kind, brought, k, buffer.len()) {
         Err(number) => Answer::Refused(number),
         Ok((graph, k)) => match search(kind, &graph, k) {
             None => Answer::NoCover,

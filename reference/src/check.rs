@@ -1,12 +1,18 @@
 //! The check of a filed cover.
 
+use crate::brought::Brought;
 use crate::cover::{decode, gather, heaviest, Filed, Tree};
-use crate::graph::{read, Graph};
+use crate::graph::Graph;
 use crate::question::{tree_count, Kind};
 
-/// Checks cover bytes against sheet bytes: yes with the heaviest weight, otherwise a number.
+/// Checks cover bytes against sheet bytes without lists.
 pub fn check(kind: Kind, sheet: &[u8], k: u64, cover: &[u8]) -> Result<u64, u16> {
-    let graph = read(sheet)?;
+    check_with(kind, Brought::plain(sheet), k, cover)
+}
+
+/// Checks cover bytes against what is brought: yes with the heaviest weight, otherwise a number.
+pub fn check_with(kind: Kind, brought: Brought, k: u64, cover: &[u8]) -> Result<u64, u16> {
+    let graph = brought.graph()?;
     let k = tree_count(kind, graph.n, k)?;
     check_on(kind, &graph, k, cover)
 }

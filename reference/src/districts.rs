@@ -10,9 +10,15 @@
 //! whole         2 bytes: 1 if the reply is printed whole, 0 if the rules leave a choice in it
 //! sheet length  2 bytes
 //! cover length  2 bytes, 0 in 1 to 4
+//! lists         2 bytes, a bit for each list that may be brought beside the sheet: 1 classes; every other bit is 0
+//! class length  2 bytes, 0 where no list of classes is brought
+//! kept free     4 bytes, 0: room for the lengths of two lists more
 //! sheet         the graph's bytes, right or wrong
 //! cover         the bytes of the filed cover, right or wrong
+//! classes       the bytes of the list of classes, right or wrong
 //! ```
+//!
+//! A list of no bytes is not the same as no list: where the class length is 0, `lists` says which of the two is brought.
 //!
 //! The reply to 1 to 4 is printed as the program `rounds` prints it, rows of trees included, if the record says `whole`
 //! or the reply is neither a cover nor "too low parts". Otherwise it is one of
@@ -22,15 +28,15 @@
 //! too low parts              how many parts and roots is a free choice, so not said
 //! ```
 //!
-//! where `yes` stands if the check of a filed cover, asked with the record's kind, graph and k, says yes to the bytes
-//! written and names the reply's heaviest weight; otherwise `no`. The reply to 5 and 6 is `yes HEAVIEST` or
+//! where `yes` stands if the check of a filed cover, asked with the record's kind, graph, lists and k, says yes to the
+//! bytes written and names the reply's heaviest weight; otherwise `no`. The reply to 5 and 6 is `yes HEAVIEST` or
 //! `refused NUMBER`. Words and numbers stand one blank apart.
 
+use crate::brought::Brought;
 use crate::bytes::{put_four, put_two};
-use crate::check::check;
+use crate::check::check_with;
 use crate::cover::{decode, filed_length, gather};
 use crate::fixed::is_fixed;
-use crate::graph::read;
 use crate::question::{Answer, Kind};
 use crate::rounds::text as answer_text;
 use crate::{best, trial};
@@ -50,15 +56,32 @@ pub struct Record {
     pub kind: Kind,
     pub k: usize,
     pub sheet: Vec<u8>,
+    /// The list of classes, if one is brought.
+    pub classes: Option<Vec<u8>>,
 }
 
 impl Record {
+    /// A question without lists.
+    pub fn plain(asked: Asked, kind: Kind, k: usize, sheet: &[u8]) -> Record {
+        Record { asked, kind, k, sheet: sheet.to_vec(), classes: None }
+    }
+
+    /// The same question with a list of classes.
+    pub fn with_classes(self, classes: &[u8]) -> Record {
+        Record { classes: Some(classes.to_vec()), ..self }
+    }
+
+    /// What the question brings.
+    pub fn brought(&self) -> Brought<'_> {
+        Brought { sheet: &self.sheet, classes: self.classes.as_deref() }
+    }
+
     /// The planner's answer, which is written to the buffer; nothing for a check.
     pub fn answer(&self, buffer: &mut [u8]) -> Option<Answer> {
-        let Record { kind, k, ref sheet, .. } = *self;
+        let (kind, brought, k) = (self.kind, self.brought(), self.k as u64);
         match self.asked {
-            Asked::Trial { limit, .. } => Some(trial::trial(kind, sheet, k as u64, limit, buffer)),
-            Asked::Best { .. } => Some(best::best(kind, sheet, k as u64, buffer)),
+            Asked::Trial { limit, .. } => Some(trial::trial_with(kind, brought, k, limit, buffer)),
+            Asked::Best { .. } => Some(best::best_with(kind, brought, k, buffer)),
             Asked::Check { .. } => None,
         }
     }
@@ -78,7 +101,7 @@ impl Record {
             (Answer::Parts { .. }, Asked::Trial { limit, .. }) => *limit,
             _ => return true,
         };
-        let graph = read(&self.sheet).expect("an answered sheet can be read");
+        let graph = self.brought().graph().expect("what is answered can be read");
         is_fixed(self.kind, &graph, self.k, limit)
     }
 }
@@ -99,10 +122,15 @@ pub fn encode(records: &[Record]) -> Vec<u8> {
         let answer = record.answer(&mut vec![0; record.room()]);
         let is_whole = answer.is_none_or(|answer| record.is_whole(&answer));
         put_two(&mut out, usize::from(is_whole));
+        let classes = record.classes.as_deref();
         put_two(&mut out, record.sheet.len());
         put_two(&mut out, cover.len());
+        put_two(&mut out, usize::from(classes.is_some()));
+        put_two(&mut out, classes.map_or(0, <[u8]>::len));
+        put_four(&mut out, 0);
         out.extend_from_slice(&record.sheet);
         out.extend_from_slice(cover);
+        out.extend_from_slice(classes.unwrap_or(&[]));
     }
     out
 }
@@ -114,9 +142,9 @@ pub fn text(records: &[Record]) -> String {
 
 /// What the rules fix of the reply to a record.
 fn record_text(record: &Record) -> String {
-    let Record { kind, k, ref sheet, .. } = *record;
+    let (kind, brought, k) = (record.kind, record.brought(), record.k as u64);
     if let Asked::Check { cover } = &record.asked {
-        return match check(kind, sheet, k as u64, cover) {
+        return match check_with(kind, brought, k, cover) {
             Ok(heaviest) => format!("yes {heaviest}\n"),
             Err(number) => format!("refused {number}\n"),
         };
@@ -130,10 +158,10 @@ fn record_text(record: &Record) -> String {
             let cover = &buffer[..length];
             let trees = gather(&decode(cover).expect("an accepted cover was written"));
             if is_whole {
-                let graph = read(sheet).expect("an accepted sheet can be read");
+                let graph = brought.graph().expect("what is accepted can be read");
                 return answer_text(&answer, Some((&graph, &trees)));
             }
-            let said = check(kind, sheet, k as u64, cover) == Ok(heaviest);
+            let said = check_with(kind, brought, k, cover) == Ok(heaviest);
             format!("cover {limit} {} {}\n", if said { "yes" } else { "no" }, trees.len())
         }
         Answer::Parts { .. } if !is_whole => "too low parts\n".to_string(),

@@ -4,6 +4,7 @@
 //! choice passes; everything else must be exactly what the rules say.
 
 use crate::assignment::{assign, Assigned};
+use crate::brought::Brought;
 use crate::check::check_on;
 use crate::cover::{decode, filed_length, gather, Tree};
 use crate::graph::Graph;
@@ -22,19 +23,35 @@ pub struct Reply<'a> {
     pub after: &'a [u8],
 }
 
-/// Judges a reply to a trial; the error says what is wrong with it.
+/// Judges a reply to a trial without lists.
 pub fn trial(kind: Kind, sheet: &[u8], k: u64, limit: u64, reply: Reply) -> Result<(), String> {
+    trial_with(kind, Brought::plain(sheet), k, limit, reply)
+}
+
+/// Judges a reply to a trial; the error says what is wrong with it.
+pub fn trial_with(
+    kind: Kind,
+    brought: Brought,
+    k: u64,
+    limit: u64,
+    reply: Reply,
+) -> Result<(), String> {
     same_length(reply)?;
-    match at_limit::admit(kind, sheet, k, limit, reply.before.len()) {
+    match at_limit::admit(kind, brought, k, limit, reply.before.len()) {
         Err(number) => exactly(&Answer::Refused(number), reply.before, reply),
         Ok((graph, k)) => trial_on(kind, &graph, k, limit, reply),
     }
 }
 
-/// Judges a reply to a best-limit question; the error says what is wrong with it.
+/// Judges a reply to a best-limit question without lists.
 pub fn best(kind: Kind, sheet: &[u8], k: u64, reply: Reply) -> Result<(), String> {
+    best_with(kind, Brought::plain(sheet), k, reply)
+}
+
+/// Judges a reply to a best-limit question; the error says what is wrong with it.
+pub fn best_with(kind: Kind, brought: Brought, k: u64, reply: Reply) -> Result<(), String> {
     same_length(reply)?;
-    let (graph, k) = match search::admit(kind, sheet, k, reply.before.len()) {
+    let (graph, k) = match search::admit(kind, brought, k, reply.before.len()) {
         Ok(admitted) => admitted,
         Err(number) => return exactly(&Answer::Refused(number), reply.before, reply),
     };

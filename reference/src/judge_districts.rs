@@ -23,10 +23,10 @@ pub fn judge_reply(record: &Record, full: &Full) -> Result<(), String> {
     let room = after.get_mut(..full.front.len()).ok_or("more is written than fits the buffer")?;
     room.copy_from_slice(&full.front);
     let reply = Reply { answer: &answer, before: &before, after: &after };
-    let Record { kind, k, ref sheet, .. } = *record;
+    let (kind, brought, k) = (record.kind, record.brought(), record.k as u64);
     match record.asked {
-        Asked::Trial { limit, .. } => judge::trial(kind, sheet, k as u64, limit, reply),
-        Asked::Best { .. } => judge::best(kind, sheet, k as u64, reply),
+        Asked::Trial { limit, .. } => judge::trial_with(kind, brought, k, limit, reply),
+        Asked::Best { .. } => judge::best_with(kind, brought, k, reply),
         Asked::Check { .. } => Err("a check has no reply in full".into()),
     }
 }
@@ -44,8 +44,10 @@ pub fn judge_all(records: &[Record], mut replies: &[u8]) -> Result<usize, Vec<St
         replies = rest;
         count += 1;
         if let Err(why) = judge_reply(record, &full) {
-            let Record { asked, kind, k, sheet } = record;
-            let question = format!("{asked:?}, {kind:?}, k {k}, a sheet of {} bytes", sheet.len());
+            let Record { asked, kind, k, sheet, classes } = record;
+            let sizes =
+                format!("{} sheet bytes, {:?}", sheet.len(), classes.as_ref().map(Vec::len));
+            let question = format!("{asked:?}, {kind:?}, k {k}, {sizes} class bytes");
             wrong.push(format!("record {number} ({question}): {why}"));
         }
     }

@@ -1,5 +1,6 @@
 //! Judging the output text of another program `rounds`.
 
+use crate::brought::Brought;
 use crate::cover::{encode, Tree};
 use crate::graph::{read, Graph};
 use crate::judge::{self, Reply};
@@ -85,7 +86,8 @@ fn numbers(row: &str) -> Option<Vec<u64>> {
 fn judge_parts(asked: &Question, output: &str) -> Result<bool, String> {
     let Question { kind, k, sheet, .. } = *asked;
     let limit = asked.limit.ok_or("a best limit shows no parts")?;
-    let (graph, k) = admit(kind, sheet, k, limit, BUFFER).map_err(|n| format!("refused {n}"))?;
+    let admitted = admit(kind, Brought::plain(sheet), k, limit, BUFFER);
+    let (graph, k) = admitted.map_err(|n| format!("refused {n}"))?;
     if kind == Kind::Unrooted {
         return Err("an unrooted trial shows no parts".into());
     }

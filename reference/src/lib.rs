@@ -5,6 +5,7 @@
 
 pub mod assignment;
 pub mod best;
+pub mod brought;
 pub mod bytes;
 pub mod check;
 pub mod cover;
@@ -22,8 +23,11 @@ pub mod judge_tree;
 pub mod made_districts;
 pub mod made_filings;
 pub mod made_questions;
+pub mod made_records;
 pub mod made_shapes;
+pub mod made_surfaces;
 pub mod made_trials;
+pub mod made_wrong_lists;
 pub mod optimum;
 pub mod question;
 pub mod random;
@@ -32,6 +36,7 @@ pub mod rivals;
 pub mod rooted;
 pub mod rounds;
 pub mod split;
+pub mod surface;
 pub mod trial;
 pub mod unrooted;
 pub mod walk;

@@ -1,15 +1,16 @@
 //! The records of the program `districts`: every row of document 01's list of small districts, made sheets of each kind, the
-//! deepest trees, the made trials and the made filings.
+//! deepest trees, the made trials and the made filings; and behind them those that bring a list of classes.
 
-use crate::best;
 use crate::cover::{encode as cover_bytes, Tree};
 use crate::districts::{Asked, Record};
 use crate::graph::{sheet, Graph};
-use crate::made_filings::{changed_fields, filings};
-use crate::made_shapes::{damaged_sheets, ends, graph, shuffled, weighed};
-use crate::made_shapes::{Shape, Weights, SEARCHED, SHAPES, WEIGHTS};
+use crate::made_filings::filings;
+use crate::made_records::{around_best, around_best_for_few_and_many, at, best_of, check_of};
+use crate::made_records::{deepest, full_size, BOTH};
+use crate::made_shapes::{damaged_sheets, graph, Shape, SEARCHED, SHAPES, WEIGHTS};
+use crate::made_surfaces::surfaced;
 use crate::made_trials::trials;
-use crate::question::{Kind, BUFFER, LIMIT};
+use crate::question::{Kind, LIMIT};
 use crate::random::Random;
 
 /// Every record, the list of small districts first.
@@ -25,30 +26,19 @@ pub fn records() -> Vec<Record> {
         SHAPES.iter().for_each(|&shape| all.extend(made(&mut random, shape, turn)));
     }
     for shape in [Shape::Grid, Shape::Path, Shape::Far] {
-        all.extend(full_size(&mut random, shape));
+        let weights = WEIGHTS[random.between(2, 6)];
+        let sheet = full_size(&mut random, shape, weights).to_sheet();
+        all.extend(BOTH.map(|kind| best_of(kind, 32, &sheet)));
     }
     for shape in [Shape::Path, Shape::Star, Shape::Caterpillar, Shape::Tree] {
-        all.extend(deepest(&mut random, shape));
+        let graph = deepest(&mut random, shape);
+        all.extend(around_best_for_few_and_many(&mut random, &graph));
     }
     all.extend(trials().iter().map(|trial| at(trial.kind, trial.k, trial.limit, &trial.sheet)));
     all.extend(filings().into_iter().map(|f| check_of(f.kind, f.k, &f.sheet, f.cover)));
+    all.extend(surfaced());
     all
 }
-
-fn at(kind: Kind, k: usize, limit: u64, sheet: &[u8]) -> Record {
-    let asked = Asked::Trial { limit, room: BUFFER };
-    Record { asked, kind, k, sheet: sheet.to_vec() }
-}
-
-fn best_of(kind: Kind, k: usize, sheet: &[u8]) -> Record {
-    Record { asked: Asked::Best { room: BUFFER }, kind, k, sheet: sheet.to_vec() }
-}
-
-fn check_of(kind: Kind, k: usize, sheet: &[u8], cover: Vec<u8>) -> Record {
-    Record { asked: Asked::Check { cover }, kind, k, sheet: sheet.to_vec() }
-}
-
-const BOTH: [Kind; 2] = [Kind::Rooted, Kind::Unrooted];
 
 /// The rows of document 01's list, starred or not, in its order.
 pub fn small_districts() -> Vec<Record> {
@@ -89,7 +79,7 @@ fn at_the_ends(kind: Kind, n: &[u8]) -> Vec<Record> {
     }
     for room in [32_708, 32_707] {
         for asked in [Asked::Trial { limit: 4, room }, Asked::Best { room }] {
-            all.push(Record { asked, kind, k: 2, sheet: n.to_vec() });
+            all.push(Record::plain(asked, kind, 2, n));
         }
     }
     all
@@ -108,7 +98,7 @@ fn refused(random: &mut Random) -> Vec<Record> {
             [(0, 0, 0), (3, LIMIT + 1, 0), (1, LIMIT + 1, 0), (1, LIMIT, 0), (1, LIMIT, 65_535)]
         {
             for asked in [Asked::Trial { limit, room }, Asked::Best { room }] {
-                all.push(Record { asked, kind, k, sheet: edge.clone() });
+                all.push(Record::plain(asked, kind, k, &edge));
             }
         }
     }
@@ -123,38 +113,4 @@ fn made(random: &mut Random, shape: Shape, turn: usize) -> Vec<Record> {
     let weights = WEIGHTS[random.below(WEIGHTS.len())];
     let graph = graph(random, shape, n, k, weights);
     BOTH.iter().flat_map(|&kind| around_best(random, kind, &graph, k)).collect()
-}
-
-fn around_best(random: &mut Random, kind: Kind, graph: &Graph, k: usize) -> Vec<Record> {
-    let sheet = graph.to_sheet();
-    let mut all = vec![best_of(kind, k, &sheet)];
-    let Some((limit, trees)) = best::search(kind, graph, k) else {
-        all.push(at(kind, k, graph.total(), &sheet));
-        return all;
-    };
-    all.extend([at(kind, k, limit, &sheet), at(kind, k, 2 * limit / 3, &sheet)]);
-    all.extend(limit.checked_sub(1).map(|below| at(kind, k, below, &sheet)));
-    let good = cover_bytes(&trees);
-    let bad = changed_fields(random, &good);
-    all.push(check_of(kind, k, &sheet, bad[random.below(bad.len())].clone()));
-    all.push(check_of(kind, k, &sheet, good));
-    all
-}
-
-/// The best limit of each kind for 32 trees on 256 vertices and 2,048 edges: a shape's own, repeated.
-fn full_size(random: &mut Random, shape: Shape) -> Vec<Record> {
-    let weights = WEIGHTS[random.between(2, 6)];
-    let mut graph = graph(random, shape, 256, 32, weights);
-    let own = graph.edges.clone();
-    graph.edges = shuffled(random, own.into_iter().cycle().take(2_048).collect());
-    BOTH.iter().map(|&kind| best_of(kind, 32, &graph.to_sheet())).collect()
-}
-
-/// Both kinds for 1 tree and for 32 on a tree of 256 vertices, numbered from its root on: with one root a path is as deep
-/// as a tree can be.
-fn deepest(random: &mut Random, shape: Shape) -> Vec<Record> {
-    let ends = ends(random, shape, 256, 0);
-    let graph = Graph::new(256, &weighed(random, ends, Weights::Between(1, 9)));
-    let asked = [1, 32].into_iter().flat_map(|k| BOTH.map(|kind| (kind, k)));
-    asked.flat_map(|(kind, k)| around_best(random, kind, &graph, k)).collect()
 }

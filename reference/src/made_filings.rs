@@ -23,28 +23,34 @@ pub fn filings() -> Vec<Filing> {
     let mut random = Random::new(35);
     let mut all = Vec::new();
     while all.len() < 2_400 {
-        all.extend(around_a_cover(&mut random));
+        let (graph, kind, k) = asked(&mut random);
+        all.extend(around_a_cover(&mut random, &graph, kind, k));
     }
     all.extend(refused_before_the_cover());
     all.extend(full_size(&mut random));
     all
 }
 
-/// A good cover of a random graph, if one exists, and that cover damaged in every way.
-fn around_a_cover(random: &mut Random) -> Vec<Filing> {
+/// A random graph, with a kind and a number of trees to ask for.
+pub fn asked(random: &mut Random) -> (Graph, Kind, usize) {
     let n = random.between(1, 6);
     let m = random.between(0, 8);
     let graph = random.graph(n, m, 9);
     let kind = if random.below(2) == 0 { Kind::Rooted } else { Kind::Unrooted };
     let k = random.between(1, n.min(3));
-    let Some((_, trees)) = best::search(kind, &graph, k) else {
+    (graph, kind, k)
+}
+
+/// A good cover of a graph, if one exists, and that cover damaged in every way.
+pub fn around_a_cover(random: &mut Random, graph: &Graph, kind: Kind, k: usize) -> Vec<Filing> {
+    let Some((_, trees)) = best::search(kind, graph, k) else {
         return Vec::new();
     };
     let good = encode(&trees);
     let mut covers = vec![good.clone()];
     covers.extend(changed_fields(random, &good));
     covers.extend(changed_lengths(&good));
-    covers.extend(changed_trees(random, &graph, &trees));
+    covers.extend(changed_trees(random, graph, &trees));
     let sheet = graph.to_sheet();
     let file = |cover| Filing { kind, k, sheet: sheet.clone(), cover };
     covers.into_iter().map(file).collect()
@@ -124,7 +130,7 @@ pub fn along_a_path(n: usize, left_out: Option<usize>) -> Filing {
 }
 
 /// Covers of full size: 32 trees of 255 edges on 256 vertices, good and damaged at the last entry.
-fn full_size(random: &mut Random) -> Vec<Filing> {
+pub fn full_size(random: &mut Random) -> Vec<Filing> {
     let path: Vec<(usize, usize, u64)> =
         (1..256).map(|v| (random.below(v), v, 1_000_000)).collect();
     let graph = Graph::new(256, &path);

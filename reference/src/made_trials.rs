@@ -133,7 +133,7 @@ fn at_limits(
 }
 
 /// Trials at 0, at the sum, and on both sides of every change of the reply that is seen.
-fn at_turns(kind: Kind, graph: &Graph, k: usize) -> Vec<Trial> {
+pub fn at_turns(kind: Kind, graph: &Graph, k: usize) -> Vec<Trial> {
     let looked: Vec<u64> = looked_at(graph, k).into_iter().collect();
     let mut limits = BTreeSet::from([0, graph.total()]);
     for pair in looked.windows(2) {

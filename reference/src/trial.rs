@@ -1,7 +1,8 @@
 //! A trial at a given limit, from sheet bytes to an answer and a lent buffer.
 
+use crate::brought::Brought;
 use crate::cover::{encode, heaviest, Tree};
-use crate::graph::{read, Graph};
+use crate::graph::Graph;
 use crate::question::{tree_count, Answer, Kind, BUFFER, LIMIT};
 use crate::{rooted, unrooted};
 
@@ -26,15 +27,15 @@ pub fn run(kind: Kind, graph: &Graph, k: usize, limit: u64) -> Outcome {
     }
 }
 
-/// The graph and tree count of a trial, or its refusal: 11 to 16, 21, 22, 23.
+/// The graph and tree count of a trial, or its refusal: 11 to 16, 53, 54, 21, 22, 23.
 pub fn admit(
     kind: Kind,
-    sheet: &[u8],
+    brought: Brought,
     k: u64,
     limit: u64,
     room: usize,
 ) -> Result<(Graph, usize), u16> {
-    let graph = read(sheet)?;
+    let graph = brought.graph()?;
     let k = tree_count(kind, graph.n, k)?;
     if limit > LIMIT {
         return Err(22);
@@ -45,9 +46,14 @@ pub fn admit(
     Ok((graph, k))
 }
 
-/// Answers a trial question, writing the cover or the parts into the first bytes of the buffer.
+/// Answers a trial question without lists.
 pub fn trial(kind: Kind, sheet: &[u8], k: u64, limit: u64, buffer: &mut [u8]) -> Answer {
-    match admit(kind, sheet, k, limit, buffer.len()) {
+    trial_with(kind, Brought::plain(sheet), k, limit, buffer)
+}
+
+/// Answers a trial question, writing the cover or the parts into the first bytes of the buffer.
+pub fn trial_with(kind: Kind, brought: Brought, k: u64, limit: u64, buffer: &mut [u8]) -> Answer {
+    match admit(kind, brought, k, limit, buffer.len()) {
         Ok((graph, k)) => file(&graph, limit, &run(kind, &graph, k, limit), buffer),
         Err(number) => Answer::Refused(number),
     }

@@ -1,9 +1,10 @@
 //! The closed walk of one tree of a cover.
 
+use crate::brought::Brought;
 use crate::bytes::put_two;
-use crate::check::check;
+use crate::check::check_with;
 use crate::cover::{decode, gather, Tree};
-use crate::graph::{read, Graph};
+use crate::graph::Graph;
 use crate::question::Kind;
 
 /// The least length of the buffer lent for a walk, in bytes: 511 stops of two bytes.
@@ -48,8 +49,7 @@ pub fn closed_walk(graph: &Graph, tree: &Tree) -> Walk {
     }
 }
 
-/// Writes the closed walk of one tree of a filed cover over the first bytes of the buffer, two bytes a stop, and gives
-/// its count of stops and its length; or the number of the check, 51 or 52, and nothing is written.
+/// Writes the closed walk of one tree of a filed cover without lists.
 pub fn walk(
     kind: Kind,
     sheet: &[u8],
@@ -58,8 +58,21 @@ pub fn walk(
     tree: usize,
     buffer: &mut [u8],
 ) -> Result<(usize, u64), u16> {
-    check(kind, sheet, k, cover)?;
-    let (graph, trees) = (read(sheet)?, gather(&decode(cover)?));
+    walk_with(kind, Brought::plain(sheet), k, cover, tree, buffer)
+}
+
+/// Writes the closed walk of one tree of a filed cover over the first bytes of the buffer, two bytes a stop, and gives
+/// its count of stops and its length; or the number of the check, 51 or 52, and nothing is written.
+pub fn walk_with(
+    kind: Kind,
+    brought: Brought,
+    k: u64,
+    cover: &[u8],
+    tree: usize,
+    buffer: &mut [u8],
+) -> Result<(usize, u64), u16> {
+    check_with(kind, brought, k, cover)?;
+    let (graph, trees) = (brought.graph()?, gather(&decode(cover)?));
     let tree = trees.get(tree).ok_or(51u16)?;
     if buffer.len() < WALK_BUFFER {
         return Err(52);

@@ -93,18 +93,26 @@ fn the_rows_of_document_01_come_first() {
 #[test]
 fn a_record_as_bytes() {
     let asked = Asked::Trial { limit: 2_048_000_001, room: 32_708 };
-    let record = Record { asked, kind: Kind::Unrooted, k: 258, sheet: vec![9, 8, 7] };
-    let due = [2, 0, 2, 1, 1, 0, 0x12, 0x7a, 0xc4, 0x7f, 1, 0, 3, 0, 0, 0, 9, 8, 7];
+    let record = Record::plain(asked, Kind::Unrooted, 258, &[9, 8, 7]);
+    let front = [2, 0, 2, 1, 1, 0, 0x12, 0x7a, 0xc4, 0x7f, 1, 0, 3, 0, 0, 0];
+    let due = [&front[..], &[0; 8], &[9, 8, 7]].concat();
     assert_eq!(encode(&[record]), due);
     let asked = Asked::Check { cover: vec![5, 6] };
-    let record = Record { asked, kind: Kind::Rooted, k: 2, sheet: vec![9] };
-    let bytes = encode(&[record]);
-    assert_eq!(
-        (&bytes[..4], &bytes[8..]),
-        (&[5, 0, 2, 0][..], &[0, 0, 1, 0, 1, 0, 2, 0, 9, 5, 6][..])
-    );
+    let record = Record::plain(asked, Kind::Rooted, 2, &[9]);
+    // The list of classes, the fields that speak of it, and what follows the head.
+    type Row = (Option<&'static [u8]>, [u8; 4], &'static [u8]);
+    let rows: [Row; 3] = [
+        (None, [0, 0, 0, 0], &[9, 5, 6]),
+        (Some(&[]), [1, 0, 0, 0], &[9, 5, 6]),
+        (Some(&[60, 7, 255]), [1, 0, 3, 0], &[9, 5, 6, 60, 7, 255]),
+    ];
+    for (classes, lists, behind) in rows {
+        let bytes = encode(&[Record { classes: classes.map(<[u8]>::to_vec), ..record.clone() }]);
+        let due = [&[0, 0, 1, 0, 1, 0, 2, 0], &lists[..], &[0; 4], behind].concat();
+        assert_eq!((&bytes[..4], &bytes[8..]), (&[5, 0, 2, 0][..], &due[..]), "{classes:?}");
+    }
     let asked = Asked::Trial { limit: 5, room: 32_708 };
-    let free = Record { asked, kind: Kind::Rooted, k: 2, sheet: sheet_n() };
+    let free = Record::plain(asked, Kind::Rooted, 2, &sheet_n());
     assert_eq!(encode(&[free])[10..12], [0, 0]);
 }
 
@@ -125,14 +133,17 @@ fn the_text_on_sheet_n() {
         (Kind::Unrooted, 1, 6, "cover 6 11 1\ntree 0 11 0 1 2\n"),
         (Kind::Unrooted, 33, 6, "refused 21\n"),
     ];
-    let at = |kind, k, limit, sheet| {
-        let asked = Asked::Trial { limit, room: BUFFER };
-        text(&[Record { asked, kind, k, sheet }])
+    let at = |kind, k, limit, sheet: &[u8]| {
+        Record::plain(Asked::Trial { limit, room: BUFFER }, kind, k, sheet)
     };
     for (kind, k, limit, due) in rows {
-        assert_eq!(at(kind, k, limit, sheet_n()), due, "{kind:?} k {k} limit {limit}");
+        let said = text(&[at(kind, k, limit, &sheet_n())]);
+        assert_eq!(said, due, "{kind:?} k {k} limit {limit}");
     }
-    assert_eq!(at(Kind::Rooted, 1, 0, sheet(2, &[(0, 0, 1)])), "refused 15\n");
+    assert_eq!(text(&[at(Kind::Rooted, 1, 0, &sheet(2, &[(0, 0, 1)]))]), "refused 15\n");
+    // With classes 0, 10 and 40 the edges weigh 3, 4 and 10.
+    let listed = at(Kind::Unrooted, 1, 10, &sheet_n()).with_classes(&[0, 10, 40]);
+    assert_eq!(text(&[listed]), "cover 10 17 1\ntree 0 17 0 1 2\n");
 }
 
 #[test]
@@ -142,7 +153,7 @@ fn the_records_are_many_and_meet_every_line() {
         here.map(|record| &record.sheet).collect::<BTreeSet<_>>().len()
     };
     assert!(BOTH.iter().all(|&kind| sheets(kind) > 300));
-    assert!(filed("stdin").len() < 3_000_000);
+    assert!(filed("stdin").len() < 4_000_000);
     let mut met: BTreeMap<String, usize> = BTreeMap::new();
     for line in String::from_utf8(filed("stdout")).expect("text").lines() {
         let words: Vec<&str> = line.split(' ').collect();
@@ -154,7 +165,7 @@ fn the_records_are_many_and_meet_every_line() {
         };
         *met.entry(opening).or_default() += 1;
     }
-    for number in [11, 12, 13, 14, 15, 16, 21, 22, 23, 31, 32, 33, 34, 35] {
+    for number in [11, 12, 13, 14, 15, 16, 53, 54, 21, 22, 23, 31, 32, 33, 34, 35] {
         assert!(met.contains_key(&format!("refused {number}")), "{number} of {met:?}");
     }
     for word in

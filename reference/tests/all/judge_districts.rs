@@ -7,7 +7,6 @@ use crate::common::other::other_reply;
 use crate::common::{made_records as made, sheet_n};
 use reference::best;
 use reference::districts::{encode as record_bytes, Asked, Record};
-use reference::graph::read;
 use reference::judge_districts::{judge_all, judge_reply, own_reply};
 use reference::question::{Kind, BUFFER, LIMIT};
 use reference::replies::{decode, encode, Full};
@@ -148,7 +147,8 @@ fn planners_that_cheat_do_not_pass() {
         let kind = if record.kind == Kind::Rooted { Kind::Unrooted } else { Kind::Rooted };
         own(&Record { kind, ..record.clone() })
     };
-    let rows: [(&str, usize); 7] = [
+    let unlisted = |record: &Record| own(&Record { classes: None, ..record.clone() });
+    let rows: [(&str, usize); 8] = [
         ("always refused", wrong(|_| bare(21, &[]))),
         ("always too low, stop", wrong(|_| bare(1, &[2]))),
         ("always too low, needs", wrong(|record| bare(3, &[record.k as u64 + 1]))),
@@ -156,6 +156,7 @@ fn planners_that_cheat_do_not_pass() {
         ("nothing written", wrong(unwritten)),
         ("the reply to a limit one higher", wrong(of_other_limit)),
         ("the reply of the other kind", wrong(of_other_kind)),
+        ("the reply without the list of classes", wrong(unlisted)),
     ];
     for (name, count) in rows {
         assert!(count > 100, "{name}: {count} wrong of {}", some().len());
@@ -167,7 +168,7 @@ fn a_limit_that_was_not_searched_for_does_not_pass() {
     let mut said_no = 0;
     for record in made().iter().filter(|record| matches!(record.asked, Asked::Best { .. })) {
         let Some(Full { case: 0, .. }) = own_reply(record) else { continue };
-        let graph = read(&record.sheet).expect("an answered sheet");
+        let graph = record.brought().graph().expect("an answered question");
         let limit = graph.total();
         let found = best::search(record.kind, &graph, record.k).expect("a cover").0;
         let asked = Asked::Trial { limit, room: record.room() };
@@ -191,7 +192,7 @@ fn a_reply_is_read_as_it_was_written() {
     assert_eq!(decode(&[&bytes[..], &[5]].concat()), Some((full, &[5][..])));
     (0..bytes.len()).for_each(|end| assert_eq!(decode(&bytes[..end]), None));
     let asked = Asked::Trial { limit: 4, room: BUFFER };
-    let record = Record { asked, kind: Kind::Rooted, k: 2, sheet: sheet_n() };
+    let record = Record::plain(asked, Kind::Rooted, 2, &sheet_n());
     let cover = [2, 0, 2, 0, 0, 0, 1, 0, 0, 0, 0, 0, 0, 0, 1, 0].to_vec();
     let due = Full { case: 0, values: vec![4, 6, 2], front: cover, rest: 1 };
     assert_eq!(own(&record), due);

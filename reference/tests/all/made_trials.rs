@@ -5,6 +5,7 @@ use std::sync::OnceLock;
 
 use crate::common::{buffer, is_too_low, BOTH};
 use reference::assignment::{assign, Assigned};
+use reference::brought::Brought;
 use reference::distance::{closest, from_roots};
 use reference::forest::{rooted, unrooted};
 use reference::graph::read;
@@ -179,7 +180,8 @@ fn tempting_mistakes_would_show() {
     ];
     for (name, wrong) in rows {
         let admitted = |asked: &Trial| {
-            admit(asked.kind, &asked.sheet, asked.k as u64, asked.limit, usize::MAX).is_ok()
+            let brought = Brought::plain(&asked.sheet);
+            admit(asked.kind, brought, asked.k as u64, asked.limit, usize::MAX).is_ok()
         };
         let shows = |i: &usize| {
             let asked = &made()[*i];

@@ -4,6 +4,7 @@
 pub mod crossings;
 pub mod other;
 pub mod replies;
+pub mod surfaces;
 
 use std::sync::OnceLock;
 

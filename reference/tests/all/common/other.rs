@@ -24,7 +24,7 @@ pub fn other_reply(record: &Record) -> Option<Full> {
     if record.kind == Kind::Unrooted {
         return Some(own);
     }
-    let graph = read(&record.sheet).expect("an answered sheet");
+    let graph = record.brought().graph().expect("an answered question");
     let plan = plan(&graph, record.k, limit).expect("every vertex is joined to a root");
     Some(other_choices(&graph, record.k, limit, &plan))
 }
@@ -97,8 +97,8 @@ pub fn other_rounds(input: &[u8]) -> String {
         Some(limit) => Asked::Trial { limit, room: BUFFER },
         None => Asked::Best { room: BUFFER },
     };
-    let (kind, k, sheet) = (question.kind, question.k as usize, question.sheet.to_vec());
-    let full = other_reply(&Record { asked, kind, k, sheet }).expect("no check");
+    let record = Record::plain(asked, question.kind, question.k as usize, question.sheet);
+    let full = other_reply(&record).expect("no check");
     match (full.case, &full.values[..]) {
         (0, &[limit, heaviest, _]) => {
             let trees = gather(&decode(&full.front).expect("cover bytes"));
