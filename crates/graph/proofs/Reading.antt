@@ -40,7 +40,7 @@ use denote.Triple.Walked.{says, needs, Stays, stay-none, walkOf, goes-none, Walk
 use denote.Exit.{yes}
 use denote.Triple.Clauses.{Clauses, ensured, closing, lasts}
 use Rattle.graph.specs.Graph.{edgeCount}
-use Rattle.graph.specs.Bytes.{graphOf}
+use Rattle.graph.specs.Bytes.{sheetGraph}
 use Rattle.graph.specs.View.{Views}
 use Rattle.graph.specs.declared.view.View.{View}
 use Rattle.graph.proofs.view.View as T
@@ -82,7 +82,7 @@ module _ {M : Type 1} (𝓤 : URA M) (Says : List ℕ → ℕ → ℕ → Type 0
   reads-at κs a =
       record {
         ghost = Unit {0};
-        requires = λ g. fact 𝓤 (a .1 .0 ≡ edgeCount (graphOf (now (a .0))));
+        requires = λ g. fact 𝓤 (a .1 .0 ≡ edgeCount (sheetGraph (now (a .0))));
         ensures = λ g r x. fact 𝓤 (Says (now (a .0)) (a .1 .1 .0) r);
       }
 

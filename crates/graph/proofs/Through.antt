@@ -38,7 +38,7 @@ use denote.Triple.Spec.{Meets, tripleOf}
 use denote.Triple.Walked.{says, needs, Stays, stay-none, stay-none-slice, walkOf, goes-none, goes-none-slice, Walks, ends-at, walked, walk-meets}
 use denote.Exit.{yes}
 use denote.Triple.Clauses.{Clauses, ensured, closing, lasts}
-use Rattle.graph.specs.Bytes.{graphOf}
+use Rattle.graph.specs.Bytes.{sheetGraph}
 use Rattle.graph.specs.View.{CountsOf, Views}
 use Rattle.graph.specs.declared.view.View.{View}
 use Rattle.graph.proofs.Viewed.{views-own}
@@ -76,7 +76,7 @@ module _ {M : Type 1} (𝓤 : URA M) (Says : List ℕ → ℕ → ℕ → Type 0
   reads-through κs a =
       record {
         ghost = Unit {0};
-        requires = λ g. fact 𝓤 (CountsOf (graphOf (now (a .0))) (a .1 .0) (a .1 .1 .0));
+        requires = λ g. fact 𝓤 (CountsOf (sheetGraph (now (a .0))) (a .1 .0) (a .1 .1 .0));
         ensures = λ g r x. fact 𝓤 (Says (now (a .0)) (a .1 .1 .1 .0) r);
       }
 
@@ -97,7 +97,7 @@ module _ {M : Type 1} (𝓤 : URA M) (H : Heap 𝓤) (A : Atoms 𝓤) (mem : Mem
 
 module _ {M : Type 1} (𝓤 : URA M) (H : Heap 𝓤) (A : Atoms 𝓤) (W : Given 𝓤 H A) (mem : Memory → SProp 𝓤) (run : Routine → Fun 𝓤) (Says : List ℕ → ℕ → ℕ → Type 0)
     (κ : Lft) (q : Share) (s : RefT (List ℕ)) (n m e : ℕ) (n-fits : n < 2 ^ 64) (m-fits : m < 2 ^ 64) (e-fits : e < 2 ^ 64)
-    (counts : CountsOf (graphOf (now s)) n m) where
+    (counts : CountsOf (sheetGraph (now s)) n m) where
   -- the machine value that the slice has
   abbrev v : Val
   v = sliceVal (s .ptr) (length (s .now))

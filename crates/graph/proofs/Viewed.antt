@@ -4,7 +4,7 @@ use mathlib.Core.Path.{refl, sym, subst}
 use Prim.Native.Nat.{ℕ}
 use mathlib.Core.List.{List}
 use denote.Ref.{now}
-use Rattle.graph.specs.Bytes.{graphOf}
+use Rattle.graph.specs.Bytes.{sheetGraph}
 use Rattle.graph.specs.View.{CountsOf, Views}
 use Rattle.graph.specs.declared.view.View.{View}
 
@@ -13,5 +13,5 @@ pub views-own : (v : View) (b : List ℕ) → Views v b → Views v (now (v .byt
 views-own v b h =
     record {
       bytes-are = refl;
-      counts = subst (λ (x : List ℕ). CountsOf (graphOf x) (v .vertices) (v .edges)) (sym (h .bytes-are)) (h .counts);
+      counts = subst (λ (x : List ℕ). CountsOf (sheetGraph x) (v .vertices) (v .edges)) (sym (h .bytes-are)) (h .counts);
     }

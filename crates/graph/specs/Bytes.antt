@@ -1,4 +1,4 @@
--- The graph's bytes (document 01: a "sheet") and the graph that they spell. Nothing above this file speaks of places in the bytes.
+-- The graph's bytes (document 01: a "sheet"), the class bytes beside them, and the graph that they spell. Nothing above this file speaks of places in the bytes.
 -- A list of bytes is read as 0 past its end, so that every definition here holds for every list.
 -- Assumes nothing.
 use Prim.Native.Nat.{ℕ, _+_, _*_, _<_}
@@ -9,6 +9,7 @@ use lib.ListN.{length, getD}
 use lib.Dec.{eqb}
 use Rattle.lists.specs.Count.{below}
 use Rattle.graph.specs.Graph.{Edge, Graph}
+use Rattle.graph.specs.Surface.{surfaced}
 
 -- The field of two bytes at a place, lowest byte first.
 unfoldable pub u16At : List ℕ → ℕ → ℕ
@@ -50,9 +51,14 @@ edgeIn b e =
 unfoldable pub edgesHeld : List ℕ → ℕ
 edgesHeld b = cond (eqb (length b) (lengthFor (edgesIn b))) (edgesIn b) 0
 
--- The graph that the bytes spell.
-unfoldable pub graphOf : List ℕ → Graph
-graphOf b = record { vertices = verticesIn b; edges = map (edgeIn b) (below (edgesHeld b)) }
+-- The graph that the bytes spell, with the weights as given.
+unfoldable pub sheetGraph : List ℕ → Graph
+sheetGraph b = record { vertices = verticesIn b; edges = map (edgeIn b) (below (edgesHeld b)) }
+
+-- The graph that the bytes and the class bytes beside them spell, with the weights by class: what a question is about. Without a class list the
+-- latter are none.
+unfoldable pub graphOf : List ℕ → List ℕ → Graph
+graphOf b classes = surfaced (sheetGraph b) classes
 
 -- What a reader hands back: the value that is meant, below the bound of its field.
 pub record Reads (meant bound r : ℕ) : Type 0 where

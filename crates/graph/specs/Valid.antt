@@ -5,7 +5,7 @@ use mathlib.Core.Path.{_≡_}
 use mathlib.Core.List.{List}
 use lib.ListN.{length}
 use Rattle.graph.specs.Graph.{Edge, Graph, edgeCount, edgeAt}
-use Rattle.graph.specs.Bytes.{edgesIn, lengthFor, graphOf}
+use Rattle.graph.specs.Bytes.{edgesIn, lengthFor, sheetGraph}
 
 -- An edge ("line") within document 01's ranges: it joins two different vertices of n, and weighs 1 to 1,000,000.
 pub record ValidEdge (n : ℕ) (x : Edge) : Type 0 where
@@ -25,10 +25,10 @@ pub record Valid (g : Graph) : Type 0 where
 -- The bytes are a graph's: of the length that the head asks, and the graph that they spell is valid.
 pub record IsGraph (b : List ℕ) : Type 0 where
   pub sized : length b ≡ lengthFor (edgesIn b)
-  pub valid : Valid (graphOf b)
+  pub valid : Valid (sheetGraph b)
 
 -- The bytes are a graph's, of n vertices and m edges.
 pub record Counted (b : List ℕ) (n m : ℕ) : Type 0 where
   pub graph : IsGraph b
-  pub vertices-are : n ≡ graphOf b .vertices
-  pub edges-are : m ≡ edgeCount (graphOf b)
+  pub vertices-are : n ≡ sheetGraph b .vertices
+  pub edges-are : m ≡ edgeCount (sheetGraph b)

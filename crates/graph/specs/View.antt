@@ -5,7 +5,7 @@ use mathlib.Core.Path.{_≡_}
 use mathlib.Core.List.{List}
 use denote.Ref.{now}
 use Rattle.graph.specs.Graph.{Graph, edgeCount}
-use Rattle.graph.specs.Bytes.{graphOf}
+use Rattle.graph.specs.Bytes.{sheetGraph}
 use Rattle.graph.specs.declared.view.View.{View}
 
 -- The counts n and m are the graph's (document 01: n and m of a "sheet").
@@ -16,4 +16,4 @@ pub record CountsOf (g : Graph) (n m : ℕ) : Type 0 where
 -- The view v shows the bytes b: it holds them, and its counts are those of the graph that they spell.
 pub record Views (v : View) (b : List ℕ) : Type 0 where
   pub bytes-are : now (v .bytes) ≡ b
-  pub counts : CountsOf (graphOf b) (v .vertices) (v .edges)
+  pub counts : CountsOf (sheetGraph b) (v .vertices) (v .edges)

@@ -1,14 +1,15 @@
 // The graph's bytes (document 01: a "sheet"): readers of its fields. The check of the bytes stands in the crate
 // `graph_check`. Everything is read from the caller's own bytes, and every public function of this file but
 // `u16_within` takes any bytes. Edges are read through a view.
-// The words of the contracts stand in specs/: `graphOf` is the graph that the bytes spell.
+// The words of the contracts stand in specs/: `sheetGraph` is the graph that the bytes spell.
+pub mod surface;
 pub mod view;
 
 ghost use mathlib.Core.Path.{_≡_};
 ghost use Prim.Native.Nat.{_+_, _^_, _≤_};
 ghost use lib.ListN.{length};
 ghost use Rattle.graph.specs.Graph.{oneEnd, otherEnd, weightOf, edgeCount};
-ghost use Rattle.graph.specs.Bytes.{u16At, u32At, graphOf, Reads};
+ghost use Rattle.graph.specs.Bytes.{u16At, u32At, sheetGraph, graphOf, Reads};
 
 // The number that a byte is.
 fn wide(x: u8) -> usize
@@ -58,16 +59,16 @@ pub fn u32_at(b: &[u8], at: usize) -> u64
     value as u64
 }
 
-// How many vertices ("stops") the graph has.
-pub fn vertex_count(b: &[u8]) -> usize
-    ensures { λ r. ⌜ Reads (graphOf (now (b .entry)) .vertices) (2 ^ 16) r ⌝ }
+// How many vertices ("stops") the sheet has.
+pub fn sheet_vertices(b: &[u8]) -> usize
+    ensures { λ r. ⌜ Reads (sheetGraph (now (b .entry)) .vertices) (2 ^ 16) r ⌝ }
 {
     u16_at(b, 0)
 }
 
-// How many edges ("lines") the graph has. Bytes whose length is not that of their edges have none.
-pub fn edge_count(b: &[u8]) -> usize
-    ensures { λ r. ⌜ Reads (edgeCount (graphOf (now (b .entry)))) (2 ^ 16) r ⌝ }
+// How many edges ("lines") the sheet has. Bytes whose length is not that of their edges have none.
+pub fn sheet_edges(b: &[u8]) -> usize
+    ensures { λ r. ⌜ Reads (edgeCount (sheetGraph (now (b .entry)))) (2 ^ 16) r ⌝ }
 {
     if b.len() < 4 {
         return 0;
@@ -78,16 +79,16 @@ pub fn edge_count(b: &[u8]) -> usize
 
 // One end of edge e, of m edges; 0 past the last edge.
 pub(crate) fn one_end_at(b: &[u8], m: usize, e: usize) -> usize
-    requires { ⌜ m ≡ edgeCount (graphOf (now b)) ⌝ }
-    ensures { λ r. ⌜ Reads (oneEnd (graphOf (now (b .entry))) e) (2 ^ 16) r ⌝ }
+    requires { ⌜ m ≡ edgeCount (sheetGraph (now b)) ⌝ }
+    ensures { λ r. ⌜ Reads (oneEnd (sheetGraph (now (b .entry))) e) (2 ^ 16) r ⌝ }
 {
     if e < m { u16_within(b, 4 + 4 * e) } else { 0 }
 }
 
 // The other end of edge e, of m edges; 0 past the last edge.
 pub(crate) fn other_end_at(b: &[u8], m: usize, e: usize) -> usize
-    requires { ⌜ m ≡ edgeCount (graphOf (now b)) ⌝ }
-    ensures { λ r. ⌜ Reads (otherEnd (graphOf (now (b .entry))) e) (2 ^ 16) r ⌝ }
+    requires { ⌜ m ≡ edgeCount (sheetGraph (now b)) ⌝ }
+    ensures { λ r. ⌜ Reads (otherEnd (sheetGraph (now (b .entry))) e) (2 ^ 16) r ⌝ }
 {
     if e < m {
         u16_within(b, 4 + 4 * e + 2)
@@ -98,8 +99,8 @@ pub(crate) fn other_end_at(b: &[u8], m: usize, e: usize) -> usize
 
 // The weight of edge e, of m edges; 0 past the last edge.
 pub(crate) fn weight_at(b: &[u8], m: usize, e: usize) -> u64
-    requires { ⌜ m ≡ edgeCount (graphOf (now b)) ⌝ }
-    ensures { λ r. ⌜ Reads (weightOf (graphOf (now (b .entry))) e) (2 ^ 32) r ⌝ }
+    requires { ⌜ m ≡ edgeCount (sheetGraph (now b)) ⌝ }
+    ensures { λ r. ⌜ Reads (weightOf (sheetGraph (now (b .entry))) e) (2 ^ 32) r ⌝ }
 {
     if e < m {
         u32_within(b, 4 + 4 * m + 4 * e)
@@ -108,24 +109,59 @@ pub(crate) fn weight_at(b: &[u8], m: usize, e: usize) -> u64
     }
 }
 
-// One end of edge e; 0 past the last edge. Who has the counts at hand calls the reader of `view`, which does not count
-// again.
-pub fn one_end(b: &[u8], e: usize) -> usize
-    ensures { λ r. ⌜ Reads (oneEnd (graphOf (now (b .entry))) e) (2 ^ 16) r ⌝ }
+// THE GRAPH THAT A SHEET AND ITS CLASSES SPELL. Counts and ends are the sheet's own: these readers take the classes too,
+// so that what they promise is of the same graph as the weights.
+
+// How many vertices ("stops") the graph has.
+pub fn vertex_count(b: &[u8], classes: &[u8]) -> usize
+    ensures { λ r. ⌜ Reads (graphOf (now (b .entry)) (now (classes .entry)) .vertices) (2 ^ 16) r ⌝ }
 {
-    view::one_end(b, vertex_count(b), edge_count(b), e)
+    sheet_vertices(b)
+}
+
+// How many edges ("lines") the graph has.
+pub fn edge_count(b: &[u8], classes: &[u8]) -> usize
+    ensures { λ r. ⌜ Reads (edgeCount (graphOf (now (b .entry)) (now (classes .entry)))) (2 ^ 16) r ⌝ }
+{
+    sheet_edges(b)
+}
+
+// One end of edge e; 0 past the last edge. Who has the counts at hand calls the reader of `surface`, which does not
+// count again.
+pub fn one_end(b: &[u8], e: usize, classes: &[u8]) -> usize
+    ensures { λ r. ⌜ Reads (oneEnd (graphOf (now (b .entry)) (now (classes .entry))) e) (2 ^ 16) r ⌝ }
+{
+    surface::one_end(
+        b,
+        vertex_count(b, classes),
+        edge_count(b, classes),
+        e,
+        classes,
+    )
 }
 
 // The other end of edge e; 0 past the last edge.
-pub fn other_end(b: &[u8], e: usize) -> usize
-    ensures { λ r. ⌜ Reads (otherEnd (graphOf (now (b .entry))) e) (2 ^ 16) r ⌝ }
+pub fn other_end(b: &[u8], e: usize, classes: &[u8]) -> usize
+    ensures { λ r. ⌜ Reads (otherEnd (graphOf (now (b .entry)) (now (classes .entry))) e) (2 ^ 16) r ⌝ }
 {
-    view::other_end(b, vertex_count(b), edge_count(b), e)
+    surface::other_end(
+        b,
+        vertex_count(b, classes),
+        edge_count(b, classes),
+        e,
+        classes,
+    )
 }
 
-// The weight of edge e; 0 past the last edge.
-pub fn weight(b: &[u8], e: usize) -> u64
-    ensures { λ r. ⌜ Reads (weightOf (graphOf (now (b .entry))) e) (2 ^ 32) r ⌝ }
+// The weight of edge e, by its class; 0 past the last edge.
+pub fn weight(b: &[u8], e: usize, classes: &[u8]) -> u64
+    ensures { λ r. ⌜ Reads (weightOf (graphOf (now (b .entry)) (now (classes .entry))) e) (2 ^ 33) r ⌝ }
 {
-    view::weight(b, vertex_count(b), edge_count(b), e)
+    surface::weight(
+        b,
+        vertex_count(b, classes),
+        edge_count(b, classes),
+        e,
+        classes,
+    )
 }

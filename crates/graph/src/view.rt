@@ -3,7 +3,7 @@
 // calls it sees no view.
 ghost use Prim.Native.Nat.{_^_};
 ghost use Rattle.graph.specs.Graph.{oneEnd, otherEnd, weightOf};
-ghost use Rattle.graph.specs.Bytes.{graphOf, Reads};
+ghost use Rattle.graph.specs.Bytes.{sheetGraph, Reads};
 ghost use Rattle.graph.specs.View.{CountsOf, Views};
 
 // A graph's bytes (document 01: a "sheet"), with how many vertices ("stops") and edges ("lines") there are.
@@ -16,7 +16,7 @@ pub struct View<'a> {
 impl<'a> View<'a> {
     // The view of the bytes, made of them and of their counts.
     pub fn new(b: &'a [u8], n: usize, m: usize) -> View<'a>
-        requires { ⌜ CountsOf (graphOf (now b)) n m ⌝ }
+        requires { ⌜ CountsOf (sheetGraph (now b)) n m ⌝ }
         ensures { λ v. ⌜ Views v (now (b .entry)) ⌝ }
     {
         View {
@@ -29,7 +29,7 @@ impl<'a> View<'a> {
     // One end of edge e; 0 past the last edge.
     pub fn one_end(self, e: usize) -> usize
         requires { ⌜ Views self (now (self .bytes)) ⌝ }
-        ensures { λ r. ⌜ Reads (oneEnd (graphOf (now (self .entry .bytes))) e) (2 ^ 16) r ⌝ }
+        ensures { λ r. ⌜ Reads (oneEnd (sheetGraph (now (self .entry .bytes))) e) (2 ^ 16) r ⌝ }
     {
         crate::one_end_at(self.bytes, self.edges, e)
     }
@@ -37,7 +37,7 @@ impl<'a> View<'a> {
     // The other end of edge e; 0 past the last edge.
     pub fn other_end(self, e: usize) -> usize
         requires { ⌜ Views self (now (self .bytes)) ⌝ }
-        ensures { λ r. ⌜ Reads (otherEnd (graphOf (now (self .entry .bytes))) e) (2 ^ 16) r ⌝ }
+        ensures { λ r. ⌜ Reads (otherEnd (sheetGraph (now (self .entry .bytes))) e) (2 ^ 16) r ⌝ }
     {
         crate::other_end_at(self.bytes, self.edges, e)
     }
@@ -45,7 +45,7 @@ impl<'a> View<'a> {
     // The weight of edge e; 0 past the last edge.
     pub fn weight(self, e: usize) -> u64
         requires { ⌜ Views self (now (self .bytes)) ⌝ }
-        ensures { λ r. ⌜ Reads (weightOf (graphOf (now (self .entry .bytes))) e) (2 ^ 32) r ⌝ }
+        ensures { λ r. ⌜ Reads (weightOf (sheetGraph (now (self .entry .bytes))) e) (2 ^ 32) r ⌝ }
     {
         crate::weight_at(self.bytes, self.edges, e)
     }
@@ -53,24 +53,24 @@ impl<'a> View<'a> {
 
 // One end of edge e, read through a view of bytes with n vertices and m edges.
 pub fn one_end(b: &[u8], n: usize, m: usize, e: usize) -> usize
-    requires { ⌜ CountsOf (graphOf (now b)) n m ⌝ }
-    ensures { λ r. ⌜ Reads (oneEnd (graphOf (now (b .entry))) e) (2 ^ 16) r ⌝ }
+    requires { ⌜ CountsOf (sheetGraph (now b)) n m ⌝ }
+    ensures { λ r. ⌜ Reads (oneEnd (sheetGraph (now (b .entry))) e) (2 ^ 16) r ⌝ }
 {
     View::new(b, n, m).one_end(e)
 }
 
 // The other end of edge e, read through a view.
 pub fn other_end(b: &[u8], n: usize, m: usize, e: usize) -> usize
-    requires { ⌜ CountsOf (graphOf (now b)) n m ⌝ }
-    ensures { λ r. ⌜ Reads (otherEnd (graphOf (now (b .entry))) e) (2 ^ 16) r ⌝ }
+    requires { ⌜ CountsOf (sheetGraph (now b)) n m ⌝ }
+    ensures { λ r. ⌜ Reads (otherEnd (sheetGraph (now (b .entry))) e) (2 ^ 16) r ⌝ }
 {
     View::new(b, n, m).other_end(e)
 }
 
 // The weight of edge e, read through a view.
 pub fn weight(b: &[u8], n: usize, m: usize, e: usize) -> u64
-    requires { ⌜ CountsOf (graphOf (now b)) n m ⌝ }
-    ensures { λ r. ⌜ Reads (weightOf (graphOf (now (b .entry))) e) (2 ^ 32) r ⌝ }
+    requires { ⌜ CountsOf (sheetGraph (now b)) n m ⌝ }
+    ensures { λ r. ⌜ Reads (weightOf (sheetGraph (now (b .entry))) e) (2 ^ 32) r ⌝ }
 {
     View::new(b, n, m).weight(e)
 }

@@ -15,7 +15,7 @@ use Rattle.lists.proofs.Every.{first-false, second-false}
 use Rattle.lists.proofs.Member.{in-map}
 use Rattle.lists.proofs.Places.{at-place}
 use Rattle.graph.specs.Graph.{Edge, Graph, edgeCount, noEdge, edgeAt}
-use Rattle.graph.specs.Bytes.{verticesIn, edgesIn, lengthFor, graphOf}
+use Rattle.graph.specs.Bytes.{verticesIn, edgesIn, lengthFor, sheetGraph}
 use Rattle.graph.specs.Fault.{Fault, faultIf, refusedOr}
 use Rattle.graph.specs.Valid.{ValidEdge, IsGraph, Counted}
 use Rattle.graph.proofs.Decoded.{vertices-head, edges-sized}
@@ -62,7 +62,7 @@ no-fault g (some k) q = let z : _≡_ {A = ℕ} 0 1 = cc in absurd (omega arith)
 
 module _ (b : List ℕ) where
   abbrev g : Graph
-  g = graphOf b
+  g = sheetGraph b
 
   -- To a graph's bytes the check says yes, with the graph's counts.
   pub graph-yes : IsGraph b → checkOf b ≡ yes (g .vertices) (edgeCount g)

@@ -12,7 +12,7 @@ use lib.Seq.{drop-cons}
 use lib.Dec.{ltb, eqb}
 use borrow.Author.Tests.{lt-ltb, le-ltb, le-leb, lt-leb, eq-eqb, ne-eqb}
 use Rattle.graph.specs.Graph.{Edge, Graph, edgeCount, noEdge, edgeAt}
-use Rattle.graph.specs.Bytes.{verticesIn, edgesIn, lengthFor, graphOf}
+use Rattle.graph.specs.Bytes.{verticesIn, edgesIn, lengthFor, sheetGraph}
 use Rattle.graph.specs.Fault.{Fault, faultIf, firstFault, refusedOr}
 use Rattle.graph.specs.Valid.{ValidEdge}
 use Rattle.graph.proofs.Faults.{one-fault}
@@ -129,6 +129,6 @@ module _ (b : List ℕ) where
   unfolding checkOf firstFault refusedOr
   head-decides q = rw q
 
-  pub edges-decide : headFault b ≡ none → checkAll (graphOf b) ≡ checkOf b
+  pub edges-decide : headFault b ≡ none → checkAll (sheetGraph b) ≡ checkOf b
   unfolding checkOf firstFault
-  edges-decide q = rw q (ap (answerTo (graphOf b)) (sym (one-fault (edgesFault (graphOf b .vertices) (graphOf b .edges)))))
+  edges-decide q = rw q (ap (answerTo (sheetGraph b)) (sym (one-fault (edgesFault (sheetGraph b .vertices) (sheetGraph b .edges)))))

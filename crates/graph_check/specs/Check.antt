@@ -6,7 +6,7 @@ use mathlib.Core.List.{List, [], _∷_, map}
 use lib.ListN.{length}
 use lib.Dec.{eqb, leb, ltb}
 use Rattle.graph.specs.Graph.{Edge, Graph, edgeCount}
-use Rattle.graph.specs.Bytes.{verticesIn, edgesIn, lengthFor, graphOf}
+use Rattle.graph.specs.Bytes.{verticesIn, edgesIn, lengthFor, sheetGraph}
 use Rattle.graph.specs.Fault.{Fault, faultIf, firstFault, refusedOr}
 use Rattle.graph_check.specs.declared.Cause.{Cause}
 use Rattle.graph_check.specs.declared.Cause.the-variants.{Length, Vertices, Edges, End, Loop, Weight}
@@ -66,4 +66,4 @@ checkAll g = answerTo g (edgesFault (g .vertices) (g .edges))
 
 -- The bytes: the head, then edge by edge.
 unfoldable pub checkOf : List ℕ → Answer
-checkOf b = let g = graphOf b in answerTo g (firstFault (headFault b ∷ edgesFault (g .vertices) (g .edges) ∷ []))
+checkOf b = let g = sheetGraph b in answerTo g (firstFault (headFault b ∷ edgesFault (g .vertices) (g .edges) ∷ []))

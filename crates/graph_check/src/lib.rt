@@ -2,7 +2,7 @@
 // with them otherwise. It takes any bytes. The words of the contracts stand in specs/: `checkOf` is the check.
 use graph::view;
 ghost use mathlib.Core.Path.{_≡_};
-ghost use Rattle.graph.specs.Bytes.{graphOf};
+ghost use Rattle.graph.specs.Bytes.{sheetGraph};
 ghost use Rattle.graph_check.specs.Check.{numberOf, says, checkAll, checkOf};
 
 // What can be wrong with a graph's bytes.
@@ -43,10 +43,10 @@ pub fn number(f: Cause) -> u16
 
 // The check edge by edge.
 fn check_edges(b: &[u8]) -> Checked
-    ensures { λ r. ⌜ says r ≡ checkAll (graphOf (now (b .entry))) ⌝ }
+    ensures { λ r. ⌜ says r ≡ checkAll (sheetGraph (now (b .entry))) ⌝ }
 {
-    let n = graph::vertex_count(b);
-    let m = graph::edge_count(b);
+    let n = graph::sheet_vertices(b);
+    let m = graph::sheet_edges(b);
     let mut e = 0;
     while e < m {
         let one = view::one_end(b, n, m, e);

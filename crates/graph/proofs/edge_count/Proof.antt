@@ -1,28 +1,15 @@
--- `graph::edge_count` meets its contract: where the length is right the head says how many edges there are, and elsewhere there are none.
+-- `graph::edge_count` meets its contract: the graph has as many edges as the sheet.
 -- Assumes nothing.
-use native.Mathlib.Omega.{arith}
 use borrow.Author.Needs.{needs}
-use Rattle.graph.proofs.Decoded.{edges-sized, edges-unsized}
+use Rattle.graph.proofs.Surfaced.{edge-count-sheet}
 use Rattle.graph.proofs.edge_count.Statement.{statement}
 use Rattle.graph.proofs.edge_count.Tie as tie
 
+sheet-edges-requires : tie.Need-sheet-edges-requires
+sheet-edges-requires c κs = search needs
+
 returns : tie.Need-returns
-returns c = omega (arith, edges-unsized (c .before .before .args .b .now) (omega arith))
-
-u16-within-requires : tie.Need-u16-within-requires
-u16-within-requires c κs = search needs
-
-mul-if2 : tie.Need-mul-if2
-mul-if2 c = search needs
-
-add-if2 : tie.Need-add-if2
-add-if2 c = search needs
-
-returns-2 : tie.Need-returns-2
-returns-2 c = omega (arith, edges-sized (c .before .before .before .before .args .b .now) (omega arith))
-
-returns-3 : tie.Need-returns-3
-returns-3 c = omega (arith, edges-unsized (c .before .before .before .before .args .b .now) (omega arith))
+returns c = let s = c .before .before .before .args in rw (edge-count-sheet (s .b .now) (s .classes .now)) (c .sheet-edges .ensures)
 
 pub edge-count-spec : {M : Type 1} → statement M
-edge-count-spec = tie.close (tie.spec returns u16-within-requires mul-if2 add-if2 returns-2 returns-3)
+edge-count-spec = tie.close (tie.spec sheet-edges-requires returns)

@@ -6,7 +6,7 @@ use mathlib.Core.List.{List}
 use native.Mathlib.Omega.{arith}
 use lib.ListN.{length}
 use Rattle.graph.specs.Graph.{Edge, edgeCount}
-use Rattle.graph.specs.Bytes.{endsAt, graphOf}
+use Rattle.graph.specs.Bytes.{endsAt, sheetGraph}
 use Rattle.graph.proofs.Decoded.{one-end-at, ends-within, edge-past}
 use Rattle.graph.proofs.one_end_at.Statement.{statement}
 use Rattle.graph.proofs.one_end_at.Tie as tie
@@ -19,7 +19,7 @@ module _ (c : tie.Then1) where
   abbrev e : ℕ
   e = c .before .before .args .e
 
-  is-edge : e < edgeCount (graphOf b)
+  is-edge : e < edgeCount (sheetGraph b)
   is-edge = omega arith
 
   inside : endsAt e + 4 ≤ length b
@@ -40,7 +40,7 @@ returns a = let c = a .before in rw (one-end-at (b c) (e c) (is-edge c)) (a .u16
 returns-2 : tie.Need-returns-2
 returns-2 c =
     let s = c .before .before .args in
-    omega (arith, ap (λ (x : Edge). x .one) (edge-past (graphOf (s .b .now)) (s .e) (omega arith)))
+    omega (arith, ap (λ (x : Edge). x .one) (edge-past (sheetGraph (s .b .now)) (s .e) (omega arith)))
 
 pub one-end-at-spec : {M : Type 1} → statement M
 one-end-at-spec = tie.close (tie.spec mul-u16-within add-u16-within u16-within-requires returns returns-2)

@@ -1,16 +1,15 @@
--- `graph::vertex_count` meets its contract: the graph's number of vertices is the first field.
+-- `graph::vertex_count` meets its contract: the graph has as many vertices as the sheet.
 -- Assumes nothing.
 use borrow.Author.Needs.{needs}
-use Rattle.graph.specs.Bytes.{graphOf}
+use Rattle.graph.proofs.Surfaced.{vertices-sheet}
 use Rattle.graph.proofs.vertex_count.Statement.{statement}
 use Rattle.graph.proofs.vertex_count.Tie as tie
 
-u16-at-requires : tie.Need-u16-at-requires
-u16-at-requires c κs = search needs
+sheet-vertices-requires : tie.Need-sheet-vertices-requires
+sheet-vertices-requires c κs = search needs
 
 returns : tie.Need-returns
-unfolding graphOf
-returns c = c .u16-at .ensures
+returns c = let s = c .before .before .before .args in rw (vertices-sheet (s .b .now) (s .classes .now)) (c .sheet-vertices .ensures)
 
 pub vertex-count-spec : {M : Type 1} → statement M
-vertex-count-spec = tie.close (tie.spec u16-at-requires returns)
+vertex-count-spec = tie.close (tie.spec sheet-vertices-requires returns)

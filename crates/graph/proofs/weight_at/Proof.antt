@@ -6,7 +6,7 @@ use mathlib.Core.List.{List}
 use native.Mathlib.Omega.{arith}
 use lib.ListN.{length}
 use Rattle.graph.specs.Graph.{Edge, edgeCount}
-use Rattle.graph.specs.Bytes.{weightAt, graphOf}
+use Rattle.graph.specs.Bytes.{weightAt, sheetGraph}
 use Rattle.graph.proofs.Decoded.{weight-at, weight-within, edge-past}
 use Rattle.graph.proofs.weight_at.Statement.{statement}
 use Rattle.graph.proofs.weight_at.Tie as tie
@@ -22,10 +22,10 @@ module _ (c : tie.Then1) where
   abbrev e : ℕ
   e = c .before .before .args .e
 
-  is-edge : e < edgeCount (graphOf b)
+  is-edge : e < edgeCount (sheetGraph b)
   is-edge = omega arith
 
-  inside : weightAt (edgeCount (graphOf b)) e + 4 ≤ length b
+  inside : weightAt (edgeCount (sheetGraph b)) e + 4 ≤ length b
   inside = weight-within b e is-edge
 
 mul-u32-within : tie.Need-mul-u32-within
@@ -49,7 +49,7 @@ returns a = let c = a .before in rw (weight-at (b c) (e c) (is-edge c) (m c) (om
 returns-2 : tie.Need-returns-2
 returns-2 c =
     let s = c .before .before .args in
-    omega (arith, ap (λ (x : Edge). x .weight) (edge-past (graphOf (s .b .now)) (s .e) (omega arith)))
+    omega (arith, ap (λ (x : Edge). x .weight) (edge-past (sheetGraph (s .b .now)) (s .e) (omega arith)))
 
 pub weight-at-spec : {M : Type 1} → statement M
 weight-at-spec = tie.close (tie.spec mul-u32-within add-u32-within mul-u32-within-2 add-u32-within-2 u32-within-requires returns returns-2)

@@ -6,7 +6,7 @@ use mathlib.Core.Option.{some, none}
 use native.Mathlib.Omega.{arith}
 use borrow.Author.Needs.{needs}
 use Rattle.graph.specs.Graph.{Edge, Graph, edgeCount, edgeAt}
-use Rattle.graph.specs.Bytes.{graphOf}
+use Rattle.graph.specs.Bytes.{sheetGraph}
 use Rattle.graph.specs.Fault.{refusedOr}
 use Rattle.graph.specs.Valid.{ValidEdge}
 use Rattle.graph_check.specs.Check.{number, edgeFault, answerTo, checkAll}
@@ -15,14 +15,14 @@ use Rattle.graph_check.proofs.check_edges.Statement.{statement}
 use Rattle.graph_check.proofs.check_edges.Tie as tie
 
 abbrev Inv-loop : tie.InvT-loop
-Inv-loop b n m e₀ e = faultFrom (graphOf b) 0 ≡ faultFrom (graphOf b) e
+Inv-loop b n m e₀ e = faultFrom (sheetGraph b) 0 ≡ faultFrom (sheetGraph b) e
 
 abbrev μ-loop : tie.MeasureT-loop
 μ-loop b n m e₀ e = m - e
 
 -- The graph, where a turn begins.
 abbrev g : tie.At-loop Inv-loop μ-loop → Graph
-g t = graphOf (t .before .before .before .before .args .b .now)
+g t = sheetGraph (t .before .before .before .before .args .b .now)
 
 -- Where an edge is read: its fault, if it has one, is the graph's, and otherwise those behind it decide.
 module _ (t : tie.After-weight Inv-loop μ-loop) where
@@ -52,11 +52,11 @@ module _ (t : tie.After-weight Inv-loop μ-loop) where
 abbrev read : tie.Else3 Inv-loop μ-loop → tie.After-weight Inv-loop μ-loop
 read t = t .before .before .before
 
-vertex-count-requires : tie.Need-vertex-count-requires Inv-loop μ-loop
-vertex-count-requires c κs = search needs
+sheet-vertices-requires : tie.Need-sheet-vertices-requires Inv-loop μ-loop
+sheet-vertices-requires c κs = search needs
 
-edge-count-requires : tie.Need-edge-count-requires Inv-loop μ-loop
-edge-count-requires c κs = search needs
+sheet-edges-requires : tie.Need-sheet-edges-requires Inv-loop μ-loop
+sheet-edges-requires c κs = search needs
 
 loop-holds : tie.Need-loop-holds Inv-loop μ-loop
 loop-holds c = refl
@@ -116,8 +116,8 @@ check-edges-spec =
     (tie.spec
     Inv-loop
     μ-loop
-    vertex-count-requires
-    edge-count-requires
+    sheet-vertices-requires
+    sheet-edges-requires
     loop-holds
     one-end-requires
     other-end-requires

@@ -6,7 +6,7 @@ use contract.Running.{givenOf, tables, tablesOf}
 use denote.Triple.Spec.{tripleOf}
 use denote.Triple.Table.{entered, cited}
 use Rattle.graph.specs.Graph.{otherEnd}
-use Rattle.graph.specs.Bytes.{graphOf, Reads}
+use Rattle.graph.specs.Bytes.{sheetGraph, Reads}
 use Rattle.graph.proofs.Through.{through-meets}
 use Rattle.graph.proofs.view.View.new as new
 use Rattle.graph.proofs.view.View.new.Symbol as new-def
@@ -26,7 +26,7 @@ unfolding code.routine tablesOf
 other-end-spec 𝓤 H 𝓜 𝓖 𝓡 =
     entered 𝓤 H (tripleOf 𝓤 H (𝓖 .A) above.signature (above.spec 𝓤 H (𝓖 .A) (𝓜 .mem) (𝓡 .run)))
     (tables 𝓤 H 𝓜 𝓡 code.env .C) (tables 𝓤 H 𝓜 𝓡 code.env .Λ) #graph·other-end code.function (code.unfolded 𝓤 H 𝓜 𝓡)
-    (through-meets 𝓤 H (𝓖 .A) (givenOf 𝓤 H 𝓜 𝓖) (𝓜 .mem) (𝓡 .run) (λ (b : List ℕ) (e r : ℕ). Reads (otherEnd (graphOf b) e) (2 ^ 16) r)
+    (through-meets 𝓤 H (𝓖 .A) (givenOf 𝓤 H 𝓜 𝓖) (𝓜 .mem) (𝓡 .run) (λ (b : List ℕ) (e r : ℕ). Reads (otherEnd (sheetGraph b) e) (2 ^ 16) r)
     (tablesOf 𝓤 H 𝓜 (tables 𝓤 H 𝓜 𝓡 code.env)) #graph·view-other-end
     (cited 𝓤 H (tripleOf 𝓤 H (𝓖 .A) new.signature (new.spec 𝓤 H (𝓖 .A) (𝓜 .mem) (𝓡 .run))) 𝓜 𝓡 code.env
     #graph·view-new new-def.routine code.calls-graph·view·View·new (new-thm.met 𝓤 H 𝓜 𝓖 𝓡))

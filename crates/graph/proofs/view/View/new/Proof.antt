@@ -34,7 +34,7 @@ use denote.Triple.Spec.{Meets, tripleOf}
 use denote.Triple.Table.{entered}
 use denote.Triple.Walked.{says, needs, Stays, stay-none, stay-none-slice, walkOf, goes-none, goes-none-slice, Walks, ends-at, walked, walk-meets}
 use denote.Exit.{yes}
-use Rattle.graph.specs.Bytes.{graphOf}
+use Rattle.graph.specs.Bytes.{sheetGraph}
 use Rattle.graph.specs.View.{CountsOf}
 use Rattle.graph.specs.declared.view.View.{View}
 use Rattle.graph.proofs.view.View as T
@@ -48,7 +48,7 @@ abbrev stayed : Stays (new.ended .signature .params) (new.ended .kept)
 stayed = (stay-none-slice (0 ∷ []) tt (plain (λ _. u8)) yes, (stay-none (λ _. usize) yes, (stay-none (λ _. usize) yes, tt)))
 
 module _ {M : Type 1} (𝓤 : URA M) (H : Heap 𝓤) (A : Atoms 𝓤) (W : Given 𝓤 H A) (mem : Memory → SProp 𝓤) (run : Routine → Fun 𝓤) (κ : Lft) (q : Share) (s : RefT (List ℕ))
-    (n m : ℕ) (n-fits : n < 2 ^ 64) (m-fits : m < 2 ^ 64) (counts : CountsOf (graphOf (now s)) n m) where
+    (n m : ℕ) (n-fits : n < 2 ^ 64) (m-fits : m < 2 ^ 64) (counts : CountsOf (sheetGraph (now s)) n m) where
   abbrev α : NamedLft
   α = namedLft 1 0 tt (κ, tt)
 

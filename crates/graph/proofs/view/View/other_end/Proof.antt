@@ -6,7 +6,7 @@ use contract.Running.{givenOf, tables, tablesOf}
 use denote.Triple.Spec.{tripleOf}
 use denote.Triple.Table.{entered, cited}
 use Rattle.graph.specs.Graph.{otherEnd}
-use Rattle.graph.specs.Bytes.{graphOf, Reads}
+use Rattle.graph.specs.Bytes.{sheetGraph, Reads}
 use Rattle.graph.proofs.Reading.{reading-meets}
 use Rattle.graph.proofs.other_end_at as callee
 use Rattle.graph.proofs.other_end_at.Symbol as callee-def
@@ -22,7 +22,7 @@ unfolding code.routine tablesOf
 other-end-spec 𝓤 H 𝓜 𝓖 𝓡 =
     entered 𝓤 H (tripleOf 𝓤 H (𝓖 .A) reader.signature (reader.spec 𝓤 H (𝓖 .A) (𝓜 .mem) (𝓡 .run)))
     (tables 𝓤 H 𝓜 𝓡 code.env .C) (tables 𝓤 H 𝓜 𝓡 code.env .Λ) #graph·view-other-end code.function (code.unfolded 𝓤 H 𝓜 𝓡)
-    (reading-meets 𝓤 H (𝓖 .A) (givenOf 𝓤 H 𝓜 𝓖) (λ (b : List ℕ) (e r : ℕ). Reads (otherEnd (graphOf b) e) (2 ^ 16) r)
+    (reading-meets 𝓤 H (𝓖 .A) (givenOf 𝓤 H 𝓜 𝓖) (λ (b : List ℕ) (e r : ℕ). Reads (otherEnd (sheetGraph b) e) (2 ^ 16) r)
     (tablesOf 𝓤 H 𝓜 (tables 𝓤 H 𝓜 𝓡 code.env)) #graph·other-end-at
     (cited 𝓤 H (tripleOf 𝓤 H (𝓖 .A) callee.signature (callee.spec 𝓤 H (𝓖 .A) (𝓜 .mem) (𝓡 .run))) 𝓜 𝓡 code.env
     #graph·other-end-at callee-def.routine code.calls-graph·other-end-at (callee-thm.met 𝓤 H 𝓜 𝓖 𝓡)))
