@@ -1,13 +1,21 @@
 -- The tests of what every question brings, in the order of document 01: what each makes of what is refused.
 -- Assumes nothing.
 use Prim.Native.Nat.{ℕ}
-use mathlib.Core.Path.{_≡_, sym}
-use mathlib.Core.List.{[], _∷_}
+use mathlib.Core.Path.{_≡_, sym, _∙_}
+use mathlib.Core.List.{List, [], _∷_}
 use mathlib.Core.Option.{some, none}
-use Rattle.graph.specs.Fault.{Fault, firstFault}
+use lib.ListN.{length}
+use borrow.Author.Tests.{eq-eqb, ne-eqb}
+use Rattle.graph.specs.Graph.{edgeCount}
+use Rattle.graph.specs.Bytes.{sheetGraph, graphOf}
+use Rattle.graph.specs.Fault.{Fault, faultUnless, firstFault}
+use Rattle.graph.specs.Valid.{Valid}
+use Rattle.graph.proofs.Faults.{one-fault}
+use Rattle.graph.proofs.Surfaced.{vertices-sheet, plain-graph}
 use Rattle.graph_check.specs.Check as sheet
 use Rattle.graph_check.proofs.Exactly.{yes-graph}
-use Rattle.rules.specs.Questions.{Question, crewsIn, numberIn, sheetFault, crewFault, questionFault}
+use Rattle.rules.specs.Questions.{Question, listed, graphIn, crewsIn, numberIn, sheetFault, classFault, adjustedFault, surfaceFault, crewFault, questionFault}
+use Rattle.rules.proofs.Surfaces.{each-light}
 
 module _ (q : Question) where
   -- The graph's bytes, 11 to 16,
@@ -15,16 +23,35 @@ module _ (q : Question) where
   unfolding questionFault sheetFault numberIn firstFault
   sheet-refused e = rw e
 
+  -- The class list: without one nothing is refused of a sheet that passed its check;
+  pub unlisted : q .classes ≡ none → Valid (sheetGraph (q .sheet)) → none ≡ surfaceFault q
+  unfolding surfaceFault classFault firstFault
+  unlisted e valid = rw (e, plain-graph (q .sheet), each-light (sheetGraph (q .sheet)) (λ i h. valid .each-edge i h .weight-most))
+
+  -- with one its length, 53, and then the weights, 54, decide.
+  module _ {classes : List ℕ} (e : q .classes ≡ some classes) where
+    pub count-refused : (length classes ≡ edgeCount (sheetGraph (q .sheet)) → ⊥) → some 53 ≡ surfaceFault q
+    unfolding surfaceFault classFault faultUnless firstFault
+    count-refused d = rw (e, ne-eqb (length classes) (edgeCount (sheetGraph (q .sheet))) d)
+
+    pub weights-decide : length classes ≡ edgeCount (sheetGraph (q .sheet)) → {f : Fault} → adjustedFault (graphOf (q .sheet) classes) ≡ f → f ≡ surfaceFault q
+    unfolding surfaceFault classFault faultUnless firstFault
+    weights-decide l {f} p = sym (one-fault f) ∙ rw (e, eq-eqb (length classes) (edgeCount (sheetGraph (q .sheet))) l, p)
+
   module _ {n m : ℕ} (passed : sheet.checkOf (q .sheet) ≡ sheet.yes n m) where
-    -- then the crews, 21.
-    crews-decide : {f : Fault} → crewFault (crewsIn q) n ≡ f → firstFault (f ∷ []) ≡ questionFault q
+    -- then the class list, 53 and 54,
+    lists-decide : {f : Fault} → f ≡ surfaceFault q → firstFault (f ∷ crewFault (crewsIn q) (graphIn q .vertices) ∷ []) ≡ questionFault q
     unfolding questionFault sheetFault numberIn firstFault
-    crews-decide e = rw (passed, sym (yes-graph (q .sheet) passed .vertices-are), e)
+    lists-decide e = rw (passed, ← e)
 
-    pub crews-refused : {number : ℕ} → crewFault (crewsIn q) n ≡ some number → some number ≡ questionFault q
+    pub lists-refused : {number : ℕ} → some number ≡ surfaceFault q → some number ≡ questionFault q
     unfolding firstFault
-    crews-refused e = crews-decide e
+    lists-refused e = lists-decide e
 
-    pub nothing-refused : crewFault (crewsIn q) n ≡ none → none ≡ questionFault q
+    -- then the crews, 21.
+    pub crews-decide : {f : Fault} → none ≡ surfaceFault q → f ≡ crewFault (crewsIn q) n → f ≡ questionFault q
     unfolding firstFault
-    nothing-refused e = crews-decide e
+    crews-decide {f} p e = sym (one-fault f) ∙ rw (e, passed-vertices) (lists-decide p)
+      where
+        passed-vertices : n ≡ graphIn q .vertices
+        passed-vertices = yes-graph (q .sheet) passed .vertices-are ∙ sym (vertices-sheet (q .sheet) (listed (q .classes)))

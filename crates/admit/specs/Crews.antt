@@ -11,16 +11,21 @@ use Rattle.rules.specs.Questions.{crewFault}
 use Rattle.admit.specs.declared.crews.Kind.{Kind}
 use Rattle.admit.specs.declared.crews.Kind.the-variants.{Rooted, Unrooted}
 use Rattle.admit.specs.declared.refusal.Refusal.the-variants.{Crews}
+use Rattle.admit.specs.declared.brought.Lists.{Lists}
 use Rattle.admit.specs.Refusals.{numberOf}
+use Rattle.admit.specs.Brought.{brought}
 
 -- The kind as the rules have it.
 abbrev pub kindOf : Kind → rules.Kind
 kindOf Rooted = rules.yards
 kindOf Unrooted = rules.roving
 
--- The question, and whom the cover is for.
+-- The question without lists, the question with those that are brought, and whom the cover is for.
 abbrev pub asks : Kind → ℕ → List ℕ → rules.Question
 asks kind k b = rules.question (kindOf kind) k b
+
+abbrev pub asksWith : Kind → ℕ → List ℕ → Lists → List ℕ → rules.Question
+asksWith kind k b lists classes = record { kind = kindOf kind; k = k; sheet = b; classes = brought (lists .classes) classes }
 
 abbrev pub crewsOf : Kind → ℕ → cover.Crews
 crewsOf kind k = rules.crewsBy (kindOf kind) k

@@ -5,12 +5,14 @@ use mathlib.Core.Option.{some, none}
 use Rattle.graph.specs.Fault.{Fault}
 use Rattle.graph_check.specs.Check as sheet
 use Rattle.admit.specs.declared.refusal.Refusal.{Refusal}
-use Rattle.admit.specs.declared.refusal.Refusal.the-variants.{Sheet, Crews, Limit, Room, Length, Starts, Entries, Trees, Vertices, TreeNumber, WalkRoom}
+use Rattle.admit.specs.declared.refusal.Refusal.the-variants.{Sheet, Classes, Adjusted, Crews, Limit, Room, Length, Starts, Entries, Trees, Vertices, TreeNumber, WalkRoom}
 use Rattle.admit.specs.declared.Admitted.{Admitted}
 use Rattle.admit.specs.declared.Admitted.the-variants.{Refused, Fits}
 
 abbrev pub numberOf : Refusal → ℕ
 numberOf (Sheet f) = sheet.numberOf f
+numberOf Classes = 53
+numberOf Adjusted = 54
 numberOf Crews = 21
 numberOf Limit = 22
 numberOf Room = 23

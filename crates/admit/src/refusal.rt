@@ -15,6 +15,10 @@ pub const LEAST_WALK_ROOM: usize = 1022;
 pub enum Refusal {
     // The graph's bytes have a fault.
     Sheet(graph_check::Cause),
+    // The class list has not one byte for each edge.
+    Classes,
+    // A weight by its class is too large.
+    Adjusted,
     // There are no crews, too many, or more roots than vertices.
     Crews,
     // The limit is too large.
@@ -43,6 +47,8 @@ pub fn number(refusal: Refusal) -> u32
 {
     match refusal {
         Refusal::Sheet(f) => graph_check::number(f) as u32,
+        Refusal::Classes => 53,
+        Refusal::Adjusted => 54,
         Refusal::Crews => 21,
         Refusal::Limit => 22,
         Refusal::Room => 23,

@@ -5,12 +5,15 @@ use mathlib.Core.Path.{_≡_, refl}
 use mathlib.Core.List.{List, [], _∷_, List·Memᴰ·head, List·Memᴰ·tail}
 use mathlib.Core.Option.{none}
 use Rattle.graph.specs.Graph.{Graph}
+use Rattle.graph.specs.Bytes.{sheetGraph, graphOf}
 use Rattle.graph.specs.Fault.{Fault}
 use Rattle.graph.specs.Valid.{Valid}
 use Rattle.graph.proofs.Faults.{quiet-each}
-use Rattle.rules.specs.Questions.{Kind, yards, roving, Question, graphIn, crewsBy, crewsIn, sheetFault, crewFault, questionFault}
+use Rattle.graph.proofs.Surfaced.{surfaced-valid}
+use Rattle.rules.specs.Questions.{Kind, yards, roving, Question, listed, graphIn, crewsBy, crewsIn, sheetFault, surfaceFault, crewFault, questionFault}
 use Rattle.rules.specs.Fit.{CrewsFit}
 use Rattle.rules.proofs.SheetRight.{sheet-right}
+use Rattle.rules.proofs.Surfaces.{weights-light}
 use Rattle.rules.proofs.CrewsRight.{rooted-fit, unrooted-fit}
 
 pub record Admitted (q : Question) : Type 0 where
@@ -24,12 +27,15 @@ crews-fit g yards k e = rooted-fit g k e
 crews-fit g roving k e = unrooted-fit g k e
 
 pub admitted : (q : Question) → questionFault q ≡ none → Admitted q
-unfolding questionFault
+unfolding questionFault graphOf
 admitted q e =
-    let faults : List Fault = sheetFault (q .sheet) ∷ crewFault (crewsIn q) (graphIn q .vertices) ∷ [] in
-    let right = quiet-each faults e (List·Memᴰ·tail (List·Memᴰ·head refl)) in
+    let g = sheetGraph (q .sheet) in
+    let faults : List Fault = sheetFault (q .sheet) ∷ surfaceFault q ∷ crewFault (crewsIn q) (graphIn q .vertices) ∷ [] in
+    let sheet = sheet-right (q .sheet) .0 (quiet-each faults e (List·Memᴰ·head refl)) in
+    let light = weights-light q (quiet-each faults e (List·Memᴰ·tail (List·Memᴰ·head refl))) in
+    let right = quiet-each faults e (List·Memᴰ·tail (List·Memᴰ·tail (List·Memᴰ·head refl))) in
     record {
-      valid = sheet-right (q .sheet) .0 (quiet-each faults e (List·Memᴰ·head refl)) .valid;
+      valid = surfaced-valid g (listed (q .classes)) (sheet .valid) light;
       crews-right = right;
       fit = crews-fit (graphIn q) (q .kind) (q .k) right;
     }

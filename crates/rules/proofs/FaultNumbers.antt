@@ -4,13 +4,13 @@ use Prim.Native.Nat.{ℕ, _≤_}
 use mathlib.Core.Path.{_≡_, refl, sym, _∙_}
 use mathlib.Core.Bool.{Bool, true, false}
 use mathlib.Core.List.{List, [], _∷_, map}
-use mathlib.Core.Option.{some, none, Option·none-ne-some}
+use mathlib.Core.Option.{Option, some, none, Option·none-ne-some}
 use native.Mathlib.Omega.{arith}
 use Rattle.graph.specs.Graph.{Edge}
-use Rattle.graph.specs.Bytes.{graphOf}
-use Rattle.graph.specs.Fault.{Fault, faultIf, firstFault, refusedOr}
+use Rattle.graph.specs.Bytes.{sheetGraph}
+use Rattle.graph.specs.Fault.{Fault, faultIf, faultUnless, firstFault, refusedOr}
 use Rattle.graph_check.specs.Check.{yes, number, edgeFault, edgesFault, headFault, checkOf}
-use Rattle.rules.specs.Questions.{numberIn, sheetFault, crewFault, Question, questionFault}
+use Rattle.rules.specs.Questions.{numberIn, sheetFault, classFault, adjustedFault, surfaceFault, crewFault, Question, questionFault}
 
 abbrev pub Numbered : Fault → Type 0
 Numbered f = (k : ℕ) → f ≡ some k → 11 ≤ k
@@ -19,6 +19,11 @@ pub if-numbered : (test : Bool) (n : ℕ) → 11 ≤ n → Numbered (faultIf tes
 unfolding faultIf
 if-numbered true n h k q = let e : n ≡ k = cc in omega arith
 if-numbered false n h k q = absurd (Option·none-ne-some k q)
+
+pub unless-numbered : (test : Bool) (n : ℕ) → 11 ≤ n → Numbered (faultUnless test n)
+unfolding faultUnless
+unless-numbered true n h k q = absurd (Option·none-ne-some k q)
+unless-numbered false n h k q = let e : n ≡ k = cc in omega arith
 
 -- The first of none, and of one more.
 pub first-none : Numbered (firstFault [])
@@ -54,12 +59,22 @@ number-back none n m = refl
 sheet-numbered : (b : List ℕ) → Numbered (sheetFault b)
 unfolding sheetFault checkOf
 sheet-numbered b k q =
-    let edges = edgesFault (graphOf b .vertices) (graphOf b .edges) in
+    let edges = edgesFault (sheetGraph b .vertices) (sheetGraph b .edges) in
     let whole : Numbered (firstFault (headFault b ∷ edges ∷ [])) =
-    first-next (headFault b) (edges ∷ []) (head-numbered b) (first-next edges [] (edges-numbered (graphOf b .vertices) (graphOf b .edges)) first-none) in
+    first-next (headFault b) (edges ∷ []) (head-numbered b) (first-next edges [] (edges-numbered (sheetGraph b .vertices) (sheetGraph b .edges)) first-none) in
     whole k (sym (number-back (firstFault (headFault b ∷ edges ∷ [])) _ _) ∙ q)
+
+-- The fault of a class list, and of the weights by it.
+class-numbered : (classes : Option (List ℕ)) (m : ℕ) → Numbered (classFault classes m)
+unfolding classFault
+class-numbered none m = λ k q. absurd (Option·none-ne-some k q)
+class-numbered (some classes) m = unless-numbered _ _ (omega arith)
+
+surface-numbered : (q : Question) → Numbered (surfaceFault q)
+unfolding surfaceFault adjustedFault
+surface-numbered q = first-next _ _ (class-numbered (q .classes) _) (first-next _ _ (if-numbered _ _ (omega arith)) first-none)
 
 -- What is refused of every question.
 pub question-numbered : (q : Question) → Numbered (questionFault q)
 unfolding questionFault crewFault
-question-numbered q = first-next _ _ (sheet-numbered (q .sheet)) (first-next _ _ (if-numbered _ _ (omega arith)) first-none)
+question-numbered q = first-next _ _ (sheet-numbered (q .sheet)) (first-next _ _ (surface-numbered q) (first-next _ _ (if-numbered _ _ (omega arith)) first-none))

@@ -17,6 +17,8 @@ pub mod TreeVertices
 pub mod Fields
 -- the graph's bytes are not refused exactly where they are a graph's
 pub mod SheetRight
+-- weights by class are not refused exactly where none is too large; without a class list a question is as it was
+pub mod Surfaces
 -- crews that are not refused are 1 to 32, and fit the graph
 pub mod CrewsRight
 -- a question that is not refused is about a valid graph and fitting crews

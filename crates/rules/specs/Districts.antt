@@ -10,6 +10,7 @@ use Rattle.rules.specs.Questions.{Question, question, yards, roving, lea
 use Rattle.lists.specs.Count as Count
 use Rattle.lists.specs.Lists as Lists
 use Rattle.lists.specs.Sort as Sort
+use Rattle.graph.specs.Surface as Surface
 use Rattle.graph.specs.Bytes as Bytes
 use Rattle.graph_check.specs.Check as Check
 use Rattle.matching.specs.Assignable as Assignable
@@ -67,7 +68,8 @@ unfolding headD
     Count.count Count.anyBelow Count.from Count.below
     Lists.filter Lists.any Lists.all Lists.firstThat Lists.flat Lists.sumOf Lists.largest Lists.member Lists.without
     Sort.insertBy Sort.sortBy Sort.rise
-    Bytes.u16At Bytes.u32At Bytes.edgeIn Bytes.edgesHeld Bytes.graphOf Check.edgeFault Check.edgesFault Check.headFault Check.checkOf
+    Bytes.u16At Bytes.u32At Bytes.edgeIn Bytes.edgesHeld Bytes.sheetGraph Bytes.graphOf
+    Surface.percentOf Surface.adjusted Surface.classAt Surface.surfaced Check.edgeFault Check.edgesFault Check.headFault Check.checkOf
     Assignable.assignable
     Walk.totalWeight Cover.treeWeight Cover.heaviest
     CoverBytes.treeIn CoverBytes.decode
@@ -87,7 +89,7 @@ unfolding headD
     Fault.faultIf Fault.faultUnless Fault.firstFault Fault.refusedOr
     CheckCover.startsRight CheckCover.startsBelow CheckCover.entryRises CheckCover.entryRight CheckCover.entriesRight CheckCover.loopFree
     CheckCover.allJoined CheckCover.treesRight CheckCover.verticesCovered CheckCover.coverFault
-    Questions.numberIn Questions.sheetFault Questions.crewCount Questions.tooManyRoots Questions.crewFault Questions.limitFault
+    Questions.numberIn Questions.sheetFault Questions.classFault Questions.adjustedFault Questions.surfaceFault Questions.crewCount Questions.tooManyRoots Questions.crewFault Questions.limitFault
     Questions.roomFault Questions.questionFault Questions.trialFault Questions.askTrial Questions.bestFault Questions.askBest
     Questions.checkFault Questions.askCheck
 answer (trial q limit c) = reply (askTrial q limit leastRoom c)

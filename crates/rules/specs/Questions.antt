@@ -1,15 +1,16 @@
--- The questions, from bytes to replies, with every number of document 01's "Who causes which number", "tried in the order listed".
+-- The questions, from bytes to replies, with every number of document 01's "Who causes which number", and of document 02's lists beside a sheet,
+-- "tried in the order listed".
 -- Assumes nothing.
 use Prim.Native.Nat.{ℕ}
 use mathlib.Core.Bool.{Bool, false, cond, not, _&&_, _||_}
 use mathlib.Core.List.{List, [], _∷_, _++_}
-use mathlib.Core.Option.{some, none}
+use mathlib.Core.Option.{Option, some, none}
 use lib.ListN.{length, drop}
 use lib.Dec.{leb, ltb, eqb}
-use Rattle.lists.specs.Count.{below}
-use Rattle.graph.specs.Graph.{Graph}
-use Rattle.graph.specs.Bytes.{u16At, u32At, graphOf}
-use Rattle.graph.specs.Fault.{Fault, faultIf, firstFault, refusedOr}
+use Rattle.lists.specs.Count.{below, anyBelow}
+use Rattle.graph.specs.Graph.{Graph, edgeCount, weightOf}
+use Rattle.graph.specs.Bytes.{u16At, u32At, sheetGraph, graphOf}
+use Rattle.graph.specs.Fault.{Fault, faultIf, faultUnless, firstFault, refusedOr}
 use Rattle.graph_check.specs.Check as sheet
 use Rattle.rules.specs.Cover.{Crews, rooted, unrooted, heaviest}
 use Rattle.rules.specs.CoverBytes.{encode, decode}
@@ -60,18 +61,25 @@ pub data Kind : Type 0 where
   yards : Kind
   roving : Kind
 
--- What every question about a graph brings.
+-- What every question about a graph brings: "a question may carry m class bytes beside the sheet".
 pub record Question : Type 0 where
   pub kind : Kind
   pub k : ℕ
   pub sheet : List ℕ
+  pub classes : Option (List ℕ)
 
+-- A question without lists.
 abbrev pub question : Kind → ℕ → List ℕ → Question
-question kind k sheet = record { kind = kind; k = k; sheet = sheet }
+question kind k sheet = record { kind = kind; k = k; sheet = sheet; classes = none }
+
+-- The bytes of a list, none where it is not brought.
+abbrev pub listed : Option (List ℕ) → List ℕ
+listed none = []
+listed (some list) = list
 
 -- The graph that it is about.
 abbrev pub graphIn : Question → Graph
-graphIn q = graphOf (q .sheet)
+graphIn q = graphOf (q .sheet) (listed (q .classes))
 
 -- Whom a cover is for: "the yards are stops 0 to k - 1", or "there are none".
 abbrev pub crewsBy : Kind → ℕ → Crews
@@ -81,9 +89,22 @@ crewsBy roving k = unrooted k
 abbrev pub crewsIn : Question → Crews
 crewsIn q = crewsBy (q .kind) (q .k)
 
--- What is refused of every question, in document 01's order.
+-- 53 (document 02, A.3): "not exactly m class bytes", where a list is brought.
+unfoldable pub classFault : Option (List ℕ) → ℕ → Fault
+classFault none m = none
+classFault (some classes) m = faultUnless (eqb (length classes) m) 53
+
+-- 54: "an adjusted weight above 1,000,000".
+unfoldable pub adjustedFault : Graph → Fault
+adjustedFault g = faultIf (anyBelow (edgeCount g) (λ e. ltb 1000000 (weightOf g e))) 54
+
+-- Both, each over the whole list before the next.
+unfoldable pub surfaceFault : Question → Fault
+surfaceFault q = firstFault (classFault (q .classes) (edgeCount (sheetGraph (q .sheet))) ∷ adjustedFault (graphIn q) ∷ [])
+
+-- What is refused of every question, in document 01's order; 53 and 54 come "after 16, before 21".
 unfoldable pub questionFault : Question → Fault
-questionFault q = firstFault (sheetFault (q .sheet) ∷ crewFault (crewsIn q) (graphIn q .vertices) ∷ [])
+questionFault q = firstFault (sheetFault (q .sheet) ∷ surfaceFault q ∷ crewFault (crewsIn q) (graphIn q .vertices) ∷ [])
 
 -- The trial question, at a limit and with a buffer of so many bytes: what is refused of it, and the reply.
 unfoldable pub trialFault : Question → ℕ → ℕ → Fault

@@ -8,6 +8,7 @@ use Rattle.rules.specs.Cover.{Tree}
 use Rattle.rules.specs.Districts.{N, tree}
 use Rattle.lists.specs.Count as Count
 use Rattle.lists.specs.Lists as Lists
+use Rattle.graph.specs.Surface as Surface
 use Rattle.graph.specs.Bytes as Bytes
 use Rattle.rules.specs.Walk as Walk
 use Rattle.rules.specs.Grow as Grow
@@ -21,8 +22,9 @@ unfolding Lists.any Lists.firstThat Lists.sumOf Lists.member Grow.farEnd Grow.to
 walked g t = let walk = ClosedWalk.closedWalk g t in (walk .crossings, ClosedWalk.stopsOf g walk, ClosedWalk.lengthOf g walk)
 
 -- Sheet N: out along its edges 0 and 1, and back.
-pub sheet-N : walked (Bytes.graphOf N) (tree 0 (0 ∷ 1 ∷ [])) ≡ (0 ∷ 1 ∷ 1 ∷ 0 ∷ [], 0 ∷ 2 ∷ 3 ∷ 2 ∷ 0 ∷ [], 12)
-unfolding walked N tree Count.from Count.below Bytes.u16At Bytes.u32At Bytes.edgeIn Bytes.edgesHeld Bytes.graphOf
+pub sheet-N : walked (Bytes.graphOf N []) (tree 0 (0 ∷ 1 ∷ [])) ≡ (0 ∷ 1 ∷ 1 ∷ 0 ∷ [], 0 ∷ 2 ∷ 3 ∷ 2 ∷ 0 ∷ [], 12)
+unfolding walked N tree Count.from Count.below Bytes.u16At Bytes.u32At Bytes.edgeIn Bytes.edgesHeld Bytes.sheetGraph Bytes.graphOf
+    Surface.percentOf Surface.adjusted Surface.classAt Surface.surfaced
 sheet-N = refl
 
 -- A star around vertex 2: the edges 0 to 3 lead to the vertices 0, 1, 3 and 4, and weigh 1 to 4.
