@@ -14,13 +14,13 @@ ghost use Rattle.prepare.specs.Crews.{crewsWith};
 ghost use Rattle.answers.specs.Answers.{ForestReady, LimitAsked};
 
 // Whether no cover by the crews exists at all.
-pub fn no_cover(kind: Kind, k: usize, b: &[u8], roots: &[u16], kept: &[u16]) -> bool
-    requires { ⌜ ForestReady kind (graphOf (now b)) (now roots) (now kept) ⌝ }
-    ensures { λ r. ⌜ r ≡ noCover (graphOf (now (b .entry))) (crewsWith kind k (now (roots .entry))) ⌝ }
+pub fn no_cover(kind: Kind, k: usize, b: &[u8], roots: &[u16], kept: &[u16], classes: &[u8]) -> bool
+    requires { ⌜ ForestReady kind (graphOf (now b) (now classes)) (now roots) (now kept) ⌝ }
+    ensures { λ r. ⌜ r ≡ noCover (graphOf (now (b .entry)) (now (classes .entry))) (crewsWith kind k (now (roots .entry))) ⌝ }
 {
     match kind {
-        Kind::Rooted => no_cover_rooted(b, roots, kept),
-        Kind::Unrooted => no_cover_unrooted(b, k, kept),
+        Kind::Rooted => no_cover_rooted(b, roots, kept, classes),
+        Kind::Unrooted => no_cover_unrooted(b, k, kept, classes),
     }
 }
 
@@ -40,10 +40,11 @@ pub fn answer_at(
     total: &[u64],
     until: &[u16],
     buf: &mut [u8],
+    classes: &[u8],
 ) -> Reply
-    requires { ⌜ LimitAsked kind k (graphOf (now b)) (now roots) limit (now order) (now kept) (now bounds) (now arcs)
+    requires { ⌜ LimitAsked kind k (graphOf (now b) (now classes)) (now roots) limit (now order) (now kept) (now bounds) (now arcs)
         (now distances) (now lasts) (now total) (now until) (length (now buf)) ⌝ }
-    ensures { λ r. ⌜ Answers (graphOf (now (b .entry))) (crewsWith kind k (now (roots .entry))) limit (now (buf .entry))
+    ensures { λ r. ⌜ Answers (graphOf (now (b .entry)) (now (classes .entry))) (crewsWith kind k (now (roots .entry))) limit (now (buf .entry))
         (now (buf .exit)) r ⌝ }
 {
     match kind {
@@ -58,7 +59,8 @@ pub fn answer_at(
             distances,
             lasts,
             buf,
+            classes,
         ),
-        Kind::Unrooted => answer_unrooted(b, k, limit, kept, total, until, buf),
+        Kind::Unrooted => answer_unrooted(b, k, limit, kept, total, until, buf, classes),
     }
 }

@@ -38,13 +38,14 @@ fn answer_best(
     total: &[u64],
     until: &[u16],
     buf: &mut [u8],
+    classes: &[u8],
 ) -> Reply
-    requires { ⌜ AnswerAsked kind k (graphOf (now b)) (now roots) (now order) (now kept) (now bounds) (now arcs)
+    requires { ⌜ AnswerAsked kind k (graphOf (now b) (now classes)) (now roots) (now order) (now kept) (now bounds) (now arcs)
         (now distances) (now lasts) (now total) (now until) (length (now buf)) ⌝ }
-    ensures { λ r. ⌜ Answered Best (graphOf (now (b .entry))) (crewsWith kind k (now (roots .entry))) (now (buf .entry))
+    ensures { λ r. ⌜ Answered Best (graphOf (now (b .entry)) (now (classes .entry))) (crewsWith kind k (now (roots .entry))) (now (buf .entry))
         (now (buf .exit)) r ⌝ }
 {
-    if no_cover(kind, k, b, roots, kept) {
+    if no_cover(kind, k, b, roots, kept, classes) {
         return Reply::NoCover;
     }
     let limit = best_limit(
@@ -59,6 +60,7 @@ fn answer_best(
         distances,
         total,
         until,
+        classes,
     );
     answer_at(
         kind,
@@ -75,6 +77,7 @@ fn answer_best(
         total,
         until,
         buf,
+        classes,
     )
 }
 
@@ -94,10 +97,11 @@ pub(crate) fn answer_asked(
     total: &[u64],
     until: &[u16],
     buf: &mut [u8],
+    classes: &[u8],
 ) -> Reply
-    requires { ⌜ AskedReady kind k (graphOf (now b)) (now roots) asked (now order) (now kept) (now bounds) (now arcs)
+    requires { ⌜ AskedReady kind k (graphOf (now b) (now classes)) (now roots) asked (now order) (now kept) (now bounds) (now arcs)
         (now distances) (now lasts) (now total) (now until) (length (now buf)) ⌝ }
-    ensures { λ r. ⌜ Answered asked (graphOf (now (b .entry))) (crewsWith kind k (now (roots .entry)))
+    ensures { λ r. ⌜ Answered asked (graphOf (now (b .entry)) (now (classes .entry))) (crewsWith kind k (now (roots .entry)))
         (now (buf .entry)) (now (buf .exit)) r ⌝ }
 {
     match asked {
@@ -116,6 +120,7 @@ pub(crate) fn answer_asked(
             total,
             until,
             buf,
+            classes,
         ),
         Asked::Best => answer_best(
             kind,
@@ -131,21 +136,29 @@ pub(crate) fn answer_asked(
             total,
             until,
             buf,
+            classes,
         ),
     }
 }
 
 // The answer to a question by crews: "the yards are stops 0 to k - 1". Nothing below knows that.
-pub fn ask_crews(kind: Kind, k: usize, b: &[u8], asked: Asked, buf: &mut [u8]) -> Reply
-    requires { ⌜ CrewsAsked kind k (graphOf (now b)) asked (length (now buf)) ⌝ }
-    ensures { λ r. ⌜ Answered asked (graphOf (now (b .entry))) (crewsOf kind k) (now (buf .entry)) (now (buf .exit)) r ⌝ }
+pub fn ask_crews(
+    kind: Kind,
+    k: usize,
+    b: &[u8],
+    asked: Asked,
+    buf: &mut [u8],
+    classes: &[u8],
+) -> Reply
+    requires { ⌜ CrewsAsked kind k (graphOf (now b) (now classes)) asked (length (now buf)) ⌝ }
+    ensures { λ r. ⌜ Answered asked (graphOf (now (b .entry)) (now (classes .entry))) (crewsOf kind k) (now (buf .entry)) (now (buf .exit)) r ⌝ }
 {
     match kind {
         Kind::Rooted => {
             let mut roots = [0u16; 32];
             number_up(k, &mut roots);
-            ask_rooted(b, &roots[..k], asked, buf)
+            ask_rooted(b, &roots[..k], asked, buf, classes)
         }
-        Kind::Unrooted => ask_unrooted(k, b, asked, buf),
+        Kind::Unrooted => ask_unrooted(k, b, asked, buf, classes),
     }
 }

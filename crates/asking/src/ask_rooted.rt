@@ -24,17 +24,29 @@ fn ask_rooted_in(
     distances: &mut [u32],
     lasts: &mut [u32],
     buf: &mut [u8],
+    classes: &[u8],
 ) -> Reply
-    requires { ⌜ RootedLent (graphOf (now b)) (now roots) asked (now order) (now kept) (now bounds) (now all) (now arcs)
+    requires { ⌜ RootedLent (graphOf (now b) (now classes)) (now roots) asked (now order) (now kept) (now bounds) (now all) (now arcs)
         (now distances) (now lasts) (length (now buf)) ⌝ }
-    ensures { λ r. ⌜ RootedAnswered asked (graphOf (now (b .entry))) (now (roots .entry)) (now (order .entry))
+    ensures { λ r. ⌜ RootedAnswered asked (graphOf (now (b .entry)) (now (classes .entry))) (now (roots .entry)) (now (order .entry))
         (now (order .exit)) (now (kept .entry)) (now (kept .exit))
         (now (bounds .entry)) (now (bounds .exit)) (now (all .entry)) (now (all .exit)) (now (arcs .entry))
         (now (arcs .exit))
         (now (distances .entry)) (now (distances .exit)) (now (lasts .entry)) (now (lasts .exit))
         (now (buf .entry)) (now (buf .exit)) r ⌝ }
 {
-    let ready = prepare_rooted(b, roots, order, kept, bounds, all, arcs, distances, lasts);
+    let ready = prepare_rooted(
+        b,
+        roots,
+        order,
+        kept,
+        bounds,
+        all,
+        arcs,
+        distances,
+        lasts,
+        classes,
+    );
     answer_asked(
         Kind::Rooted,
         roots.len(),
@@ -50,13 +62,14 @@ fn ask_rooted_in(
         &[],
         &[],
         buf,
+        classes,
     )
 }
 
 // Lends arrays that a small graph and few crews fit in.
-fn ask_rooted_small(b: &[u8], roots: &[u16], asked: Asked, buf: &mut [u8]) -> Reply
-    requires { ⌜ RootedSmall (graphOf (now b)) (now roots) asked (length (now buf)) ⌝ }
-    ensures { λ r. ⌜ Answered asked (graphOf (now (b .entry))) (rooted (now (roots .entry))) (now (buf .entry))
+fn ask_rooted_small(b: &[u8], roots: &[u16], asked: Asked, buf: &mut [u8], classes: &[u8]) -> Reply
+    requires { ⌜ RootedSmall (graphOf (now b) (now classes)) (now roots) asked (length (now buf)) ⌝ }
+    ensures { λ r. ⌜ Answered asked (graphOf (now (b .entry)) (now (classes .entry))) (rooted (now (roots .entry))) (now (buf .entry))
         (now (buf .exit)) r ⌝ }
 {
     let mut order = [0u16; 512];
@@ -78,13 +91,14 @@ fn ask_rooted_small(b: &[u8], roots: &[u16], asked: Asked, buf: &mut [u8]) -> Re
         &mut distances,
         &mut lasts,
         buf,
+        classes,
     )
 }
 
 // Lends arrays that every graph and all crews fit in.
-fn ask_rooted_full(b: &[u8], roots: &[u16], asked: Asked, buf: &mut [u8]) -> Reply
-    requires { ⌜ RootedAsked (graphOf (now b)) (now roots) asked (length (now buf)) ⌝ }
-    ensures { λ r. ⌜ Answered asked (graphOf (now (b .entry))) (rooted (now (roots .entry))) (now (buf .entry))
+fn ask_rooted_full(b: &[u8], roots: &[u16], asked: Asked, buf: &mut [u8], classes: &[u8]) -> Reply
+    requires { ⌜ RootedAsked (graphOf (now b) (now classes)) (now roots) asked (length (now buf)) ⌝ }
+    ensures { λ r. ⌜ Answered asked (graphOf (now (b .entry)) (now (classes .entry))) (rooted (now (roots .entry))) (now (buf .entry))
         (now (buf .exit)) r ⌝ }
 {
     let mut order = [0u16; 2048];
@@ -106,30 +120,37 @@ fn ask_rooted_full(b: &[u8], roots: &[u16], asked: Asked, buf: &mut [u8]) -> Rep
         &mut distances,
         &mut lasts,
         buf,
+        classes,
     )
 }
 
 // Whether the small arrays are enough.
-fn is_small(b: &[u8], k: usize) -> bool
-    ensures { λ r. ⌜ SizeTold (graphOf (now (b .entry))) k r ⌝ }
+fn is_small(b: &[u8], k: usize, classes: &[u8]) -> bool
+    ensures { λ r. ⌜ SizeTold (graphOf (now (b .entry)) (now (classes .entry))) k r ⌝ }
 {
-    if 64 < graph::vertex_count(b) {
+    if 64 < graph::vertex_count(b, classes) {
         return false;
     }
-    if 512 < graph::edge_count(b) {
+    if 512 < graph::edge_count(b, classes) {
         return false;
     }
     k <= 8
 }
 
 // The answer to a question by crews with roots. The roots are a list of vertices, one for each crew.
-pub(crate) fn ask_rooted(b: &[u8], roots: &[u16], asked: Asked, buf: &mut [u8]) -> Reply
-    requires { ⌜ RootedAsked (graphOf (now b)) (now roots) asked (length (now buf)) ⌝ }
-    ensures { λ r. ⌜ Answered asked (graphOf (now (b .entry))) (rooted (now (roots .entry))) (now (buf .entry))
+pub(crate) fn ask_rooted(
+    b: &[u8],
+    roots: &[u16],
+    asked: Asked,
+    buf: &mut [u8],
+    classes: &[u8],
+) -> Reply
+    requires { ⌜ RootedAsked (graphOf (now b) (now classes)) (now roots) asked (length (now buf)) ⌝ }
+    ensures { λ r. ⌜ Answered asked (graphOf (now (b .entry)) (now (classes .entry))) (rooted (now (roots .entry))) (now (buf .entry))
         (now (buf .exit)) r ⌝ }
 {
-    if is_small(b, roots.len()) {
-        return ask_rooted_small(b, roots, asked, buf);
+    if is_small(b, roots.len(), classes) {
+        return ask_rooted_small(b, roots, asked, buf, classes);
     }
-    ask_rooted_full(b, roots, asked, buf)
+    ask_rooted_full(b, roots, asked, buf, classes)
 }

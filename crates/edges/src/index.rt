@@ -11,8 +11,8 @@ pub fn wide(x: u16) -> usize
 }
 
 // The weight of an edge; 0 past the last edge.
-pub fn weight_of(b: &[u8], e: u16) -> u64
-    ensures { λ r. ⌜ Reads (weightOf (graphOf (now (b .entry))) e) (2 ^ 32) r ⌝ }
+pub fn weight_of(b: &[u8], e: u16, classes: &[u8]) -> u64
+    ensures { λ r. ⌜ Reads (weightOf (graphOf (now (b .entry)) (now (classes .entry))) e) (2 ^ 33) r ⌝ }
 {
-    graph::weight(b, wide(e))
+    graph::weight(b, wide(e), classes)
 }

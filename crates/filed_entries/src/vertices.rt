@@ -29,17 +29,17 @@ fn mark_starts(c: &[u8], marks: &mut [u8])
 }
 
 // Marks both ends of each entry's edge.
-fn mark_ends(b: &[u8], c: &[u8], marks: &mut [u8])
-    requires { ⌜ Labelable (graphOf (now b)) (now marks) ⌝ }
-    ensures { λ _. ⌜ EndsMarked (graphOf (now (b .entry))) (now (c .entry)) (entriesIn (now (c .entry)))
+fn mark_ends(b: &[u8], c: &[u8], marks: &mut [u8], classes: &[u8])
+    requires { ⌜ Labelable (graphOf (now b) (now classes)) (now marks) ⌝ }
+    ensures { λ _. ⌜ EndsMarked (graphOf (now (b .entry)) (now (classes .entry))) (now (c .entry)) (entriesIn (now (c .entry)))
         (now (marks .entry)) (now (marks .exit)) ⌝ }
 {
     let q = entries_in(c);
     let mut i = 0;
     while i < q {
         let e = entry_edge(c, i);
-        let u = graph::one_end(b, e);
-        let v = graph::other_end(b, e);
+        let u = graph::one_end(b, e, classes);
+        let v = graph::other_end(b, e, classes);
         marks[u] = 1;
         marks[v] = 1;
         i += 1;
@@ -47,12 +47,12 @@ fn mark_ends(b: &[u8], c: &[u8], marks: &mut [u8])
 }
 
 // Says whether each vertex is covered.
-pub fn vertices_covered(b: &[u8], c: &[u8]) -> bool
-    requires { ⌜ CoverGiven (graphOf (now b)) (now c) ⌝ }
-    ensures { λ r. ⌜ r ≡ verticesCovered (graphOf (now (b .entry))) (decode (now (c .entry))) ⌝ }
+pub fn vertices_covered(b: &[u8], c: &[u8], classes: &[u8]) -> bool
+    requires { ⌜ CoverGiven (graphOf (now b) (now classes)) (now c) ⌝ }
+    ensures { λ r. ⌜ r ≡ verticesCovered (graphOf (now (b .entry)) (now (classes .entry))) (decode (now (c .entry))) ⌝ }
 {
     let mut marks = [0u8; 256];
     mark_starts(c, &mut marks);
-    mark_ends(b, c, &mut marks);
-    all_marked(&marks, graph::vertex_count(b))
+    mark_ends(b, c, &mut marks, classes);
+    all_marked(&marks, graph::vertex_count(b, classes))
 }

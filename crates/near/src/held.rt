@@ -8,16 +8,16 @@ ghost use Rattle.pieces.specs.Pieces.{treeOf};
 ghost use Rattle.near.specs.Held.{PieceAsked, NearTree, NearPiecesAsked, NearPieces};
 
 // Those near the tree with this start and these edges: near the start, or near an end of an edge.
-fn near_piece(b: &[u8], near: &[u32], start: usize, edges: &[u16]) -> u32
-    requires { ⌜ PieceAsked (graphOf (now b)) (now near) start ⌝ }
-    ensures { λ r. ⌜ NearTree (graphOf (now (b .entry))) (now (near .entry)) (treeOf start (now (edges .entry))) r ⌝ }
+fn near_piece(b: &[u8], near: &[u32], start: usize, edges: &[u16], classes: &[u8]) -> u32
+    requires { ⌜ PieceAsked (graphOf (now b) (now classes)) (now near) start ⌝ }
+    ensures { λ r. ⌜ NearTree (graphOf (now (b .entry)) (now (classes .entry))) (now (near .entry)) (treeOf start (now (edges .entry))) r ⌝ }
 {
     let mut word = near[start];
     let mut i = 0;
     while i < edges.len() {
         let e = wide(edges[i]);
-        let one = graph::one_end(b, e);
-        let other = graph::other_end(b, e);
+        let one = graph::one_end(b, e, classes);
+        let other = graph::other_end(b, e, classes);
         word = word | (near[one] | near[other]);
         i += 1;
     }
@@ -33,10 +33,11 @@ pub fn near_pieces(
     members: &[u16],
     places: &[u16],
     words: &mut [u32],
+    classes: &[u8],
 )
-    requires { ⌜ NearPiecesAsked (graphOf (now b)) (now near) (now starts) (now cuts) (now members) (now places)
+    requires { ⌜ NearPiecesAsked (graphOf (now b) (now classes)) (now near) (now starts) (now cuts) (now members) (now places)
         (now words) ⌝ }
-    ensures { λ _. ⌜ NearPieces (graphOf (now (b .entry))) (now (near .entry)) (now (starts .entry)) (now (cuts .entry))
+    ensures { λ _. ⌜ NearPieces (graphOf (now (b .entry)) (now (classes .entry))) (now (near .entry)) (now (starts .entry)) (now (cuts .entry))
         (now (members .entry)) (now (places .entry))
         (now (words .entry)) (now (words .exit)) ⌝ }
 {
@@ -44,7 +45,7 @@ pub fn near_pieces(
     while i < places.len() {
         let c = wide(places[i]);
         let start = number_at(starts, c);
-        words[i] = near_piece(b, near, start, edges_at(cuts, members, c));
+        words[i] = near_piece(b, near, start, edges_at(cuts, members, c), classes);
         i += 1;
     }
 }

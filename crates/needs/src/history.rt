@@ -45,16 +45,25 @@ fn merge_edge(
     made: &mut [u16],
     total: &mut [u64],
     until: &mut [u16],
+    classes: &[u8],
 )
-    requires { ⌜ EdgeAsked (graphOf (now b)) e number (now label) (now made) (now total) (now until) ⌝ }
-    ensures { λ _. ⌜ EdgeMerged (graphOf (now (b .entry))) e number (now (label .entry)) (now (label .exit))
+    requires { ⌜ EdgeAsked (graphOf (now b) (now classes)) e number (now label) (now made) (now total) (now until) ⌝ }
+    ensures { λ _. ⌜ EdgeMerged (graphOf (now (b .entry)) (now (classes .entry))) e number (now (label .entry)) (now (label .exit))
         (now (made .entry)) (now (made .exit))
         (now (total .entry)) (now (total .exit)) (now (until .entry)) (now (until .exit)) ⌝ }
 {
-    let a = wide(label[graph::one_end(b, e)]);
-    let c = wide(label[graph::other_end(b, e)]);
-    note_merge(a, c, graph::weight(b, e), number, made, total, until);
-    join_ends(b, e, label);
+    let a = wide(label[graph::one_end(b, e, classes)]);
+    let c = wide(label[graph::other_end(b, e, classes)]);
+    note_merge(
+        a,
+        c,
+        graph::weight(b, e, classes),
+        number,
+        made,
+        total,
+        until,
+    );
+    join_ends(b, e, label, classes);
 }
 
 // Merges along each edge of the whole forest, one after the other.
@@ -65,30 +74,31 @@ fn merge_all(
     made: &mut [u16],
     total: &mut [u64],
     until: &mut [u16],
+    classes: &[u8],
 )
-    requires { ⌜ MergesAsked (graphOf (now b)) (now kept) (now label) (now made) (now total) (now until) ⌝ }
-    ensures { λ _. ⌜ AllMerged (graphOf (now (b .entry))) (now (kept .entry)) (now (label .entry)) (now (label .exit))
+    requires { ⌜ MergesAsked (graphOf (now b) (now classes)) (now kept) (now label) (now made) (now total) (now until) ⌝ }
+    ensures { λ _. ⌜ AllMerged (graphOf (now (b .entry)) (now (classes .entry))) (now (kept .entry)) (now (label .entry)) (now (label .exit))
         (now (made .entry)) (now (made .exit))
         (now (total .entry)) (now (total .exit)) (now (until .entry)) (now (until .exit)) ⌝ }
 {
     let mut i = 0;
     while i < kept.len() {
-        merge_edge(b, wide(kept[i]), i + 1, label, made, total, until);
+        merge_edge(b, wide(kept[i]), i + 1, label, made, total, until, classes);
         i += 1;
     }
 }
 
 // The history of the whole forest, where no vertex is a root.
-pub fn record_merges(b: &[u8], kept: &[u16], total: &mut [u64], until: &mut [u16])
-    requires { ⌜ HistoryAsked (graphOf (now b)) (now kept) (now total) (now until) ⌝ }
-    ensures { λ _. ⌜ HistoryWritten (graphOf (now (b .entry))) (now (kept .entry)) (now (total .entry))
+pub fn record_merges(b: &[u8], kept: &[u16], total: &mut [u64], until: &mut [u16], classes: &[u8])
+    requires { ⌜ HistoryAsked (graphOf (now b) (now classes)) (now kept) (now total) (now until) ⌝ }
+    ensures { λ _. ⌜ HistoryWritten (graphOf (now (b .entry)) (now (classes .entry))) (now (kept .entry)) (now (total .entry))
         (now (total .exit)) (now (until .entry)) (now (until .exit)) ⌝ }
 {
     let mut label = [0u16; 256];
     let mut made = [0u16; 256];
-    start_labels(&[], graph::vertex_count(b), &mut label);
+    start_labels(&[], graph::vertex_count(b, classes), &mut label);
     total[0] = 0;
-    merge_all(b, kept, &mut label, &mut made, total, until);
+    merge_all(b, kept, &mut label, &mut made, total, until, classes);
 }
 
 // What the tree of a merge needs besides its component's first tree, where it is there after `light` merges: one for

@@ -6,12 +6,12 @@ ghost use Rattle.needs.specs.Roots.{RootsAsked, RootsWritten};
 
 // The lowest vertex of each component that the edges make, rising, written to the front of the array. Says how many
 // components there are.
-pub fn component_roots(b: &[u8], edges: &[u16], roots: &mut [u16]) -> usize
-    requires { ⌜ RootsAsked (graphOf (now b)) (now roots) ⌝ }
-    ensures { λ r. ⌜ RootsWritten (graphOf (now (b .entry))) (now (edges .entry)) (now (roots .entry))
+pub fn component_roots(b: &[u8], edges: &[u16], roots: &mut [u16], classes: &[u8]) -> usize
+    requires { ⌜ RootsAsked (graphOf (now b) (now classes)) (now roots) ⌝ }
+    ensures { λ r. ⌜ RootsWritten (graphOf (now (b .entry)) (now (classes .entry))) (now (edges .entry)) (now (roots .entry))
         (now (roots .exit)) r ⌝ }
 {
     let mut label = [0u16; 256];
-    label_edges(b, &[], edges, &mut label);
-    lowest_of_each(&label, graph::vertex_count(b), roots)
+    label_edges(b, &[], edges, &mut label, classes);
+    lowest_of_each(&label, graph::vertex_count(b, classes), roots)
 }

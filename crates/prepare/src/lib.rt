@@ -28,16 +28,17 @@ fn keep_forest(
     spare: &mut [u64],
     order: &mut [u16],
     kept: &mut [u16],
+    classes: &[u8],
 ) -> Ready
-    requires { ⌜ ForestAsked (graphOf (now b)) (length (now keys)) (length (now spare)) (length (now order))
+    requires { ⌜ ForestAsked (graphOf (now b) (now classes)) (length (now keys)) (length (now spare)) (length (now order))
         (length (now kept)) ⌝ }
-    ensures { λ r. ⌜ ForestPrepared (graphOf (now (b .entry))) (now (roots .entry)) (now (keys .entry))
+    ensures { λ r. ⌜ ForestPrepared (graphOf (now (b .entry)) (now (classes .entry))) (now (roots .entry)) (now (keys .entry))
         (now (keys .exit)) (now (spare .entry)) (now (spare .exit))
         (now (order .entry)) (now (order .exit)) (now (kept .entry)) (now (kept .exit)) r ⌝ }
 {
     let mut label = [0u16; 256];
-    let edges = order_edges(b, keys, spare, order);
-    let forest = keep_whole(b, roots, &order[..edges], &mut label, kept);
+    let edges = order_edges(b, keys, spare, order, classes);
+    let forest = keep_whole(b, roots, &order[..edges], &mut label, kept, classes);
     Ready { edges, forest }
 }
 
@@ -51,18 +52,19 @@ fn prepare_distances(
     all: &mut [u64],
     distances: &mut [u32],
     lasts: &mut [u32],
+    classes: &[u8],
 )
-    requires { ⌜ DistancesAsked (graphOf (now b)) (now roots) (length (now numbers)) (length (now bounds))
+    requires { ⌜ DistancesAsked (graphOf (now b) (now classes)) (now roots) (length (now numbers)) (length (now bounds))
         (length (now all)) (length (now distances)) (length (now lasts)) ⌝ }
-    ensures { λ _. ⌜ DistancesPrepared (graphOf (now (b .entry))) (now (roots .entry)) (now (numbers .entry))
+    ensures { λ _. ⌜ DistancesPrepared (graphOf (now (b .entry)) (now (classes .entry))) (now (roots .entry)) (now (numbers .entry))
         (now (numbers .exit))
         (now (bounds .entry)) (now (bounds .exit)) (now (all .entry)) (now (all .exit))
         (now (distances .entry)) (now (distances .exit)) (now (lasts .entry)) (now (lasts .exit)) ⌝ }
 {
-    let m = graph::edge_count(b);
+    let m = graph::edge_count(b, classes);
     number_up(m, numbers);
-    put_around(b, &numbers[..m], bounds, all);
-    let n = graph::vertex_count(b);
+    put_around(b, &numbers[..m], bounds, all, classes);
+    let n = graph::vertex_count(b, classes);
     fill_table(n, bounds, all, roots, distances, lasts);
 }
 
@@ -78,18 +80,19 @@ pub fn prepare_rooted(
     arcs: &mut [u64],
     distances: &mut [u32],
     lasts: &mut [u32],
+    classes: &[u8],
 ) -> Ready
-    requires { ⌜ RootedPreparable (graphOf (now b)) (now roots) (now order) (now kept) (now bounds) (now all) (now arcs)
+    requires { ⌜ RootedPreparable (graphOf (now b) (now classes)) (now roots) (now order) (now kept) (now bounds) (now all) (now arcs)
         (now distances) (now lasts) ⌝ }
-    ensures { λ r. ⌜ RootedPrepared (graphOf (now (b .entry))) (now (roots .entry)) (now (order .entry))
+    ensures { λ r. ⌜ RootedPrepared (graphOf (now (b .entry)) (now (classes .entry))) (now (roots .entry)) (now (order .entry))
         (now (order .exit)) (now (kept .entry)) (now (kept .exit))
         (now (bounds .entry)) (now (bounds .exit)) (now (all .entry)) (now (all .exit)) (now (arcs .entry))
         (now (arcs .exit))
         (now (distances .entry)) (now (distances .exit)) (now (lasts .entry)) (now (lasts .exit)) r ⌝ }
 {
-    prepare_distances(b, roots, order, bounds, all, distances, lasts);
-    let ready = keep_forest(b, roots, all, arcs, order, kept);
-    put_arcs(b, &kept[..ready.forest], bounds, arcs);
+    prepare_distances(b, roots, order, bounds, all, distances, lasts, classes);
+    let ready = keep_forest(b, roots, all, arcs, order, kept, classes);
+    put_arcs(b, &kept[..ready.forest], bounds, arcs, classes);
     ready
 }
 
@@ -102,15 +105,16 @@ pub fn prepare_unrooted(
     kept: &mut [u16],
     total: &mut [u64],
     until: &mut [u16],
+    classes: &[u8],
 ) -> Ready
-    requires { ⌜ UnrootedPreparable (graphOf (now b)) (now keys) (now spare) (now order) (now kept) (now total)
+    requires { ⌜ UnrootedPreparable (graphOf (now b) (now classes)) (now keys) (now spare) (now order) (now kept) (now total)
         (now until) ⌝ }
-    ensures { λ r. ⌜ UnrootedPrepared (graphOf (now (b .entry))) (now (keys .entry)) (now (keys .exit))
+    ensures { λ r. ⌜ UnrootedPrepared (graphOf (now (b .entry)) (now (classes .entry))) (now (keys .entry)) (now (keys .exit))
         (now (spare .entry)) (now (spare .exit))
         (now (order .entry)) (now (order .exit)) (now (kept .entry)) (now (kept .exit))
         (now (total .entry)) (now (total .exit)) (now (until .entry)) (now (until .exit)) r ⌝ }
 {
-    let ready = keep_forest(b, &[], keys, spare, order, kept);
-    record_merges(b, &kept[..ready.forest], total, until);
+    let ready = keep_forest(b, &[], keys, spare, order, kept, classes);
+    record_merges(b, &kept[..ready.forest], total, until, classes);
     ready
 }

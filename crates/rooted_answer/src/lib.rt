@@ -35,12 +35,13 @@ fn answer_placed(
     placed: Placed,
     edges: &mut [u16],
     buf: &mut [u8],
+    classes: &[u8],
 ) -> Reply
-    requires { ⌜ PlacedGiven (graphOf (now b)) (now roots) limit (now order) (now distances) (now lasts)
+    requires { ⌜ PlacedGiven (graphOf (now b) (now classes)) (now roots) limit (now order) (now distances) (now lasts)
         (trialArrays (now starts) (now cuts) (now members) (now lefts) (now places) (now rows) (now assignment))
         (placed .parts) (placed .assigned)
         (length (now edges)) (length (now buf)) ⌝ }
-    ensures { λ r. ⌜ PlacedReplied (graphOf (now (b .entry))) (now (roots .entry)) limit (now (edges .entry))
+    ensures { λ r. ⌜ PlacedReplied (graphOf (now (b .entry)) (now (classes .entry))) (now (roots .entry)) limit (now (edges .entry))
         (now (edges .exit)) (now (buf .entry)) (now (buf .exit)) r ⌝ }
 {
     let k = roots.len();
@@ -60,6 +61,7 @@ fn answer_placed(
             assignment,
             edges,
             buf,
+            classes,
         );
         return Reply::Cover(limit, heaviest, k);
     }
@@ -89,11 +91,12 @@ fn answer_parts(
     rows: &mut [u8],
     edges: &mut [u16],
     buf: &mut [u8],
+    classes: &[u8],
 ) -> Reply
-    requires { ⌜ JoinedLent (graphOf (now b)) (now roots) limit (now order) (now bounds) (now arcs) (now distances)
+    requires { ⌜ JoinedLent (graphOf (now b) (now classes)) (now roots) limit (now order) (now bounds) (now arcs) (now distances)
         (now lasts) (now rows) (length (now edges))
         (length (now buf)) ⌝ }
-    ensures { λ r. ⌜ JoinedReplied (graphOf (now (b .entry))) (now (roots .entry)) limit (now (rows .entry))
+    ensures { λ r. ⌜ JoinedReplied (graphOf (now (b .entry)) (now (classes .entry))) (now (roots .entry)) limit (now (rows .entry))
         (now (rows .exit)) (now (edges .entry)) (now (edges .exit))
         (now (buf .entry)) (now (buf .exit)) r ⌝ }
 {
@@ -117,6 +120,7 @@ fn answer_parts(
         &mut places,
         rows,
         &mut assignment,
+        classes,
     );
     answer_placed(
         b,
@@ -135,6 +139,7 @@ fn answer_parts(
         placed,
         edges,
         buf,
+        classes,
     )
 }
 
@@ -149,10 +154,11 @@ fn answer_small(
     distances: &[u32],
     lasts: &[u32],
     buf: &mut [u8],
+    classes: &[u8],
 ) -> Reply
-    requires { ⌜ JoinedSmall (graphOf (now b)) (now roots) limit (now order) (now bounds) (now arcs) (now distances)
+    requires { ⌜ JoinedSmall (graphOf (now b) (now classes)) (now roots) limit (now order) (now bounds) (now arcs) (now distances)
         (now lasts) (length (now buf)) ⌝ }
-    ensures { λ r. ⌜ Answers (graphOf (now (b .entry))) (rooted (now (roots .entry))) limit (now (buf .entry))
+    ensures { λ r. ⌜ Answers (graphOf (now (b .entry)) (now (classes .entry))) (rooted (now (roots .entry))) limit (now (buf .entry))
         (now (buf .exit)) r ⌝ }
 {
     let mut rows = [0u8; 512];
@@ -169,6 +175,7 @@ fn answer_small(
         &mut rows,
         &mut edges,
         buf,
+        classes,
     )
 }
 
@@ -183,10 +190,11 @@ fn answer_full(
     distances: &[u32],
     lasts: &[u32],
     buf: &mut [u8],
+    classes: &[u8],
 ) -> Reply
-    requires { ⌜ JoinedAsked (graphOf (now b)) (now roots) limit (now order) (now bounds) (now arcs) (now distances)
+    requires { ⌜ JoinedAsked (graphOf (now b) (now classes)) (now roots) limit (now order) (now bounds) (now arcs) (now distances)
         (now lasts) (length (now buf)) ⌝ }
-    ensures { λ r. ⌜ Answers (graphOf (now (b .entry))) (rooted (now (roots .entry))) limit (now (buf .entry))
+    ensures { λ r. ⌜ Answers (graphOf (now (b .entry)) (now (classes .entry))) (rooted (now (roots .entry))) limit (now (buf .entry))
         (now (buf .exit)) r ⌝ }
 {
     let mut rows = [0u8; 8192];
@@ -203,6 +211,7 @@ fn answer_full(
         &mut rows,
         &mut edges,
         buf,
+        classes,
     )
 }
 
@@ -219,22 +228,45 @@ pub fn answer_rooted(
     distances: &[u32],
     lasts: &[u32],
     buf: &mut [u8],
+    classes: &[u8],
 ) -> Reply
-    requires { ⌜ RootedAnswerAsked (graphOf (now b)) (now roots) limit (now order) (now kept) (now bounds) (now arcs)
+    requires { ⌜ RootedAnswerAsked (graphOf (now b) (now classes)) (now roots) limit (now order) (now kept) (now bounds) (now arcs)
         (now distances) (now lasts) (length (now buf)) ⌝ }
-    ensures { λ r. ⌜ Answers (graphOf (now (b .entry))) (rooted (now (roots .entry))) limit (now (buf .entry))
+    ensures { λ r. ⌜ Answers (graphOf (now (b .entry)) (now (classes .entry))) (rooted (now (roots .entry))) limit (now (buf .entry))
         (now (buf .exit)) r ⌝ }
 {
-    let light = light_forest(b, kept, limit);
+    let light = light_forest(b, kept, limit, classes);
     let mut label = [0u16; 256];
-    let found = stop_at(b, roots, &kept[..light], &mut label);
+    let found = stop_at(b, roots, &kept[..light], &mut label, classes);
     match found {
         Found::At(v) => Reply::Stop(v),
         Found::Nothing => {
-            if graph::vertex_count(b) * roots.len() <= 512 {
-                return answer_small(b, roots, limit, order, bounds, arcs, distances, lasts, buf);
+            if graph::vertex_count(b, classes) * roots.len() <= 512 {
+                return answer_small(
+                    b,
+                    roots,
+                    limit,
+                    order,
+                    bounds,
+                    arcs,
+                    distances,
+                    lasts,
+                    buf,
+                    classes,
+                );
             }
-            answer_full(b, roots, limit, order, bounds, arcs, distances, lasts, buf)
+            answer_full(
+                b,
+                roots,
+                limit,
+                order,
+                bounds,
+                arcs,
+                distances,
+                lasts,
+                buf,
+                classes,
+            )
         }
     }
 }

@@ -27,16 +27,17 @@ fn put_tree(
     j: usize,
     edges: &mut [u16],
     at: usize,
+    classes: &[u8],
 ) -> usize
-    requires { ⌜ TreeGivenAt (graphOf (now b)) (now order) (now distances) (now lasts) (now roots)
+    requires { ⌜ TreeGivenAt (graphOf (now b) (now classes)) (now order) (now distances) (now lasts) (now roots)
         (arraysOf (now starts) (now cuts) (now members) (now lefts) (now places)) (now assignment) j at
         (length (now edges)) ⌝ }
-    ensures { λ r. ⌜ TreePut (graphOf (now (b .entry))) (now (distances .entry)) (now (lasts .entry))
+    ensures { λ r. ⌜ TreePut (graphOf (now (b .entry)) (now (classes .entry))) (now (distances .entry)) (now (lasts .entry))
         (now (roots .entry)) (arraysOf
         (now (starts .entry)) (now (cuts .entry)) (now (members .entry)) (now (lefts .entry)) (now (places .entry)))
         (now (assignment .entry)) j at (now (edges .entry)) (now (edges .exit)) r ⌝ }
 {
-    let n = graph::vertex_count(b);
+    let n = graph::vertex_count(b, classes);
     let root = wide(roots[j]);
     let left = number_at(lefts, j) as u16;
     let from = j * n;
@@ -55,6 +56,7 @@ fn put_tree(
         assignment,
         j,
         &mut edges[at..],
+        classes,
     );
     at + r
 }
@@ -74,11 +76,12 @@ fn lay_trees(
     assignment: &[u8],
     bounds: &mut [u16],
     edges: &mut [u16],
+    classes: &[u8],
 )
-    requires { ⌜ LayRootsGiven (graphOf (now b)) (now order) (now distances) (now lasts) (now roots)
+    requires { ⌜ LayRootsGiven (graphOf (now b) (now classes)) (now order) (now distances) (now lasts) (now roots)
         (arraysOf (now starts) (now cuts) (now members) (now lefts) (now places)) (now assignment)
         (length (now bounds)) (length (now edges)) ⌝ }
-    ensures { λ _. ⌜ RootsLaid (graphOf (now (b .entry))) (now (distances .entry)) (now (lasts .entry))
+    ensures { λ _. ⌜ RootsLaid (graphOf (now (b .entry)) (now (classes .entry))) (now (distances .entry)) (now (lasts .entry))
         (now (roots .entry)) (arraysOf
         (now (starts .entry)) (now (cuts .entry)) (now (members .entry)) (now (lefts .entry)) (now (places .entry)))
         (now (assignment .entry))
@@ -103,6 +106,7 @@ fn lay_trees(
             j,
             edges,
             at,
+            classes,
         );
         j += 1;
         bounds[j] = at as u16;
@@ -127,11 +131,12 @@ pub fn write_rooted(
     assignment: &[u8],
     edges: &mut [u16],
     buf: &mut [u8],
+    classes: &[u8],
 ) -> u64
-    requires { ⌜ CoverAsked (graphOf (now b)) (now order) (now distances) (now lasts) (now roots)
+    requires { ⌜ CoverAsked (graphOf (now b) (now classes)) (now order) (now distances) (now lasts) (now roots)
         (arraysOf (now starts) (now cuts) (now members) (now lefts) (now places)) parts (now assignment)
         (length (now edges)) (length (now buf)) ⌝ }
-    ensures { λ r. ⌜ RootedWritten (graphOf (now (b .entry))) (now (roots .entry)) (arraysOf
+    ensures { λ r. ⌜ RootedWritten (graphOf (now (b .entry)) (now (classes .entry))) (now (roots .entry)) (arraysOf
         (now (starts .entry)) (now (cuts .entry)) (now (members .entry)) (now (lefts .entry)) (now (places .entry)))
         parts (now (assignment .entry))
         (now (edges .entry)) (now (edges .exit)) (now (buf .entry)) (now (buf .exit)) r ⌝ }
@@ -153,9 +158,10 @@ pub fn write_rooted(
         assignment,
         &mut bounds,
         edges,
+        classes,
     );
     number_up(k, &mut numbers);
-    let heaviest = heaviest_chosen(b, &bounds, edges, &numbers[..k]);
+    let heaviest = heaviest_chosen(b, &bounds, edges, &numbers[..k], classes);
     write_cover(buf, roots, &bounds, edges, &numbers[..k]);
     heaviest
 }

@@ -54,11 +54,11 @@ fn mark_back(last: &[u32], root: usize, v: usize, marks: &mut [u8])
 
 // The marked edges in order, kept where their ends are not yet joined, written to the front of the array by rising
 // number. Says how many.
-fn keep_risen(b: &[u8], order: &[u16], marks: &[u8], tree: &mut [u16]) -> usize
-    requires { ⌜ TreeAsked (graphOf (now b)) (now order) (now tree) ⌝ }
-    ensures { λ r. ⌜ TreeKept (graphOf (now (b .entry))) (now (marks .entry)) (now (tree .entry)) (now (tree .exit)) r ⌝ }
+fn keep_risen(b: &[u8], order: &[u16], marks: &[u8], tree: &mut [u16], classes: &[u8]) -> usize
+    requires { ⌜ TreeAsked (graphOf (now b) (now classes)) (now order) (now tree) ⌝ }
+    ensures { λ r. ⌜ TreeKept (graphOf (now (b .entry)) (now (classes .entry))) (now (marks .entry)) (now (tree .entry)) (now (tree .exit)) r ⌝ }
 {
-    let r = keep_union(b, order, marks, tree);
+    let r = keep_union(b, order, marks, tree, classes);
     rise_edges(&mut tree[..r]);
     r
 }
@@ -73,13 +73,14 @@ fn mark_reach(
     start: usize,
     edges: &[u16],
     marks: &mut [u8],
+    classes: &[u8],
 )
-    requires { ⌜ ReachGiven (graphOf (now b)) (now dist) (now last) root start (now edges) (length (now marks)) ⌝ }
-    ensures { λ _. ⌜ ReachMarked (graphOf (now (b .entry))) (now (dist .entry)) (now (last .entry)) root start
+    requires { ⌜ ReachGiven (graphOf (now b) (now classes)) (now dist) (now last) root start (now edges) (length (now marks)) ⌝ }
+    ensures { λ _. ⌜ ReachMarked (graphOf (now (b .entry)) (now (classes .entry))) (now (dist .entry)) (now (last .entry)) root start
         (now (edges .entry))
         (now (marks .entry)) (now (marks .exit)) ⌝ }
 {
-    let v = nearest_vertex(b, dist, start, edges);
+    let v = nearest_vertex(b, dist, start, edges, classes);
     mark_edges(edges, marks);
     mark_back(last, root, v, marks);
 }
@@ -97,10 +98,11 @@ fn mark_assigned(
     assignment: &[u8],
     j: usize,
     marks: &mut [u8],
+    classes: &[u8],
 )
-    requires { ⌜ AssignedGiven (graphOf (now b)) (now dist) (now last) root (now starts) (now cuts) (now members)
+    requires { ⌜ AssignedGiven (graphOf (now b) (now classes)) (now dist) (now last) root (now starts) (now cuts) (now members)
         (now places) (now assignment) j (length (now marks)) ⌝ }
-    ensures { λ _. ⌜ AssignedMarked (graphOf (now (b .entry))) (now (dist .entry)) (now (last .entry)) root
+    ensures { λ _. ⌜ AssignedMarked (graphOf (now (b .entry)) (now (classes .entry))) (now (dist .entry)) (now (last .entry)) root
         (now (starts .entry)) (now (cuts .entry)) (now (members .entry))
         (now (places .entry)) (now (assignment .entry)) j (now (marks .entry)) (now (marks .exit)) ⌝ }
 {
@@ -118,6 +120,7 @@ fn mark_assigned(
         start,
         edges_at(cuts, members, c),
         marks,
+        classes,
     );
 }
 
@@ -137,10 +140,11 @@ pub fn rooted_tree(
     assignment: &[u8],
     j: usize,
     tree: &mut [u16],
+    classes: &[u8],
 ) -> usize
-    requires { ⌜ RootGiven (graphOf (now b)) (now order) (now dist) (now last) root (now starts) (now cuts)
+    requires { ⌜ RootGiven (graphOf (now b) (now classes)) (now order) (now dist) (now last) root (now starts) (now cuts)
         (now members) left (now places) (now assignment) j (now tree) ⌝ }
-    ensures { λ r. ⌜ RootWritten (graphOf (now (b .entry))) (now (dist .entry)) (now (last .entry)) root
+    ensures { λ r. ⌜ RootWritten (graphOf (now (b .entry)) (now (classes .entry))) (now (dist .entry)) (now (last .entry)) root
         (now (starts .entry)) (now (cuts .entry)) (now (members .entry)) left
         (now (places .entry)) (now (assignment .entry)) j (now (tree .entry)) (now (tree .exit)) r ⌝ }
 {
@@ -158,6 +162,7 @@ pub fn rooted_tree(
         assignment,
         j,
         &mut marks,
+        classes,
     );
-    keep_risen(b, order, &marks, tree)
+    keep_risen(b, order, &marks, tree, classes)
 }

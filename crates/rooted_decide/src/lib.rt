@@ -19,12 +19,12 @@ ghost use Rattle.rooted_parts.specs.Near.{PartsNearPut};
 ghost use Rattle.rooted_decide.specs.Decide.{NoCoverAsked, RootedDecisionAsked, CountReady, FewReady, NearReady};
 
 // Whether some vertex is joined to no root by any edge ("no cover"). The whole forest joins what all edges join.
-pub fn no_cover_rooted(b: &[u8], roots: &[u16], kept: &[u16]) -> bool
-    requires { ⌜ NoCoverAsked (graphOf (now b)) (now roots) (now kept) ⌝ }
-    ensures { λ r. ⌜ r ≡ noCover (graphOf (now (b .entry))) (rooted (now (roots .entry))) ⌝ }
+pub fn no_cover_rooted(b: &[u8], roots: &[u16], kept: &[u16], classes: &[u8]) -> bool
+    requires { ⌜ NoCoverAsked (graphOf (now b) (now classes)) (now roots) (now kept) ⌝ }
+    ensures { λ r. ⌜ r ≡ noCover (graphOf (now (b .entry)) (now (classes .entry))) (rooted (now (roots .entry))) ⌝ }
 {
     let mut label = [0u16; 256];
-    let found = stop_at(b, roots, kept, &mut label);
+    let found = stop_at(b, roots, kept, &mut label, classes);
     match found {
         Found::At(_) => true,
         Found::Nothing => false,
@@ -40,25 +40,33 @@ fn parts_near(
     distances: &[u32],
     steps: &[u64],
     parts: &mut [u32],
+    classes: &[u8],
 ) -> usize
-    requires { ⌜ NearReady (graphOf (now b)) (now roots) limit (now distances) (now steps) (now parts) ⌝ }
-    ensures { λ r. ⌜ PartsNearPut (graphOf (now (b .entry))) (now (roots .entry)) limit (now (parts .entry))
+    requires { ⌜ NearReady (graphOf (now b) (now classes)) (now roots) limit (now distances) (now steps) (now parts) ⌝ }
+    ensures { λ r. ⌜ PartsNearPut (graphOf (now (b .entry)) (now (classes .entry))) (now (roots .entry)) limit (now (parts .entry))
         (now (parts .exit)) r ⌝ }
 {
     let mut near = [0u32; 256];
-    roots_within(b, roots, limit, distances, &mut near);
+    roots_within(b, roots, limit, distances, &mut near, classes);
     near_parts(steps, limit, &near, parts)
 }
 
 // Whether each part of the trial gets a root of its own, where there are some parts and no more than roots. So few have
 // rows of at most 32 times 32 bytes.
-fn few_assigned(b: &[u8], roots: &[u16], limit: u64, distances: &[u32], steps: &[u64]) -> bool
-    requires { ⌜ FewReady (graphOf (now b)) (now roots) limit (now distances) (now steps) ⌝ }
-    ensures { λ r. ⌜ r ≡ isAssignable (graphOf (now (b .entry))) (now (roots .entry)) limit ⌝ }
+fn few_assigned(
+    b: &[u8],
+    roots: &[u16],
+    limit: u64,
+    distances: &[u32],
+    steps: &[u64],
+    classes: &[u8],
+) -> bool
+    requires { ⌜ FewReady (graphOf (now b) (now classes)) (now roots) limit (now distances) (now steps) ⌝ }
+    ensures { λ r. ⌜ r ≡ isAssignable (graphOf (now (b .entry)) (now (classes .entry))) (now (roots .entry)) limit ⌝ }
 {
     let k = roots.len();
     let mut parts = [0u32; 32];
-    let p = parts_near(b, roots, limit, distances, steps, &mut parts);
+    let p = parts_near(b, roots, limit, distances, steps, &mut parts, classes);
     let mut rows = [0u8; 1024];
     put_rows(&parts[..p], k, &mut rows);
     let size = p * k;
@@ -69,9 +77,16 @@ fn few_assigned(b: &[u8], roots: &[u16], limit: u64, distances: &[u32], steps: &
 // Whether each part of the trial gets a root of its own, where every vertex is joined to a root. The parts are counted
 // first: more than there are roots never do, and where there is none nothing is needed, so that no distance is looked
 // at for them.
-fn parts_assigned(b: &[u8], roots: &[u16], limit: u64, distances: &[u32], steps: &[u64]) -> bool
-    requires { ⌜ CountReady (graphOf (now b)) (now roots) limit (now distances) (now steps) ⌝ }
-    ensures { λ r. ⌜ r ≡ isAssignable (graphOf (now (b .entry))) (now (roots .entry)) limit ⌝ }
+fn parts_assigned(
+    b: &[u8],
+    roots: &[u16],
+    limit: u64,
+    distances: &[u32],
+    steps: &[u64],
+    classes: &[u8],
+) -> bool
+    requires { ⌜ CountReady (graphOf (now b) (now classes)) (now roots) limit (now distances) (now steps) ⌝ }
+    ensures { λ r. ⌜ r ≡ isAssignable (graphOf (now (b .entry)) (now (classes .entry))) (now (roots .entry)) limit ⌝ }
 {
     let parts = count_parts(steps, limit);
     if roots.len() < parts {
@@ -80,7 +95,7 @@ fn parts_assigned(b: &[u8], roots: &[u16], limit: u64, distances: &[u32], steps:
     if parts == 0 {
         return true;
     }
-    few_assigned(b, roots, limit, distances, steps)
+    few_assigned(b, roots, limit, distances, steps, classes)
 }
 
 // Whether the limit is accepted, where the whole graph joins every vertex to a root.
@@ -91,12 +106,13 @@ pub fn accepts_rooted(
     kept: &[u16],
     distances: &[u32],
     steps: &[u64],
+    classes: &[u8],
 ) -> bool
-    requires { ⌜ RootedDecisionAsked (graphOf (now b)) (now roots) limit (now kept) (now distances) (now steps) ⌝ }
-    ensures { λ r. ⌜ r ≡ accepts (graphOf (now (b .entry))) (rooted (now (roots .entry))) limit ⌝ }
+    requires { ⌜ RootedDecisionAsked (graphOf (now b) (now classes)) (now roots) limit (now kept) (now distances) (now steps) ⌝ }
+    ensures { λ r. ⌜ r ≡ accepts (graphOf (now (b .entry)) (now (classes .entry))) (rooted (now (roots .entry))) limit ⌝ }
 {
-    if light_forest(b, kept, limit) < kept.len() {
+    if light_forest(b, kept, limit, classes) < kept.len() {
         return false;
     }
-    parts_assigned(b, roots, limit, distances, steps)
+    parts_assigned(b, roots, limit, distances, steps, classes)
 }

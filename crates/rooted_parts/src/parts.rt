@@ -31,16 +31,17 @@ fn place_pieces(
     members: &mut [u16],
     lefts: &mut [u16],
     places: &mut [u16],
+    classes: &[u8],
 ) -> usize
-    requires { ⌜ PiecesAsked (graphOf (now b)) (now roots) limit (now bounds) (now arcs)
+    requires { ⌜ PiecesAsked (graphOf (now b) (now classes)) (now roots) limit (now bounds) (now arcs)
         (arraysOf (now starts) (now cuts) (now members) (now lefts) (now places)) ⌝ }
-    ensures { λ r. ⌜ PiecesPut (graphOf (now (b .entry))) (now (roots .entry)) limit
+    ensures { λ r. ⌜ PiecesPut (graphOf (now (b .entry)) (now (classes .entry))) (now (roots .entry)) limit
         (arraysOf (now (starts .entry)) (now (cuts .entry)) (now (members .entry)) (now (lefts .entry))
         (now (places .entry)))
         (arraysOf (now (starts .exit)) (now (cuts .exit)) (now (members .exit)) (now (lefts .exit))
         (now (places .exit))) r ⌝ }
 {
-    let n = graph::vertex_count(b);
+    let n = graph::vertex_count(b, classes);
     split_forest(n, bounds, arcs, roots, limit, starts, cuts, members, lefts);
     part_places(&lefts[..roots.len()], places)
 }
@@ -70,15 +71,25 @@ fn pieces_near(
     places: &[u16],
     parts: usize,
     words: &mut [u32],
+    classes: &[u8],
 )
-    requires { ⌜ WordsAsked (graphOf (now b)) (now roots) limit (now distances) (now starts) (now cuts) (now members)
+    requires { ⌜ WordsAsked (graphOf (now b) (now classes)) (now roots) limit (now distances) (now starts) (now cuts) (now members)
         (now places) parts (now words) ⌝ }
-    ensures { λ _. ⌜ PartsNearPut (graphOf (now (b .entry))) (now (roots .entry)) limit (now (words .entry))
+    ensures { λ _. ⌜ PartsNearPut (graphOf (now (b .entry)) (now (classes .entry))) (now (roots .entry)) limit (now (words .entry))
         (now (words .exit)) parts ⌝ }
 {
     let mut near = [0u32; 256];
-    roots_within(b, roots, limit, distances, &mut near);
-    near_pieces(b, &near, starts, cuts, members, &places[..parts], words);
+    roots_within(b, roots, limit, distances, &mut near, classes);
+    near_pieces(
+        b,
+        &near,
+        starts,
+        cuts,
+        members,
+        &places[..parts],
+        words,
+        classes,
+    );
 }
 
 // Marks the roots near each part in its row, and gives each part a root of its own, or else marks a deficient set.
@@ -94,10 +105,11 @@ fn assign_parts(
     parts: usize,
     rows: &mut [u8],
     assignment: &mut [u8],
+    classes: &[u8],
 ) -> bool
-    requires { ⌜ RowsAsked (graphOf (now b)) (now roots) limit (now distances) (now starts) (now cuts) (now members)
+    requires { ⌜ RowsAsked (graphOf (now b) (now classes)) (now roots) limit (now distances) (now starts) (now cuts) (now members)
         (now places) parts (now rows) (now assignment) ⌝ }
-    ensures { λ r. ⌜ RowsPlaced (graphOf (now (b .entry))) (now (roots .entry)) limit parts (now (rows .entry))
+    ensures { λ r. ⌜ RowsPlaced (graphOf (now (b .entry)) (now (classes .entry))) (now (roots .entry)) limit parts (now (rows .entry))
         (now (rows .exit))
         (now (assignment .entry)) (now (assignment .exit)) r ⌝ }
 {
@@ -113,6 +125,7 @@ fn assign_parts(
         places,
         parts,
         &mut words,
+        classes,
     );
     let k = roots.len();
     let size = parts * k;
@@ -136,10 +149,11 @@ pub fn place_parts(
     places: &mut [u16],
     rows: &mut [u8],
     assignment: &mut [u8],
+    classes: &[u8],
 ) -> Placed
-    requires { ⌜ PartsAsked (graphOf (now b)) (now roots) limit (now bounds) (now arcs) (now distances)
+    requires { ⌜ PartsAsked (graphOf (now b) (now classes)) (now roots) limit (now bounds) (now arcs) (now distances)
         (arraysOf (now starts) (now cuts) (now members) (now lefts) (now places)) (now rows) (now assignment) ⌝ }
-    ensures { λ r. ⌜ PartsPut (graphOf (now (b .entry))) (now (roots .entry)) limit
+    ensures { λ r. ⌜ PartsPut (graphOf (now (b .entry)) (now (classes .entry))) (now (roots .entry)) limit
         (trialArrays (now (starts .entry)) (now (cuts .entry)) (now (members .entry)) (now (lefts .entry))
         (now (places .entry)) (now (rows .entry)) (now (assignment .entry)))
         (trialArrays (now (starts .exit)) (now (cuts .exit)) (now (members .exit)) (now (lefts .exit))
@@ -157,6 +171,7 @@ pub fn place_parts(
         members,
         lefts,
         places,
+        classes,
     );
     let assigned = assign_parts(
         b,
@@ -170,6 +185,7 @@ pub fn place_parts(
         parts,
         rows,
         assignment,
+        classes,
     );
     Placed { parts, assigned }
 }

@@ -20,13 +20,14 @@ pub(crate) fn accepts_at(
     total: &[u64],
     until: &[u16],
     steps: &[u64],
+    classes: &[u8],
 ) -> bool
-    requires { ⌜ DecisionAsked kind k (graphOf (now b)) (now roots) limit (now kept) (now distances) (now total)
+    requires { ⌜ DecisionAsked kind k (graphOf (now b) (now classes)) (now roots) limit (now kept) (now distances) (now total)
         (now until) (now steps) ⌝ }
-    ensures { λ r. ⌜ r ≡ accepts (graphOf (now (b .entry))) (crewsWith kind k (now (roots .entry))) limit ⌝ }
+    ensures { λ r. ⌜ r ≡ accepts (graphOf (now (b .entry)) (now (classes .entry))) (crewsWith kind k (now (roots .entry))) limit ⌝ }
 {
     match kind {
-        Kind::Rooted => accepts_rooted(b, roots, limit, kept, distances, steps),
-        Kind::Unrooted => accepts_unrooted(b, k, limit, kept, total, until),
+        Kind::Rooted => accepts_rooted(b, roots, limit, kept, distances, steps, classes),
+        Kind::Unrooted => accepts_unrooted(b, k, limit, kept, total, until, classes),
     }
 }

@@ -23,10 +23,11 @@ fn search(
     steps: &[u64],
     sum: u64,
     budget: usize,
+    classes: &[u8],
 ) -> u64
-    requires { ⌜ SearchAsked kind k (graphOf (now b)) (now roots) (now kept) (now distances) (now total) (now until)
+    requires { ⌜ SearchAsked kind k (graphOf (now b) (now classes)) (now roots) (now kept) (now distances) (now total) (now until)
         (now steps) sum ⌝ }
-    ensures { λ r. ⌜ r ≡ searchEnd (graphOf (now (b .entry))) (crewsWith kind k (now (roots .entry))) sum budget ⌝ }
+    ensures { λ r. ⌜ r ≡ searchEnd (graphOf (now (b .entry)) (now (classes .entry))) (crewsWith kind k (now (roots .entry))) sum budget ⌝ }
 {
     let mut low = 0;
     let mut high = sum;
@@ -48,6 +49,7 @@ fn search(
             total,
             until,
             steps,
+            classes,
         ) {
             high = middle;
             continue;
@@ -70,15 +72,28 @@ fn search_limit(
     total: &[u64],
     until: &[u16],
     steps: &[u64],
+    classes: &[u8],
 ) -> u64
-    requires { ⌜ SteppedAsked kind k (graphOf (now b)) (now roots) (now order) (now kept) (now distances) (now total)
+    requires { ⌜ SteppedAsked kind k (graphOf (now b) (now classes)) (now roots) (now order) (now kept) (now distances) (now total)
         (now until) (now steps) ⌝ }
-    ensures { λ r. ⌜ r ≡ bestLimit (graphOf (now (b .entry))) (crewsWith kind k (now (roots .entry))) ⌝ }
+    ensures { λ r. ⌜ r ≡ bestLimit (graphOf (now (b .entry)) (now (classes .entry))) (crewsWith kind k (now (roots .entry))) ⌝ }
 {
-    if accepts_at(kind, k, b, roots, 0, kept, distances, total, until, steps) {
+    if accepts_at(
+        kind,
+        k,
+        b,
+        roots,
+        0,
+        kept,
+        distances,
+        total,
+        until,
+        steps,
+        classes,
+    ) {
         return 0;
     }
-    let sum = edges_weight(b, order);
+    let sum = edges_weight(b, order, classes);
     search(
         kind,
         k,
@@ -91,6 +106,7 @@ fn search_limit(
         steps,
         sum,
         31,
+        classes,
     )
 }
 
@@ -102,13 +118,14 @@ fn write_steps(
     bounds: &[u16],
     arcs: &[u64],
     steps: &mut [u64],
+    classes: &[u8],
 ) -> usize
-    requires { ⌜ StepsGiven kind (graphOf (now b)) (now roots) (now bounds) (now arcs) (now steps) ⌝ }
-    ensures { λ r. ⌜ StepsFor kind (graphOf (now (b .entry))) (now (roots .entry)) (now (steps .entry))
+    requires { ⌜ StepsGiven kind (graphOf (now b) (now classes)) (now roots) (now bounds) (now arcs) (now steps) ⌝ }
+    ensures { λ r. ⌜ StepsFor kind (graphOf (now (b .entry)) (now (classes .entry))) (now (roots .entry)) (now (steps .entry))
         (now (steps .exit)) r ⌝ }
 {
     match kind {
-        Kind::Rooted => put_steps(graph::vertex_count(b), bounds, arcs, roots, steps),
+        Kind::Rooted => put_steps(graph::vertex_count(b, classes), bounds, arcs, roots, steps),
         Kind::Unrooted => 0,
     }
 }
@@ -126,13 +143,14 @@ pub fn best_limit(
     distances: &[u32],
     total: &[u64],
     until: &[u16],
+    classes: &[u8],
 ) -> u64
-    requires { ⌜ BestAsked kind k (graphOf (now b)) (now roots) (now order) (now kept) (now bounds) (now arcs)
+    requires { ⌜ BestAsked kind k (graphOf (now b) (now classes)) (now roots) (now order) (now kept) (now bounds) (now arcs)
         (now distances) (now total) (now until) ⌝ }
-    ensures { λ r. ⌜ r ≡ bestLimit (graphOf (now (b .entry))) (crewsWith kind k (now (roots .entry))) ⌝ }
+    ensures { λ r. ⌜ r ≡ bestLimit (graphOf (now (b .entry)) (now (classes .entry))) (crewsWith kind k (now (roots .entry))) ⌝ }
 {
     let mut steps = [0u64; 256];
-    let count = write_steps(kind, b, roots, bounds, arcs, &mut steps);
+    let count = write_steps(kind, b, roots, bounds, arcs, &mut steps, classes);
     search_limit(
         kind,
         k,
@@ -144,5 +162,6 @@ pub fn best_limit(
         total,
         until,
         &steps[..count],
+        classes,
     )
 }

@@ -21,12 +21,19 @@ pub struct AtLimit {
 }
 
 // How many trees the components at the limit need ("the sum C"), and the edges of their forest: so many of the first.
-fn at_limit(b: &[u8], limit: u64, kept: &[u16], total: &[u64], until: &[u16]) -> AtLimit
-    requires { ⌜ HistoryReady (graphOf (now b)) (now kept) (now total) (now until) ⌝ }
-    ensures { λ r. ⌜ LimitKnown (graphOf (now (b .entry))) (now (kept .entry)) limit r ⌝ }
+fn at_limit(
+    b: &[u8],
+    limit: u64,
+    kept: &[u16],
+    total: &[u64],
+    until: &[u16],
+    classes: &[u8],
+) -> AtLimit
+    requires { ⌜ HistoryReady (graphOf (now b) (now classes)) (now kept) (now total) (now until) ⌝ }
+    ensures { λ r. ⌜ LimitKnown (graphOf (now (b .entry)) (now (classes .entry))) (now (kept .entry)) limit r ⌝ }
 {
-    let edges = light_forest(b, kept, limit);
-    let trees = needed_by_history(graph::vertex_count(b), total, until, edges, limit);
+    let edges = light_forest(b, kept, limit, classes);
+    let trees = needed_by_history(graph::vertex_count(b, classes), total, until, edges, limit);
     AtLimit { edges, trees }
 }
 
@@ -39,15 +46,16 @@ pub fn answer_unrooted(
     total: &[u64],
     until: &[u16],
     buf: &mut [u8],
+    classes: &[u8],
 ) -> Reply
-    requires { ⌜ UnrootedAnswerAsked (graphOf (now b)) k limit (now kept) (now total) (now until) (length (now buf)) ⌝ }
-    ensures { λ r. ⌜ Answers (graphOf (now (b .entry))) (unrooted k) limit (now (buf .entry)) (now (buf .exit)) r ⌝ }
+    requires { ⌜ UnrootedAnswerAsked (graphOf (now b) (now classes)) k limit (now kept) (now total) (now until) (length (now buf)) ⌝ }
+    ensures { λ r. ⌜ Answers (graphOf (now (b .entry)) (now (classes .entry))) (unrooted k) limit (now (buf .entry)) (now (buf .exit)) r ⌝ }
 {
-    let at = at_limit(b, limit, kept, total, until);
+    let at = at_limit(b, limit, kept, total, until, classes);
     if (k as u64) < at.trees {
         return Reply::Needs(at.trees);
     }
-    let w = unrooted_trees(b, &kept[..at.edges], limit, buf);
+    let w = unrooted_trees(b, &kept[..at.edges], limit, buf, classes);
     Reply::Cover(limit, w.heaviest, w.trees)
 }
 
@@ -60,12 +68,13 @@ pub fn accepts_unrooted(
     kept: &[u16],
     total: &[u64],
     until: &[u16],
+    classes: &[u8],
 ) -> bool
-    requires { ⌜ HistoryReady (graphOf (now b)) (now kept) (now total) (now until) ⌝ }
-    ensures { λ r. ⌜ r ≡ accepts (graphOf (now (b .entry))) (unrooted k) limit ⌝ }
+    requires { ⌜ HistoryReady (graphOf (now b) (now classes)) (now kept) (now total) (now until) ⌝ }
+    ensures { λ r. ⌜ r ≡ accepts (graphOf (now (b .entry)) (now (classes .entry))) (unrooted k) limit ⌝ }
 {
-    let n = graph::vertex_count(b);
-    let light = light_forest(b, kept, limit);
+    let n = graph::vertex_count(b, classes);
+    let light = light_forest(b, kept, limit, classes);
     if k < n - light {
         return false;
     }
@@ -74,9 +83,9 @@ pub fn accepts_unrooted(
 
 // Whether no cover exists at all: there are "more components than k". Each edge of the whole forest leaves one
 // component fewer than the vertices are.
-pub fn no_cover_unrooted(b: &[u8], k: usize, kept: &[u16]) -> bool
-    requires { ⌜ ForestKept (graphOf (now b)) (now kept) ⌝ }
-    ensures { λ r. ⌜ r ≡ noCover (graphOf (now (b .entry))) (unrooted k) ⌝ }
+pub fn no_cover_unrooted(b: &[u8], k: usize, kept: &[u16], classes: &[u8]) -> bool
+    requires { ⌜ ForestKept (graphOf (now b) (now classes)) (now kept) ⌝ }
+    ensures { λ r. ⌜ r ≡ noCover (graphOf (now (b .entry)) (now (classes .entry))) (unrooted k) ⌝ }
 {
-    k < graph::vertex_count(b) - kept.len()
+    k < graph::vertex_count(b, classes) - kept.len()
 }

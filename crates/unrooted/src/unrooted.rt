@@ -35,18 +35,19 @@ fn split_components(
     cuts: &mut [u16],
     members: &mut [u16],
     lefts: &mut [u16],
+    classes: &[u8],
 ) -> Split
-    requires { ⌜ SplitAsked (graphOf (now b)) (now edges) limit (now starts) (now cuts) (now members) (now lefts) ⌝ }
-    ensures { λ r. ⌜ ComponentsSplit (graphOf (now (b .entry))) limit (now (starts .entry)) (now (starts .exit))
+    requires { ⌜ SplitAsked (graphOf (now b) (now classes)) (now edges) limit (now starts) (now cuts) (now members) (now lefts) ⌝ }
+    ensures { λ r. ⌜ ComponentsSplit (graphOf (now (b .entry)) (now (classes .entry))) limit (now (starts .entry)) (now (starts .exit))
         (now (cuts .entry)) (now (cuts .exit))
         (now (members .entry)) (now (members .exit)) (now (lefts .entry)) (now (lefts .exit)) r ⌝ }
 {
     let mut roots = [0u16; 256];
     let mut bounds = [0u16; 257];
     let mut arcs = [0u64; 512];
-    let k = component_roots(b, edges, &mut roots);
-    put_arcs(b, edges, &mut bounds, &mut arcs);
-    let n = graph::vertex_count(b);
+    let k = component_roots(b, edges, &mut roots, classes);
+    put_arcs(b, edges, &mut bounds, &mut arcs, classes);
+    let n = graph::vertex_count(b, classes);
     let pieces = split_forest(
         n,
         &bounds,
@@ -71,16 +72,17 @@ fn order_trees(
     cuts: &[u16],
     members: &mut [u16],
     chosen: &mut [u16],
+    classes: &[u8],
 ) -> usize
     requires { ⌜ OrderAsked pieces (now lefts) (now starts) (now cuts) (now members) (now chosen) ⌝ }
-    ensures { λ r. ⌜ TreesOrdered (graphOf (now (b .entry))) pieces (now (lefts .entry)) (now (starts .entry))
+    ensures { λ r. ⌜ TreesOrdered (graphOf (now (b .entry)) (now (classes .entry))) pieces (now (lefts .entry)) (now (starts .entry))
         (now (starts .exit)) (now (cuts .entry))
         (now (members .entry)) (now (members .exit)) (now (chosen .entry)) (now (chosen .exit)) r ⌝ }
 {
     let mut keys = [0u32; 512];
     let t = tree_places(lefts, cuts, chosen);
     rise_segments(cuts, pieces, members);
-    set_lowest(b, starts, cuts, members, pieces);
+    set_lowest(b, starts, cuts, members, pieces, classes);
     write_keys(starts, cuts, members, pieces, &mut keys);
     sort_chosen(&keys, &mut chosen[..t]);
     t
@@ -88,9 +90,15 @@ fn order_trees(
 
 // The trees of the answer at a limit, as the buffer's first bytes: the components at the limit, from the edges of the
 // forest there, split into at most 32 trees. Everything behind the bytes stays.
-pub(crate) fn unrooted_trees(b: &[u8], edges: &[u16], limit: u64, buf: &mut [u8]) -> Written
-    requires { ⌜ UnrootedTreesAsked (graphOf (now b)) (now edges) limit (now buf) ⌝ }
-    ensures { λ r. ⌜ TreesWritten (graphOf (now (b .entry))) limit (now (buf .entry)) (now (buf .exit)) r ⌝ }
+pub(crate) fn unrooted_trees(
+    b: &[u8],
+    edges: &[u16],
+    limit: u64,
+    buf: &mut [u8],
+    classes: &[u8],
+) -> Written
+    requires { ⌜ UnrootedTreesAsked (graphOf (now b) (now classes)) (now edges) limit (now buf) ⌝ }
+    ensures { λ r. ⌜ TreesWritten (graphOf (now (b .entry)) (now (classes .entry))) limit (now (buf .entry)) (now (buf .exit)) r ⌝ }
 {
     let mut starts = [0u16; 512];
     let mut cuts = [0u16; 513];
@@ -105,6 +113,7 @@ pub(crate) fn unrooted_trees(b: &[u8], edges: &[u16], limit: u64, buf: &mut [u8]
         &mut cuts,
         &mut members,
         &mut lefts,
+        classes,
     );
     let left = &lefts[..s.roots];
     let t = order_trees(
@@ -115,8 +124,9 @@ pub(crate) fn unrooted_trees(b: &[u8], edges: &[u16], limit: u64, buf: &mut [u8]
         &cuts,
         &mut members,
         &mut chosen,
+        classes,
     );
-    let heaviest = heaviest_chosen(b, &cuts, &members, &chosen[..t]);
+    let heaviest = heaviest_chosen(b, &cuts, &members, &chosen[..t], classes);
     write_cover(buf, &starts, &cuts, &members, &chosen[..t]);
     Written { heaviest, trees: t }
 }

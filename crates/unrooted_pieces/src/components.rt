@@ -22,15 +22,15 @@ fn lower(u: usize, v: usize) -> usize
 }
 
 // The lowest vertex of the tree with this start and these edges.
-fn lowest_vertex(b: &[u8], start: usize, edges: &[u16]) -> usize
-    ensures { λ r. ⌜ LowestFound (graphOf (now (b .entry))) start (now (edges .entry)) r ⌝ }
+fn lowest_vertex(b: &[u8], start: usize, edges: &[u16], classes: &[u8]) -> usize
+    ensures { λ r. ⌜ LowestFound (graphOf (now (b .entry)) (now (classes .entry))) start (now (edges .entry)) r ⌝ }
 {
     let mut v = start;
     let mut i = 0;
     while i < edges.len() {
         let e = wide(edges[i]);
-        v = lower(v, graph::one_end(b, e));
-        v = lower(v, graph::other_end(b, e));
+        v = lower(v, graph::one_end(b, e, classes));
+        v = lower(v, graph::other_end(b, e, classes));
         i += 1;
     }
     v
@@ -59,23 +59,37 @@ pub fn rise_segments(cuts: &[u16], k: usize, members: &mut [u16])
 }
 
 // The lowest vertex of a piece that has the given start.
-fn piece_lowest(b: &[u8], start: u16, cuts: &[u16], members: &[u16], i: usize) -> u16
+fn piece_lowest(
+    b: &[u8],
+    start: u16,
+    cuts: &[u16],
+    members: &[u16],
+    i: usize,
+    classes: &[u8],
+) -> u16
     requires { ⌜ PieceHeld (now cuts) (now members) i ⌝ }
-    ensures { λ r. ⌜ LowestFound (graphOf (now (b .entry))) start (segment (now (cuts .entry)) (now (members .entry)) i)
+    ensures { λ r. ⌜ LowestFound (graphOf (now (b .entry)) (now (classes .entry))) start (segment (now (cuts .entry)) (now (members .entry)) i)
         r ⌝ }
 {
-    lowest_vertex(b, wide(start), edges_at(cuts, members, i)) as u16
+    lowest_vertex(b, wide(start), edges_at(cuts, members, i), classes) as u16
 }
 
 // Each of the first k pieces starts at its lowest vertex now.
-pub fn set_lowest(b: &[u8], starts: &mut [u16], cuts: &[u16], members: &[u16], k: usize)
+pub fn set_lowest(
+    b: &[u8],
+    starts: &mut [u16],
+    cuts: &[u16],
+    members: &[u16],
+    k: usize,
+    classes: &[u8],
+)
     requires { ⌜ PiecesGiven (now starts) (now cuts) (now members) k ⌝ }
-    ensures { λ _. ⌜ LowestSet (graphOf (now (b .entry))) (now (cuts .entry)) (now (members .entry)) k
+    ensures { λ _. ⌜ LowestSet (graphOf (now (b .entry)) (now (classes .entry))) (now (cuts .entry)) (now (members .entry)) k
         (now (starts .entry)) (now (starts .exit)) ⌝ }
 {
     let mut i = 0;
     while i < k {
-        starts[i] = piece_lowest(b, starts[i], cuts, members, i);
+        starts[i] = piece_lowest(b, starts[i], cuts, members, i, classes);
         i += 1;
     }
 }

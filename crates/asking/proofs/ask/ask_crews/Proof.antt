@@ -14,7 +14,7 @@ use Rattle.asking.proofs.ask.ask_crews.Tie as tie
 -- Where the roots are numbered.
 module _ (u : tie.After-number-up) where
   abbrev s : tie.Start
-  s = (let d = u .before .before .before .before in d .before .before)
+  s = (let d = u .before .before .before .before in d .before .before .before)
 
   kind-is : s .args .kind ≡ Rooted
   kind-is = u .before .before .enum-told .given .1
@@ -30,8 +30,8 @@ slice-aggregate-number-up c = search needs
 
 number-up-requires : tie.Need-number-up-requires
 number-up-requires c κs =
-    let s = (let d = c .before .before .before .before in d .before) in
-    let few = crews-few (s .args .kind) (s .args .k) (graphOf (s .args .b .now) .vertices) (s .pre .crews-right) in
+    let s = (let d = c .before .before .before .before .before in d .before) in
+    let few = crews-few (s .args .kind) (s .args .k) (graphOf (s .args .b .now) (s .args .classes .now) .vertices) (s .pre .crews-right) in
     record { few = omega arith; fits = omega arith }
 
 array-share-prefix-roots : tie.Need-array-share-prefix-roots
@@ -47,7 +47,7 @@ enum-told-2 : tie.Need-enum-told-2
 enum-told-2 c = search needs
 
 ask-unrooted-requires : tie.Need-ask-unrooted-requires
-ask-unrooted-requires c κs = unrooted-asked (let d = c .before .before .before .before in d .before .pre)
+ask-unrooted-requires c κs = unrooted-asked (let d = c .before .before .before .before in d .before .before .pre)
 
 same-length : tie.Need-same-length
 same-length c = search needs
@@ -65,7 +65,7 @@ returns-2 : tie.Need-returns-2
 returns-2 c =
     let a = c .before .before in
     let m = a .before .before in
-    unrooted-answered (m .before .before .before .before .args .k) (m .enum-told2 .given .1) (a .ask-unrooted .ensures)
+    unrooted-answered (m .before .before .before .before .before .args .k) (m .enum-told2 .given .1) (a .ask-unrooted .ensures)
 
 pub ask-crews-spec : {M : Type 1} → statement M
 ask-crews-spec =

@@ -13,10 +13,10 @@ use Rattle.forest.proofs.keep.join_ends.Tie as tie
 -- Where both ends are read: the graph, and that the ends are vertices, so that each has a label.
 module _ (k : tie.After-other-end) where
   abbrev start : tie.Start
-  start = k .before .before .before .before
+  start = k .before .before .before .before .before
 
   abbrev g : Graph
-  g = graphOf (start .args .b .now)
+  g = graphOf (start .args .b .now) (start .args .classes .now)
 
   valid : Valid g
   valid = start .pre .valid

@@ -13,10 +13,10 @@ use Rattle.near.proofs.held.near_piece.Statement.{statement}
 use Rattle.near.proofs.held.near_piece.Tie as tie
 
 abbrev Inv-loop : tie.InvT-loop
-Inv-loop b near start edges word₀ i₀ word i = Joining (graphOf b) near start edges i word
+Inv-loop b near start edges classes word₀ i₀ word i = Joining (graphOf b classes) near start edges i word
 
 abbrev μ-loop : tie.MeasureT-loop
-μ-loop b near start edges word₀ i₀ word i = length edges - i
+μ-loop b near start edges classes word₀ i₀ word i = length edges - i
 
 -- Where the ends of an edge were read: what came, and that each end has a word.
 module _ (o : tie.After-other-end Inv-loop μ-loop) where
@@ -27,10 +27,10 @@ module _ (o : tie.After-other-end Inv-loop μ-loop) where
   l = turn .before
 
   abbrev s : tie.Start Inv-loop μ-loop
-  s = l .before .before .before .before .before
+  s = l .before .before .before .before .before .before
 
   abbrev g : Graph
-  g = graphOf (s .args .b .now)
+  g = graphOf (s .args .b .now) (s .args .classes .now)
 
   abbrev e : ℕ
   e = getD (s .args .edges .now) (l .loop .i) 0

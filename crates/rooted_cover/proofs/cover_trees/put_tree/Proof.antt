@@ -9,13 +9,13 @@ use Rattle.rooted_cover.proofs.TreesPut.{row-fits, tree-asked, tree-put
 use Rattle.rooted_cover.proofs.cover_trees.put_tree.Statement.{statement}
 use Rattle.rooted_cover.proofs.cover_trees.put_tree.Tie as tie
 
--- The array of edges is no longer than a number of its type can say.
-edges-few : (s : tie.Start) → length (s .args .edges .now) < 2 ^ 64
+-- The array of edges has no more bytes than a number can say.
+edges-few : (s : tie.Start) → length (s .args .edges .now) * 2 < 2 ^ 64
 edges-few s = omega arith
 
 -- Where the vertices are counted: what came.
 abbrev came : tie.After-vertex-count → tie.Start
-came v = let d = v .before .before .before .before in let e = d .before .before .before .before in e .before .before .before .before .before
+came v = let d = v .before .before .before .before in let e = d .before .before .before .before in e .before .before .before .before .before .before
 
 -- Where the root and the number of its leftover are read.
 module _ (e : tie.After-number-at) where
@@ -28,7 +28,7 @@ module _ (e : tie.After-number-at) where
   abbrev n : ℕ
   n = counted .vertex-count .result
 
-  count : n ≡ graphOf (s .args .b .now) .vertices
+  count : n ≡ graphOf (s .args .b .now) (s .args .classes .now) .vertices
   count = counted .vertex-count .ensures .is
 
   root-is : e .before .wide .result ≡ getD (s .args .roots .now) (s .args .j) 0
@@ -93,7 +93,7 @@ part-rooted-tree-end-2 : tie.Need-part-rooted-tree-end-2
 part-rooted-tree-end-2 c = in-lasts (c .before)
 
 mul-rooted-tree-3 : tie.Need-mul-rooted-tree-3
-mul-rooted-tree-3 c = search needs
+mul-rooted-tree-3 c = let e = c .before .before in omega (arith, s e .pre .fits, edges-few (s e))
 
 sub-rooted-tree-3 : tie.Need-sub-rooted-tree-3
 sub-rooted-tree-3 c = search needs

@@ -7,7 +7,7 @@ use Rattle.rooted_cover.proofs.tree.mark_reach.Tie as tie
 
 -- Where the nearest vertex is known: what came.
 abbrev start : tie.After-nearest-vertex → tie.Start
-start v = v .before .before .before .before .before .before
+start v = v .before .before .before .before .before .before .before
 
 nearest-vertex-requires : tie.Need-nearest-vertex-requires
 nearest-vertex-requires c κs = search needs

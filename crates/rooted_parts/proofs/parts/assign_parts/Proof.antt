@@ -22,10 +22,10 @@ module _ (q : tie.After-pieces-near) where
   s =
       let x = q .before .before .before .before in
       let y = x .before .before .before .before in
-      y .before .before .before
+      y .before .before .before .before
 
   abbrev g : Graph
-  g = graphOf (s .args .b .now)
+  g = graphOf (s .args .b .now) (s .args .classes .now)
 
   abbrev p : ℕ
   p = s .args .parts
@@ -57,7 +57,7 @@ pieces-near-requires : tie.Need-pieces-near-requires
 pieces-near-requires c κs =
     let x = c .before .before .before .before in
     let y = x .before .before .before .before in
-    let h = y .before .before .pre .held in
+    let h = y .before .before .before .pre .held in
     record { held = h; words-room = omega (arith, few h, h .ready .given .valid .vertices-most, length-replicate {A = ℕ} 256 0) }
 
 mul-size : tie.Need-mul-size

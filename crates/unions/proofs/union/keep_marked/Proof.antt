@@ -17,18 +17,18 @@ use Rattle.unions.proofs.union.keep_marked.Statement.{statement}
 use Rattle.unions.proofs.union.keep_marked.Tie as tie
 
 abbrev Inv-loop : tie.InvT-loop
-Inv-loop b list marks label₀ out₀ r₀ i₀ label out r i = KeepingMarked (graphOf b) (marked marks) list label₀ label out₀ out r i
+Inv-loop b list marks label₀ out₀ classes r₀ i₀ label out r i = KeepingMarked (graphOf b classes) (marked marks) list label₀ label out₀ out r i
 
 abbrev μ-loop : tie.MeasureT-loop
-μ-loop b list marks label₀ out₀ r₀ i₀ label out r i = length list - i
+μ-loop b list marks label₀ out₀ classes r₀ i₀ label out r i = length list - i
 
 -- Where a turn begins: what came, the graph, and room for one edge more.
 module _ (l : tie.At-loop Inv-loop μ-loop) where
   abbrev s : tie.Start Inv-loop μ-loop
-  s = l .before .before .before .before .before .before
+  s = l .before .before .before .before .before .before .before
 
   abbrev g : Graph
-  g = graphOf (s .args .b .now)
+  g = graphOf (s .args .b .now) (s .args .classes .now)
 
   valid : Valid g
   valid = s .pre .labelable .valid
@@ -71,7 +71,7 @@ abbrev begun : tie.Else2 Inv-loop μ-loop → tie.At-loop Inv-loop μ-loop
 begun c = l (looked (joined c) .before)
 
 loop-holds : tie.Need-loop-holds Inv-loop μ-loop
-loop-holds c = let a = c .before .before .before .before .before .args in keeping-none (graphOf (a .b .now)) (marked (a .marks .now)) (a .list .now) (a .label .now) (a .out .now)
+loop-holds c = let a = c .before .before .before .before .before .before .args in keeping-none (graphOf (a .b .now) (a .classes .now)) (marked (a .marks .now)) (a .list .now) (a .label .now) (a .out .now)
 
 mul-e : tie.Need-mul-e Inv-loop μ-loop
 mul-e c = search needs

@@ -16,10 +16,10 @@ use Rattle.unions.proofs.union.keep_union.Tie as tie
 -- Where the labels at the start are written: what came, and that all vertices are apart.
 module _ (l : tie.After-start-labels) where
   abbrev s : tie.Start
-  s = let d = l .before .before .before .before in d .before .before .before .before
+  s = let d = l .before .before .before .before in d .before .before .before .before .before
 
   abbrev g : Graph
-  g = graphOf (s .args .b .now)
+  g = graphOf (s .args .b .now) (s .args .classes .now)
 
   abbrev label : List ℕ
   label = l .start-labels .last .1 .1 .0
@@ -44,7 +44,8 @@ slice-aggregate-keep-marked : tie.Need-slice-aggregate-keep-marked
 slice-aggregate-keep-marked c = search needs
 
 keep-marked-requires : tie.Need-keep-marked-requires
-keep-marked-requires c κs = search needs
+keep-marked-requires c κs =
+    record { labelable = record { valid = s (c .before .before .before) .pre .valid; room = search needs }; room = search needs }
 
 same-length : tie.Need-same-length
 same-length c = search needs

@@ -14,10 +14,10 @@ use Rattle.unrooted.proofs.answer.accepts_unrooted.Tie as tie
 -- Where the edges within the limit are counted: what was given, and what the history tells.
 module _ (l : tie.After-light-forest) where
   abbrev s : tie.Start
-  s = (let d = l .before .before .before .before in d .before .before)
+  s = (let d = l .before .before .before .before in d .before .before .before)
 
   abbrev g : Graph
-  g = graphOf (s .args .b .now)
+  g = graphOf (s .args .b .now) (s .args .classes .now)
 
   readable : ReadAsked (l .before .vertex-count .result) (s .args .total .now) (s .args .until .now) (l .light-forest .result)
   readable = read-asked (s .pre .forest-kept) (l .light-forest .ensures) (s .pre .history) (l .before .vertex-count .ensures .is)

@@ -9,7 +9,7 @@ use Rattle.unrooted.proofs.answer.answer_unrooted.Tie as tie
 
 -- Where the limit is known: what was given.
 abbrev start : tie.After-at-limit → tie.Start
-start l = l .before .before .before .before .before .before
+start l = l .before .before .before .before .before .before .before
 
 -- Where there are crews enough: the limit is known.
 abbrev known : tie.Else1 → tie.After-at-limit
@@ -22,7 +22,7 @@ returns : tie.Need-returns
 returns c =
     let l = c .before .before in
     let a = start l .args in
-    too-low (graphOf (a .b .now)) (a .k) (a .limit) (l .at-limit .ensures .needs) (c .if1 .taken) (a .buf .now)
+    too-low (graphOf (a .b .now) (a .classes .now)) (a .k) (a .limit) (l .at-limit .ensures .needs) (c .if1 .taken) (a .buf .now)
 
 slice-aggregate-unrooted-trees : tie.Need-slice-aggregate-unrooted-trees
 slice-aggregate-unrooted-trees c = sym (length-take-le _ _ (known (c .before) .at-limit .ensures .few))
@@ -39,7 +39,7 @@ returns-2 c =
     let e = trees .before .before .before in
     let l = known e in
     let a = start l .args in
-    covered (graphOf (a .b .now)) (a .k) (a .limit) (l .at-limit .ensures .needs) (e .if1 .left) (trees .unrooted-trees .ensures)
+    covered (graphOf (a .b .now) (a .classes .now)) (a .k) (a .limit) (l .at-limit .ensures .needs) (e .if1 .left) (trees .unrooted-trees .ensures)
 
 pub answer-unrooted-spec : {M : Type 1} → statement M
 answer-unrooted-spec =

@@ -12,7 +12,7 @@ use Rattle.unrooted.proofs.unrooted.unrooted_trees.Tie as tie
 -- Where the components are split,
 module _ (p : tie.After-split-components) where
   abbrev s : tie.Start
-  s = let d = p .before .before .before .before in d .before .before .before .before
+  s = let d = p .before .before .before .before in d .before .before .before .before .before
 
 -- where the trees are in order,
 module _ (o : tie.After-order-trees) where
@@ -119,7 +119,7 @@ returns c =
     let trees = answer valid x y in
     record {
       put = rw trees at (w .write-cover .ensures .put);
-      heaviest-is = h .heaviest-chosen .ensures .is _ ∙ ap (heaviest (graphOf (s p .args .b .now))) trees;
+      heaviest-is = h .heaviest-chosen .ensures .is _ ∙ ap (heaviest (graphOf (s p .args .b .now) (s p .args .classes .now))) trees;
       trees-are = answer-count valid x y;
     }
 
