@@ -1,7 +1,10 @@
-// The check of a filed cover: the graph's bytes (11 to 16), the crews (21), then the cover's bytes (31 to 35), in that
-// order.
+// The check of a filed cover: the graph's bytes (11 to 16), the class list (53, 54), the crews (21), then the cover's
+// bytes (31 to 35), in that order.
 use crate::trees::trees_right;
 use admit::Admitted;
+use admit::brought::Lists;
+use admit::brought::NO_LISTS;
+use admit::brought::read_list;
 use admit::crews::Kind;
 use admit::refusal::Refusal;
 use cover::heaviest::heaviest_tree;
@@ -16,7 +19,7 @@ ghost use Rattle.graph.specs.Bytes.{graphOf};
 ghost use Rattle.graph.specs.Valid.{Valid};
 ghost use Rattle.rules.specs.CheckCover.{startsRight, coverFault};
 ghost use Rattle.cover.specs.Runs.{CoverGiven};
-ghost use Rattle.admit.specs.Crews.{asks, crewsOf};
+ghost use Rattle.admit.specs.Crews.{asks, asksWith, crewsOf};
 ghost use Rattle.filed.specs.Promise.{says, numberOr0, answer, treesFault, CheckPromise};
 
 // What the check answers.
@@ -48,26 +51,26 @@ fn starts_right(kind: Kind, k: usize, c: &[u8]) -> bool
 }
 
 // The check of the trees and the vertices, where starts and entries passed their tests.
-fn check_trees(b: &[u8], c: &[u8]) -> Verdict
-    requires { ⌜ CoverGiven (graphOf (now b)) (now c) ⌝ }
-    ensures { λ r. ⌜ says r ≡ answer (graphOf (now (b .entry))) (now (c .entry))
-        (treesFault (graphOf (now (b .entry))) (now (c .entry))) ⌝ }
+fn check_trees(b: &[u8], c: &[u8], classes: &[u8]) -> Verdict
+    requires { ⌜ CoverGiven (graphOf (now b) (now classes)) (now c) ⌝ }
+    ensures { λ r. ⌜ says r ≡ answer (graphOf (now (b .entry)) (now (classes .entry))) (now (c .entry))
+        (treesFault (graphOf (now (b .entry)) (now (classes .entry))) (now (c .entry))) ⌝ }
 {
     let mut parents = [0u8; 256];
-    if !trees_right(b, c, &mut parents) {
+    if !trees_right(b, c, &mut parents, classes) {
         return Verdict::Refused(Refusal::Trees);
     }
-    if !vertices_covered(b, c) {
+    if !vertices_covered(b, c, classes) {
         return Verdict::Refused(Refusal::Vertices);
     }
-    Verdict::Yes(heaviest_tree(b, c))
+    Verdict::Yes(heaviest_tree(b, c, classes))
 }
 
 // The check of the cover's bytes, for a graph.
-fn check_filed(kind: Kind, k: usize, b: &[u8], c: &[u8]) -> Verdict
-    requires { ⌜ Valid (graphOf (now b)) ⌝ }
-    ensures { λ r. ⌜ says r ≡ answer (graphOf (now (b .entry))) (now (c .entry))
-        (coverFault (graphOf (now (b .entry))) (crewsOf kind k) (now (c .entry))) ⌝ }
+fn check_filed(kind: Kind, k: usize, b: &[u8], c: &[u8], classes: &[u8]) -> Verdict
+    requires { ⌜ Valid (graphOf (now b) (now classes)) ⌝ }
+    ensures { λ r. ⌜ says r ≡ answer (graphOf (now (b .entry)) (now (classes .entry))) (now (c .entry))
+        (coverFault (graphOf (now (b .entry)) (now (classes .entry))) (crewsOf kind k) (now (c .entry))) ⌝ }
 {
     if c.len() < 4 {
         return Verdict::Refused(Refusal::Length);
@@ -78,21 +81,29 @@ fn check_filed(kind: Kind, k: usize, b: &[u8], c: &[u8]) -> Verdict
     if !starts_right(kind, k, c) {
         return Verdict::Refused(Refusal::Starts);
     }
-    if !starts_below(c, graph::vertex_count(b)) {
+    if !starts_below(c, graph::vertex_count(b, classes)) {
         return Verdict::Refused(Refusal::Starts);
     }
-    if !entries_right(c, graph::edge_count(b)) {
+    if !entries_right(c, graph::edge_count(b, classes)) {
         return Verdict::Refused(Refusal::Entries);
     }
-    check_trees(b, c)
+    check_trees(b, c, classes)
 }
 
-// The check: whether c is the bytes of a cover of the graph by the crews, and how much its heaviest tree weighs.
+// The check, of a question with the lists that are brought: whether c is the bytes of a cover of the graph by the
+// crews, and how much its heaviest tree weighs.
+pub fn check(kind: Kind, k: usize, b: &[u8], c: &[u8], lists: Lists, classes: &[u8]) -> Verdict
+    ensures { λ r. ⌜ CheckPromise (asksWith kind k (now (b .entry)) lists (now (classes .entry))) (now (c .entry)) r ⌝ }
+{
+    match admit::admit(kind, k, b, lists, classes) {
+        Admitted::Refused(f) => Verdict::Refused(f),
+        Admitted::Fits => check_filed(kind, k, b, c, read_list(lists.classes, classes)),
+    }
+}
+
+// The check of a question without lists.
 pub fn check_cover(kind: Kind, k: usize, b: &[u8], c: &[u8]) -> Verdict
     ensures { λ r. ⌜ CheckPromise (asks kind k (now (b .entry))) (now (c .entry)) r ⌝ }
 {
-    match admit::admit(kind, k, b) {
-        Admitted::Refused(f) => Verdict::Refused(f),
-        Admitted::Fits => check_filed(kind, k, b, c),
-    }
+    check(kind, k, b, c, NO_LISTS, &[])
 }

@@ -16,14 +16,21 @@ ghost use Rattle.filed.specs.Trees.{RunTaken, RunJoined, TreeGiven, Tree
 
 // Joins the ends of the edges of a run of entries, one edge after the other, as long as they are not yet joined. Says
 // whether none were.
-fn run_loop_free(b: &[u8], c: &[u8], from: usize, to: usize, parents: &mut [u8]) -> bool
-    requires { ⌜ (from ≤ to) × Joinable (graphOf (now b)) (now parents) ⌝ }
-    ensures { λ r. ⌜ RunTaken (graphOf (now (b .entry))) (now (c .entry)) from to (now (parents .entry))
+fn run_loop_free(
+    b: &[u8],
+    c: &[u8],
+    from: usize,
+    to: usize,
+    parents: &mut [u8],
+    classes: &[u8],
+) -> bool
+    requires { ⌜ (from ≤ to) × Joinable (graphOf (now b) (now classes)) (now parents) ⌝ }
+    ensures { λ r. ⌜ RunTaken (graphOf (now (b .entry)) (now (classes .entry))) (now (c .entry)) from to (now (parents .entry))
         (now (parents .exit)) r ⌝ }
 {
     let mut i = from;
     while i < to {
-        if !join_ends(b, entry_edge(c, i), parents) {
+        if !join_ends(b, entry_edge(c, i), parents, classes) {
             return false;
         }
         i += 1;
@@ -32,15 +39,23 @@ fn run_loop_free(b: &[u8], c: &[u8], from: usize, to: usize, parents: &mut [u8])
 }
 
 // Says whether each edge of a run of entries is joined to the start.
-fn run_joined(b: &[u8], c: &[u8], from: usize, to: usize, start: usize, parents: &mut [u8]) -> bool
-    requires { ⌜ (start < graphOf (now b) .vertices) × Joinable (graphOf (now b)) (now parents) ⌝ }
-    ensures { λ r. ⌜ RunJoined (graphOf (now (b .entry))) (now (c .entry)) from to start (now (parents .entry))
+fn run_joined(
+    b: &[u8],
+    c: &[u8],
+    from: usize,
+    to: usize,
+    start: usize,
+    parents: &mut [u8],
+    classes: &[u8],
+) -> bool
+    requires { ⌜ (start < graphOf (now b) (now classes) .vertices) × Joinable (graphOf (now b) (now classes)) (now parents) ⌝ }
+    ensures { λ r. ⌜ RunJoined (graphOf (now (b .entry)) (now (classes .entry))) (now (c .entry)) from to start (now (parents .entry))
         (now (parents .exit)) r ⌝ }
 {
     let home = stands_for(parents, start);
     let mut i = from;
     while i < to {
-        let u = graph::one_end(b, entry_edge(c, i));
+        let u = graph::one_end(b, entry_edge(c, i), classes);
         if stands_for(parents, u) != home {
             return false;
         }
@@ -50,9 +65,17 @@ fn run_joined(b: &[u8], c: &[u8], from: usize, to: usize, start: usize, parents:
 }
 
 // Says whether tree j, whose entries are the run, has no loop and no edge that is not joined to its start.
-fn tree_right(b: &[u8], c: &[u8], j: usize, from: usize, to: usize, parents: &mut [u8]) -> bool
-    requires { ⌜ TreeGiven (graphOf (now b)) (now c) j from to (now parents) ⌝ }
-    ensures { λ r. ⌜ TreeTold (graphOf (now (b .entry))) (record {
+fn tree_right(
+    b: &[u8],
+    c: &[u8],
+    j: usize,
+    from: usize,
+    to: usize,
+    parents: &mut [u8],
+    classes: &[u8],
+) -> bool
+    requires { ⌜ TreeGiven (graphOf (now b) (now classes)) (now c) j from to (now parents) ⌝ }
+    ensures { λ r. ⌜ TreeTold (graphOf (now (b .entry)) (now (classes .entry))) (record {
       start = startIn (now (c .entry)) j;
       edges = runEdges
           (now (c .entry)) from to;
@@ -60,16 +83,16 @@ fn tree_right(b: &[u8], c: &[u8], j: usize, from: usize, to: usize, parents: &mu
         (now (parents .entry)) (now (parents .exit)) r ⌝ }
 {
     set_apart(parents);
-    if !run_loop_free(b, c, from, to, parents) {
+    if !run_loop_free(b, c, from, to, parents, classes) {
         return false;
     }
-    run_joined(b, c, from, to, start_in(c, j), parents)
+    run_joined(b, c, from, to, start_in(c, j), parents, classes)
 }
 
 // Says whether every tree is so. The parents are scratch.
-pub fn trees_right(b: &[u8], c: &[u8], parents: &mut [u8]) -> bool
-    requires { ⌜ TreesGiven (graphOf (now b)) (now c) (now parents) ⌝ }
-    ensures { λ r. ⌜ TreesTold (graphOf (now (b .entry))) (decode (now (c .entry))) (now (parents .entry))
+pub fn trees_right(b: &[u8], c: &[u8], parents: &mut [u8], classes: &[u8]) -> bool
+    requires { ⌜ TreesGiven (graphOf (now b) (now classes)) (now c) (now parents) ⌝ }
+    ensures { λ r. ⌜ TreesTold (graphOf (now (b .entry)) (now (classes .entry))) (decode (now (c .entry))) (now (parents .entry))
         (now (parents .exit)) r ⌝ }
 {
     let t = trees_in(c);
@@ -77,7 +100,7 @@ pub fn trees_right(b: &[u8], c: &[u8], parents: &mut [u8]) -> bool
     let mut j = 0;
     while j < t {
         let to = run_end(c, j, from);
-        if !tree_right(b, c, j, from, to, parents) {
+        if !tree_right(b, c, j, from, to, parents, classes) {
             return false;
         }
         from = to;

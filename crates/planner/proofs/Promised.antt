@@ -8,19 +8,21 @@ use mathlib.Core.Option.{some, none, Option·some-ne-none}
 use lib.ListN.{length}
 use lib.Dec.{leb, ltb}
 use borrow.Author.Tests.{leb-true, leb-false, lt-ltb, le-ltb, ltb-false}
+use Rattle.graph.specs.Bytes.{graphOf}
 use Rattle.graph.specs.Fault.{Fault, faultIf, firstFault, refusedOr}
 use Rattle.graph.proofs.Faults.{quiet-if, quiet-each}
 use Rattle.rules.specs.Reply as rules
 use Rattle.rules.specs.RootedTrial.{noChoices}
 use Rattle.rules.specs.Search.{trial, best}
-use Rattle.rules.specs.Questions.{mostLimit, leastRoom, Question, graphIn, crewsIn, limitFault, roomFault, questionFault, trialFault, askTrial, bestFault, askBest, written, bufferAfter}
+use Rattle.rules.specs.Questions.{mostLimit, leastRoom, Question, listed, graphIn, crewsIn, limitFault, roomFault, questionFault, trialFault, askTrial, bestFault, askBest, written, bufferAfter}
 use Rattle.rules.proofs.Admitted.{Admitted, admitted}
 use Rattle.planner_laws.proofs.BothKinds.{trial-bounds}
 use Rattle.planner_laws.proofs.Replies.{trial-means, best-means}
 use Rattle.admit.specs.declared.crews.Kind.{Kind}
 use Rattle.admit.specs.declared.refusal.Refusal.{Refusal}
 use Rattle.admit.specs.declared.refusal.Refusal.the-variants.{Room}
-use Rattle.admit.specs.Crews.{asks}
+use Rattle.admit.specs.declared.brought.Lists.{Lists}
+use Rattle.admit.specs.Crews.{asksWith}
 use Rattle.admit.specs.Refusals.{numberOf}
 use Rattle.replies.specs.declared.Reply.{Reply}
 use Rattle.replies.specs.declared.Reply.the-variants.{Refused}
@@ -28,7 +30,7 @@ use Rattle.replies.specs.Replies.{Replied}
 use Rattle.asking.specs.declared.ask.Asked.{Asked}
 use Rattle.asking.specs.declared.ask.Asked.the-variants.{At, Best}
 use Rattle.asking.specs.Asking.{LimitFits, Answered, CrewsAsked}
-use Rattle.planner.specs.Promise.{Refuses, TrialPromise, BestPromise, limitFaultOf, faultOf, LimitTested, QuestionPromise}
+use Rattle.planner.specs.Promise.{Refuses, TrialPromise, BestPromise, limitFaultOf, faultOf, AskPromise, LimitTested, QuestionPromise}
 
 -- THE TESTS
 
@@ -104,12 +106,17 @@ module _ (asked : Asked) (q : Question) (room : ℕ) where
     unfolding faults roomFault
     room-quiet = ltb-false room leastRoom (quiet-if (ltb room leastRoom) _ (quiet-each (faults asked q room) quiet (List·Memᴰ·tail (List·Memᴰ·tail (List·Memᴰ·head refl)))))
 
--- So the question can be asked.
-pub can-ask : (asked : Asked) (kind : Kind) (k : ℕ) (b : List ℕ) (room : ℕ) → none ≡ faultOf asked (asks kind k b) room → CrewsAsked kind k (graphIn (asks kind k b)) asked room
-can-ask asked kind k b room e =
-    let q = asks kind k b in
-    let a = question-quiet asked q room (sym e) in
-    record { valid = a .valid; crews-right = a .crews-right; limit-fits = limit-quiet asked q room (sym e); room-most = room-quiet asked q room (sym e) }
+-- So the question can be asked, by the class bytes that are read.
+module _ (asked : Asked) (kind : Kind) (k : ℕ) (b : List ℕ) (lists : Lists) (classes : List ℕ) (room : ℕ) where
+  abbrev q : Question
+  q = asksWith kind k b lists classes
+
+  pub can-ask : {read : List ℕ} → listed (q .classes) ≡ read → none ≡ faultOf asked q room → CrewsAsked kind k (graphOf b read) asked room
+  can-ask {read} is e =
+      let a = question-quiet asked q room (sym e) in
+      let can : CrewsAsked kind k (graphIn q) asked room =
+      record { valid = a .valid; crews-right = a .crews-right; limit-fits = limit-quiet asked q room (sym e); room-most = room-quiet asked q room (sym e) } in
+      rw is at can
 
 module _ (asked : Asked) (q : Question) where
   -- A question that is refused: the reply says its number, and the buffer is as it came.
@@ -135,7 +142,7 @@ unfolding refusedOr bufferAfter written
 refused-so {fault} answer {before} {after} {r} p =
     record { number = λ n q. let is : fault ≡ some n = q in (rw is at p) .same; untouched = λ n q. let is : fault ≡ some n = q in (rw is at p) .buffer }
 
-pub trial-promised : {q : Question} {limit : ℕ} {before after : List ℕ} {r : Reply} → QuestionPromise (At limit) q before after r → TrialPromise q limit before after r
+trial-promised : {q : Question} {limit : ℕ} {before after : List ℕ} {r : Reply} → QuestionPromise (At limit) q before after r → TrialPromise q limit before after r
 unfolding askTrial
 trial-promised {q} {limit} {before} p =
     record {
@@ -146,7 +153,7 @@ trial-promised {q} {limit} {before} p =
       means = λ e. let a = question-quiet (At limit) q (length before) e in trial-means (crewsIn q) (trial-bounds (a .valid) (crewsIn q) (a .fit)) limit (p .choices) (p .good e);
     }
 
-pub best-promised : {q : Question} {before after : List ℕ} {r : Reply} → QuestionPromise Best q before after r → BestPromise q before after r
+best-promised : {q : Question} {before after : List ℕ} {r : Reply} → QuestionPromise Best q before after r → BestPromise q before after r
 unfolding askBest
 best-promised {q} {before} p =
     record {
@@ -156,3 +163,8 @@ best-promised {q} {before} p =
       good = p .good;
       means = λ e. let a = question-quiet Best q (length before) e in best-means (a .valid) (crewsIn q) (a .fit) (trial-bounds (a .valid) (crewsIn q) (a .fit)) (p .choices) (p .good e);
     }
+
+-- Either question.
+pub ask-promised : (asked : Asked) {q : Question} {before after : List ℕ} {r : Reply} → QuestionPromise asked q before after r → AskPromise asked q before after r
+ask-promised (At limit) p = trial-promised p
+ask-promised Best p = best-promised p

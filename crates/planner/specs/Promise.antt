@@ -56,6 +56,11 @@ abbrev pub faultOf : Asked → Question → ℕ → Fault
 faultOf (At limit) q room = trialFault q limit room
 faultOf Best q room = bestFault q room
 
+-- What is promised.
+abbrev pub AskPromise : Asked → Question → List ℕ → List ℕ → Reply → Type 0
+AskPromise (At limit) q before after r = TrialPromise q limit before after r
+AskPromise Best q before after r = BestPromise q before after r
+
 -- r says whether the limit is not refused.
 pub record LimitTested (asked : Asked) (r : Bool) : Type 0 where
   pub right : r ≡ true → limitFaultOf asked ≡ none

@@ -1,6 +1,8 @@
 // The questions that a user asks, on any input: refused in document 01's order ("Who causes which number"), and
 // otherwise answered.
 use admit::Admitted;
+use admit::brought::Lists;
+use admit::brought::NO_LISTS;
 use admit::crews::Kind;
 use admit::refusal::LEAST_ROOM;
 use admit::refusal::MOST_LIMIT;
@@ -9,9 +11,9 @@ use asking::ask::Asked;
 use asking::ask::ask_crews;
 use replies::Reply;
 ghost use mathlib.Core.Path.{_≡_};
-ghost use Rattle.admit.specs.Crews.{asks};
+ghost use Rattle.admit.specs.Crews.{asks, asksWith};
 ghost use Rattle.admit.specs.Refusals.{faultIn};
-ghost use Rattle.planner.specs.Promise.{LimitTested, faultOf, TrialPromise, BestPromise};
+ghost use Rattle.planner.specs.Promise.{LimitTested, faultOf, TrialPromise, BestPromise, AskPromise};
 
 // Whether the limit, where one is given, is not too large.
 fn limit_right(asked: Asked) -> bool
@@ -23,12 +25,20 @@ fn limit_right(asked: Asked) -> bool
     }
 }
 
-// Tests the question, with so much room for what is written. The asking stands apart, called by both questions: so the
+// Tests the question, with so much room for what is written. The asking stands apart, called at two places: so the
 // arrays of an answer are in none of these frames, and a refusal takes next to no stack.
-fn test(kind: Kind, k: usize, asked: Asked, b: &[u8], room: usize) -> Admitted
-    ensures { λ r. ⌜ faultIn r ≡ faultOf asked (asks kind k (now (b .entry))) room ⌝ }
+fn test(
+    kind: Kind,
+    k: usize,
+    asked: Asked,
+    b: &[u8],
+    room: usize,
+    lists: Lists,
+    classes: &[u8],
+) -> Admitted
+    ensures { λ r. ⌜ faultIn r ≡ faultOf asked (asksWith kind k (now (b .entry)) lists (now (classes .entry))) room ⌝ }
 {
-    match admit::admit(kind, k, b) {
+    match admit::admit(kind, k, b, lists, classes) {
         Admitted::Refused(f) => Admitted::Refused(f),
         Admitted::Fits => {
             if !limit_right(asked) {
@@ -42,22 +52,41 @@ fn test(kind: Kind, k: usize, asked: Asked, b: &[u8], room: usize) -> Admitted
     }
 }
 
-// "A trial at limit B": a cover within four times the limit, or why every cover is above it.
-pub fn trial(kind: Kind, k: usize, limit: u64, b: &[u8], buf: &mut [u8]) -> Reply
-    ensures { λ r. ⌜ TrialPromise (asks kind k (now (b .entry))) limit (now (buf .entry)) (now (buf .exit)) r ⌝ }
+// Either question, with the lists that are brought.
+pub fn ask(
+    asked: Asked,
+    kind: Kind,
+    k: usize,
+    b: &[u8],
+    buf: &mut [u8],
+    lists: Lists,
+    classes: &[u8],
+) -> Reply
+    ensures { λ r. ⌜ AskPromise asked (asksWith kind k (now (b .entry)) lists (now (classes .entry))) (now (buf .entry))
+        (now (buf .exit)) r ⌝ }
 {
-    match test(kind, k, Asked::At(limit), b, buf.len()) {
+    match test(kind, k, asked, b, buf.len(), lists, classes) {
         Admitted::Refused(f) => Reply::Refused(f),
-        Admitted::Fits => ask_crews(kind, k, b, Asked::At(limit), buf),
+        Admitted::Fits => {
+            if lists.classes {
+                return ask_crews(kind, k, b, asked, buf, classes);
+            }
+            ask_crews(kind, k, b, asked, buf, &[])
+        }
     }
 }
 
-// "The best limit": a cover whose heaviest tree weighs at most four times that of any cover's, or that there is none.
+// "A trial at limit B", without lists: a cover within four times the limit, or why every cover is above it.
+pub fn trial(kind: Kind, k: usize, limit: u64, b: &[u8], buf: &mut [u8]) -> Reply
+    ensures { λ r. ⌜ TrialPromise (asks kind k (now (b .entry))) limit (now (buf .entry)) (now (buf .exit)) r ⌝ }
+{
+    ask(Asked::At(limit), kind, k, b, buf, NO_LISTS, &[])
+}
+
+// "The best limit", without lists: a cover whose heaviest tree weighs at most four times that of any cover's, or that
+// there is none.
 pub fn best(kind: Kind, k: usize, b: &[u8], buf: &mut [u8]) -> Reply
     ensures { λ r. ⌜ BestPromise (asks kind k (now (b .entry))) (now (buf .entry)) (now (buf .exit)) r ⌝ }
 {
-    match test(kind, k, Asked::Best, b, buf.len()) {
-        Admitted::Refused(f) => Reply::Refused(f),
-        Admitted::Fits => ask_crews(kind, k, b, Asked::Best, buf),
-    }
+    ask(Asked::Best, kind, k, b, buf, NO_LISTS, &[])
 }

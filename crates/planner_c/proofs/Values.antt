@@ -10,17 +10,23 @@ use types.Run.{OneOf, miss}
 use denote.Enum.Declared.{tagOf}
 use Rattle.rules.specs.Reply as rules
 use Rattle.admit.specs.declared.crews.Kind.the-variants.{Unrooted}
+use Rattle.asking.specs.declared.ask.Asked.the-variants.{Best}
 use Rattle.filed.specs.Promise.{numberOr0}
 use Rattle.replies.proofs.Reply as reply
 use Rattle.replies.specs.declared.Reply.{Reply}
 use Rattle.replies.specs.declared.Reply.the-variants as replies
 use Rattle.replies.specs.Replies.{said, says}
-use Rattle.planner_c.specs.Numbers.{kindOf, saidOf, Puts}
+use Rattle.planner_c.specs.Numbers.{kindOf, askedOf, saidOf, Puts}
 
 -- A number that is not 0 names the unrooted kind.
 pub unrooted : (kind : ℕ) → (kind ≡ 0 → ⊥) → Unrooted ≡ kindOf kind
 unrooted zero other = absurd (other refl)
 unrooted (suc kind) other = refl
+
+-- And one that is not 0 asks for the best limit.
+pub best-asked : (asked limit : ℕ) → (asked ≡ 0 → ⊥) → Best ≡ askedOf asked limit
+best-asked zero limit other = absurd (other refl)
+best-asked (suc asked) limit other = refl
 
 -- The number of a verdict is that of its case.
 pub verdict-number : (v : rules.Verdict) → numberOr0 v ≡ saidOf v .number

@@ -5,28 +5,29 @@ use Prim.Native.Nat.{ℕ}
 use mathlib.Core.Path.{_≡_}
 use mathlib.Core.List.{List}
 use Rattle.rules.specs.Questions.{Question}
+use Rattle.asking.specs.declared.ask.Asked.{Asked}
+use Rattle.asking.specs.declared.ask.Asked.the-variants.{At, Best}
 use Rattle.filed.specs.declared.check.Verdict.{Verdict}
 use Rattle.filed.specs.Promise.{CheckPromise}
 use Rattle.replies.specs.declared.Reply.{Reply}
 use Rattle.replies.specs.Replies.{says}
 use Rattle.closed_walk.specs.declared.walk.Walked.{Walked}
 use Rattle.closed_walk.specs.Promise as walks
-use Rattle.planner.specs.Promise.{TrialPromise, BestPromise}
+use Rattle.planner.specs.Promise.{AskPromise}
 use Rattle.planner_c.specs.Numbers.{sayingOf, Puts}
 
--- A trial at a limit.
-pub record TrialExported (q : Question) (limit : ℕ) (values valuesAfter before after : List ℕ) (r : ℕ) : Type 0 where
+-- A trial at a limit, or the best limit.
+pub record AskExported (asked : Asked) (q : Question) (values valuesAfter before after : List ℕ) (r : ℕ) : Type 0 where
   pub reply : Reply
-  pub promise : TrialPromise q limit before after reply
+  pub promise : AskPromise asked q before after reply
   pub number : r ≡ says reply .number
   pub puts : Puts (says reply) values valuesAfter
 
--- The best limit.
-pub record BestExported (q : Question) (values valuesAfter before after : List ℕ) (r : ℕ) : Type 0 where
-  pub reply : Reply
-  pub promise : BestPromise q before after reply
-  pub number : r ≡ says reply .number
-  pub puts : Puts (says reply) values valuesAfter
+abbrev pub TrialExported : Question → ℕ → List ℕ → List ℕ → List ℕ → List ℕ → ℕ → Type 0
+TrialExported q limit = AskExported (At limit) q
+
+abbrev pub BestExported : Question → List ℕ → List ℕ → List ℕ → List ℕ → ℕ → Type 0
+BestExported q = AskExported Best q
 
 -- The check of a filed cover.
 pub record CheckExported (q : Question) (c values valuesAfter : List ℕ) (r : ℕ) : Type 0 where

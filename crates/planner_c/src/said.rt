@@ -1,5 +1,7 @@
-// What crosses to C as numbers: the kind of a question, and what a reply, a verdict and a walk say.
+// What crosses to C as numbers: the kind of a question, what it asks and which lists it brings, and what a reply, a verdict and a walk say.
+use admit::brought::Lists;
 use admit::crews::Kind;
+use asking::ask::Asked;
 use closed_walk::walk::Walked;
 use filed::check::Verdict;
 use replies::Reply;
@@ -7,7 +9,7 @@ ghost use mathlib.Core.Path.{_≡_};
 ghost use lib.ListN.{length};
 ghost use Rattle.replies.specs.Replies.{says};
 ghost use Rattle.closed_walk.specs.Promise as walks;
-ghost use Rattle.planner_c.specs.Numbers.{kindOf, sayingOf, Puts};
+ghost use Rattle.planner_c.specs.Numbers.{kindOf, askedOf, listsOf, sayingOf, Puts};
 
 // The kind that a number names: 0 rooted, every other unrooted.
 pub(crate) fn kind_of(kind: u32) -> Kind
@@ -16,6 +18,25 @@ pub(crate) fn kind_of(kind: u32) -> Kind
     match kind {
         0 => Kind::Rooted,
         _ => Kind::Unrooted,
+    }
+}
+
+// What two numbers ask: 0 a trial at the limit, every other the best limit.
+pub(crate) fn asked_of(asked: u32, limit: u64) -> Asked
+    ensures { λ r. ⌜ r ≡ askedOf asked limit ⌝ }
+{
+    match asked {
+        0 => Asked::At(limit),
+        _ => Asked::Best,
+    }
+}
+
+// The lists that a number names, a bit for each: 1 the class bytes.
+pub(crate) fn lists_of(brought: u32) -> Lists
+    ensures { λ r. ⌜ r ≡ listsOf brought ⌝ }
+{
+    Lists {
+        classes: brought % 2 == 1,
     }
 }
 

@@ -64,7 +64,7 @@ nothing = record { assignment = []; paths = []; marks = [] }
 pub unknown-answered : {input before after : List ℕ} {r : ℕ} → unknown input ≡ true → RefusalWritten 41 before after r → TextAnswered input before after r
 unknown-answered {input} q w =
     let refused = unknown-reply input nothing (sym q) in
-    record { choices = nothing; good = λ u. absurd (u 41 refused); means = λ u. absurd (u 41 refused); text = rw refused (w .text (graphOf (sheetIn input))) }
+    record { choices = nothing; good = λ u. absurd (u 41 refused); means = λ u. absurd (u 41 refused); text = rw refused (w .text (graphOf (sheetIn input) [])) }
 
 -- The bytes behind the head.
 pub sheet-is : (input : List ℕ) → take (length input - 8) (drop 8 input) ≡ sheetIn input
@@ -73,7 +73,7 @@ sheet-is input = take-all (length input - 8) (drop 8 input) (omega (arith, lengt
 -- The text of a known question's reply, by the values that were read.
 pub known-answered : {input b buf after-buf before after : List ℕ} {asked k limit r : ℕ} {reply : Reply} → unknown input ≡ false → length buf ≡ leastRoom
     → asked ≡ askedIn input → k ≡ crewCountIn input → limit ≡ limitIn input → b ≡ sheetIn input
-    → KnownAnswered (isTrial asked) (question (kindIn asked) k b) limit buf after-buf reply → TextWritten (graphOf b) reply after-buf before after r
+    → KnownAnswered (isTrial asked) (question (kindIn asked) k b) limit buf after-buf reply → TextWritten (graphOf b []) reply after-buf before after r
     → TextAnswered input before after r
 known-answered {input} {b} {buf} {asked = asked} {k = k} {limit = limit} q full a c l is s w =
     let same : askRounds input (s .choices) ≡ askKnown (isTrial asked) (question (kindIn asked) k b) limit (length buf) (s .choices)

@@ -43,22 +43,30 @@ fn write_parts(parts: u64, roots: u64, out: &mut [u8]) -> usize
 }
 
 // `cover` limit heaviest t, at most 69 bytes, then the lines of the trees.
-fn write_cover(b: &[u8], limit: u64, heaviest: u64, t: u64, c: &[u8], out: &mut [u8]) -> usize
-    requires { ⌜ TreesAsked (graphOf (now b)) (now c) 69 (length (now out)) ⌝ }
-    ensures { λ r. ⌜ PutTo 0 (coverText (graphOf (now (b .entry))) limit heaviest t (now (c .entry))) (now (out .entry))
+fn write_cover(
+    b: &[u8],
+    limit: u64,
+    heaviest: u64,
+    t: u64,
+    c: &[u8],
+    out: &mut [u8],
+    classes: &[u8],
+) -> usize
+    requires { ⌜ TreesAsked (graphOf (now b) (now classes)) (now c) 69 (length (now out)) ⌝ }
+    ensures { λ r. ⌜ PutTo 0 (coverText (graphOf (now (b .entry)) (now (classes .entry))) limit heaviest t (now (c .entry))) (now (out .entry))
         (now (out .exit)) r ⌝ }
 {
     let behind_word = put_word(b"cover", out, 0);
     let behind_limit = put_spaced(limit, out, behind_word);
     let behind_heaviest = put_spaced(heaviest, out, behind_limit);
     let behind_head = put_last(t, out, behind_heaviest);
-    put_trees(b, c, out, behind_head)
+    put_trees(b, c, out, behind_head, classes)
 }
 
 // The text of a reply, as the first bytes of `out`. Says how many. A cover's trees are read from the buffer.
-pub fn write_reply(b: &[u8], reply: Reply, buf: &[u8], out: &mut [u8]) -> usize
-    requires { ⌜ TextAsked (graphOf (now b)) reply (now buf) (length (now out)) ⌝ }
-    ensures { λ r. ⌜ TextWritten (graphOf (now (b .entry))) reply (now (buf .entry)) (now (out .entry))
+pub fn write_reply(b: &[u8], reply: Reply, buf: &[u8], out: &mut [u8], classes: &[u8]) -> usize
+    requires { ⌜ TextAsked (graphOf (now b) (now classes)) reply (now buf) (length (now out)) ⌝ }
+    ensures { λ r. ⌜ TextWritten (graphOf (now (b .entry)) (now (classes .entry))) reply (now (buf .entry)) (now (out .entry))
         (now (out .exit)) r ⌝ }
 {
     match reply {
@@ -67,7 +75,7 @@ pub fn write_reply(b: &[u8], reply: Reply, buf: &[u8], out: &mut [u8]) -> usize
         }
         Reply::Cover(limit, heaviest, t) => {
             let end = cover_length(buf);
-            return write_cover(b, limit, heaviest, t as u64, &buf[..end], out);
+            return write_cover(b, limit, heaviest, t as u64, &buf[..end], out, classes);
         }
         Reply::Stop(v) => {
             return write_line(b"too low stop", v as u64, out);

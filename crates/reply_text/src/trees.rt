@@ -40,12 +40,13 @@ fn put_tree(
     to: usize,
     out: &mut [u8],
     at: usize,
+    classes: &[u8],
 ) -> usize
-    requires { ⌜ TreeTextAsked (graphOf (now b)) (now c) j from to at (length (now out)) ⌝ }
-    ensures { λ r. ⌜ PutTo at (treeLine (graphOf (now (b .entry))) (runTree (now (c .entry)) j from to))
+    requires { ⌜ TreeTextAsked (graphOf (now b) (now classes)) (now c) j from to at (length (now out)) ⌝ }
+    ensures { λ r. ⌜ PutTo at (treeLine (graphOf (now (b .entry)) (now (classes .entry))) (runTree (now (c .entry)) j from to))
         (now (out .entry)) (now (out .exit)) r ⌝ }
 {
-    let weight = run_weight(b, c, from, to);
+    let weight = run_weight(b, c, from, to, classes);
     let behind_word = put_word(b"tree", out, at);
     let behind_start = put_spaced(start_in(c, j) as u64, out, behind_word);
     let behind_weight = put_spaced(weight, out, behind_start);
@@ -54,9 +55,9 @@ fn put_tree(
 }
 
 // The lines of all trees of a cover, from a place on.
-pub(crate) fn put_trees(b: &[u8], c: &[u8], out: &mut [u8], at: usize) -> usize
-    requires { ⌜ TreesAsked (graphOf (now b)) (now c) at (length (now out)) ⌝ }
-    ensures { λ r. ⌜ PutTo at (treeLines (graphOf (now (b .entry))) (decode (now (c .entry)))) (now (out .entry))
+pub(crate) fn put_trees(b: &[u8], c: &[u8], out: &mut [u8], at: usize, classes: &[u8]) -> usize
+    requires { ⌜ TreesAsked (graphOf (now b) (now classes)) (now c) at (length (now out)) ⌝ }
+    ensures { λ r. ⌜ PutTo at (treeLines (graphOf (now (b .entry)) (now (classes .entry))) (decode (now (c .entry)))) (now (out .entry))
         (now (out .exit)) r ⌝ }
 {
     let t = trees_in(c);
@@ -65,7 +66,7 @@ pub(crate) fn put_trees(b: &[u8], c: &[u8], out: &mut [u8], at: usize) -> usize
     let mut j = 0;
     while j < t {
         let to = run_end(c, j, from);
-        next = put_tree(b, c, j, from, to, out, next);
+        next = put_tree(b, c, j, from, to, out, next, classes);
         from = to;
         j += 1;
     }

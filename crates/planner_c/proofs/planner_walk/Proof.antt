@@ -6,6 +6,9 @@ use Rattle.planner_c.proofs.planner_walk.Tie as tie
 kind-of-requires : tie.Need-kind-of-requires
 kind-of-requires c κs = search needs
 
+slice-aggregate-walk : tie.Need-slice-aggregate-walk
+slice-aggregate-walk c = search needs
+
 walk-requires : tie.Need-walk-requires
 walk-requires c κs = search needs
 
@@ -24,7 +27,7 @@ returns c =
     let asked = put .before .before .before .before in
     record {
       walked = asked .walk .result;
-      promise = rw (asked .before .before .kind-of .ensures) at (asked .walk .ensures);
+      promise = rw (asked .before .before .before .kind-of .ensures) at (asked .walk .ensures);
       number = c .number-of .ensures;
       puts = put .put-walk .ensures;
     }
@@ -34,6 +37,7 @@ planner-walk-spec =
     tie.close
     (tie.spec
     kind-of-requires
+    slice-aggregate-walk
     walk-requires
     put-walk-requires
     number-of-requires

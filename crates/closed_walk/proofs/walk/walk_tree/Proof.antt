@@ -15,14 +15,14 @@ use Rattle.closed_walk.proofs.walk.walk_tree.Statement.{statement}
 use Rattle.closed_walk.proofs.walk.walk_tree.Tie as tie
 
 abbrev start : tie.After-run-end → tie.Start
-start e = e .before .before .before .before .before
+start e = e .before .before .before .before .before .before
 
 -- The edges were read.
 module _ (r : tie.After-read-run) where
   abbrev e : tie.After-run-end
   e = r .before .before
 
-  asked : TreeAsked (graphOf (start e .args .b .now)) (start e .args .c .now) (start e .args .tree) (length (start e .args .buf .now))
+  asked : TreeAsked (graphOf (start e .args .b .now) (start e .args .classes .now)) (start e .args .c .now) (start e .args .tree) (length (start e .args .buf .now))
   asked = start e .pre
 
   began : FirstOf (start e .args .c .now) (start e .args .tree) (e .before .run-begin .result)
@@ -35,7 +35,7 @@ abbrev taken : tie.After-slice-known2 → tie.After-read-run
 taken c = c .before .before .before .before .before .before .before
 
 weighed : (c : tie.After-edges-weight) → let r = taken (c .before) in
-    c .edges-weight .result ≡ totalWeight (graphOf (start (e r) .args .b .now)) (runEdges (start (e r) .args .c .now) (e r .before .run-begin .result) (e r .run-end .result))
+    c .edges-weight .result ≡ totalWeight (graphOf (start (e r) .args .b .now) (start (e r) .args .classes .now)) (runEdges (start (e r) .args .c .now) (e r .before .run-begin .result) (e r .run-end .result))
 weighed c = rw (put-taken (taken (c .before) .read-run .ensures)) at (c .edges-weight .ensures)
 
 run-begin-requires : tie.Need-run-begin-requires

@@ -15,14 +15,14 @@ use Rattle.filed.proofs.check.check_filed.Tie as tie
 
 -- The graph and the crews.
 abbrev g : tie.Start → Graph
-g s = graphOf (s .args .b .now)
+g s = graphOf (s .args .b .now) (s .args .classes .now)
 
 abbrev crews : tie.Start → Crews
 crews s = crewsOf (s .args .kind) (s .args .k)
 
 -- The bytes have the length that they say.
 abbrev s₂ : tie.Else2 → tie.Start
-s₂ t = let e = t .before .before in e .before .before .before
+s₂ t = let e = t .before .before in e .before .before .before .before
 
 -- The starts keep the kind's rule.
 module _ (t : tie.Else3) where
@@ -53,13 +53,13 @@ module _ (t : tie.Else5) where
       ∙ sym (t .before .entries-right .ensures) ∙ not-false (t .before .entries-right .result) (t .if5 .left)
 
 returns : tie.Need-returns
-returns c = let s = c .before .before .before in short-cover (g s) (crews s) (s .args .c .now) (omega arith)
+returns c = let s = c .before .before .before .before in short-cover (g s) (crews s) (s .args .c .now) (omega arith)
 
 cover-length-requires : tie.Need-cover-length-requires
 cover-length-requires c κs = search needs
 
 returns-2 : tie.Need-returns-2
-returns-2 c = let e = c .before .before in let s = e .before .before .before in other-length (g s) (crews s) (s .args .c .now) (omega arith) (omega arith)
+returns-2 c = let e = c .before .before in let s = e .before .before .before .before in other-length (g s) (crews s) (s .args .c .now) (omega arith) (omega arith)
 
 starts-right-requires : tie.Need-starts-right-requires
 starts-right-requires c κs = search needs
@@ -96,7 +96,8 @@ returns-5 c =
     let t = c .before in
     let u = t .before .before in
     let s = s₄ u in
-    entries-wrong (g s) (crews s) (s .args .c .now) (omega arith) (omega arith) (starts-right-passed (u .before .before .before)) (starts-below-passed u)
+    let sized = let e = u .before .before .before in e .before .before in
+    entries-wrong (g s) (crews s) (s .args .c .now) (omega (arith, sized .before .before .if1 .left)) (omega (arith, sized .if2 .left, sized .before .cover-length .ensures)) (starts-right-passed (u .before .before .before)) (starts-below-passed u)
     (ap (λ m. entriesRight m (s .args .c .now)) (sym (t .before .edge-count .ensures .is))
     ∙ sym (t .entries-right .ensures) ∙ not-true (t .entries-right .result) (c .if5 .taken))
 

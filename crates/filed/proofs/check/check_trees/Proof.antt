@@ -15,10 +15,10 @@ use Rattle.filed.proofs.check.check_trees.Tie as tie
 -- The trees were tested.
 module _ (t : tie.After-trees-right) where
   abbrev s : tie.Start
-  s = t .before .before .before .before
+  s = t .before .before .before .before .before
 
   abbrev g : Graph
-  g = graphOf (s .args .b .now)
+  g = graphOf (s .args .b .now) (s .args .classes .now)
 
 -- They passed.
 module _ (t : tie.Else1) where

@@ -5,7 +5,7 @@ use mathlib.Core.Option.{none}
 use native.Mathlib.Omega.{arith}
 use borrow.Author.Tests.{not-true, not-false}
 use Rattle.rules.specs.Questions.{Question, questionFault}
-use Rattle.admit.specs.Crews.{asks}
+use Rattle.admit.specs.Crews.{asksWith}
 use Rattle.admit.specs.Refusals.{faultIn}
 use Rattle.planner.specs.Promise.{limitFaultOf}
 use Rattle.planner.proofs.Promised.{question-refused, limit-refused, room-refused, nothing-refused}
@@ -15,10 +15,10 @@ use Rattle.planner.proofs.question.test.Tie as tie
 
 -- The question was tested for what every question brings,
 abbrev start : tie.After-admit → tie.Start
-start t = t .before .before
+start t = t .before .before .before
 
 abbrev q : tie.After-admit → Question
-q t = let a = start t .args in asks (a .kind) (a .k) (a .b .now)
+q t = let a = start t .args in asksWith (a .kind) (a .k) (a .b .now) (a .lists) (a .classes .now)
 
 -- and nothing of that is refused,
 module _ (e : tie.After-enum-told) where

@@ -57,6 +57,9 @@ part-b-end c = search needs
 reply-to-requires : tie.Need-reply-to-requires
 reply-to-requires c κs = search needs
 
+slice-aggregate-write-reply : tie.Need-slice-aggregate-write-reply
+slice-aggregate-write-reply c = search needs
+
 write-reply-requires : tie.Need-write-reply-requires
 write-reply-requires c κs = search needs
 
@@ -69,7 +72,7 @@ same-length-3 c = search needs
 returns-2 : tie.Need-returns-2
 returns-2 c =
     let w = c .before .before in
-    let k = w .before .before .before in
+    let k = w .before .before .before .before in
     let p = k .before .before in
     let e = p .before .before .before in
     let n = e .before .before .before in
@@ -95,6 +98,7 @@ answer-in-spec =
     part-b-start
     part-b-end
     reply-to-requires
+    slice-aggregate-write-reply
     write-reply-requires
     same-length-2
     same-length-3
