@@ -6,12 +6,14 @@ use lib.ListN.{length}
 use Rattle.graph.specs.Graph.{Graph}
 use Rattle.rules.specs.Questions.{Question, graphIn, askTrial, askBest}
 use Rattle.replies.specs.declared.Reply.{Reply}
-use Rattle.planner.specs.Promise.{TrialPromise, BestPromise}
+use Rattle.asking.specs.declared.ask.Asked.{Asked}
+use Rattle.asking.specs.declared.ask.Asked.the-variants.{At, Best}
+use Rattle.planner.specs.Promise.{TrialPromise, BestPromise, AskPromise}
 use Rattle.reply_text.specs.Replies.{TextAsked}
 use Rattle.reply_text.proofs.PrintableReplies.{ask-trial-printable, ask-best-printable}
 
 module _ {q : Question} {before after : List ℕ} {r : Reply} {room : ℕ} where
-  pub trial-asked : {limit : ℕ} → TrialPromise q limit before after r → 65536 ≤ room → TextAsked (graphIn q) r after room
+  trial-asked : {limit : ℕ} → TrialPromise q limit before after r → 65536 ≤ room → TextAsked (graphIn q) r after room
   trial-asked {limit} p enough =
       record {
         ruled = askTrial q limit (length before) (p .choices);
@@ -21,7 +23,7 @@ module _ {q : Question} {before after : List ℕ} {r : Reply} {room : ℕ} where
         enough = enough;
       }
 
-  pub best-asked : BestPromise q before after r → 65536 ≤ room → TextAsked (graphIn q) r after room
+  best-asked : BestPromise q before after r → 65536 ≤ room → TextAsked (graphIn q) r after room
   best-asked p enough =
       record {
         ruled = askBest q (length before) (p .choices);
@@ -30,6 +32,10 @@ module _ {q : Question} {before after : List ℕ} {r : Reply} {room : ℕ} where
         printable = ask-best-printable q (length before) (p .choices) (p .means);
         enough = enough;
       }
+
+pub ask-asked : (asked : Asked) (q : Question) (before : List ℕ) {after : List ℕ} {r : Reply} {room : ℕ} → AskPromise asked q before after r → 65536 ≤ room → TextAsked (graphIn q) r after room
+ask-asked (At limit) q before p enough = trial-asked p enough
+ask-asked Best q before p enough = best-asked p enough
 
 -- More room does no harm.
 pub wide-asked : {g : Graph} {buf : List ℕ} {reply : Reply} {room more : ℕ} → TextAsked g reply buf room → 65536 ≤ more → TextAsked g reply buf more

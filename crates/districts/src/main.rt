@@ -2,35 +2,45 @@
 // the answers. Standard input holds records, one behind the other: the question (2 bytes: 1 rooted trial, 2 unrooted
 // trial, 3 rooted best, 4 unrooted best, 5 rooted check, 6 unrooted check), k (2), the limit (4), how long the lent
 // buffer is (2), whether the reply is printed whole (2: 1 if it is), the length of the graph's bytes (2) and of the
-// filed cover's (2), all lowest byte first, then these bytes. What it must print was printed by an unrelated
-// implementation. The replies in full go to standard error, as bytes, for a judge that knows which choices are free.
+// filed cover's (2), which lists are brought (2, a bit for each: 1 the class bytes), the length of the class list (2)
+// and of lists to come (4, zeros), all lowest byte first, then these bytes: the graph's, the cover's, the class list.
+// What it must print was printed by an unrelated implementation. The replies in full go to standard error, as bytes,
+// for a judge that knows which choices are free.
 mod text;
 
+use admit::brought::Lists;
 use admit::crews::Kind;
 use asking::ask::Asked;
-use filed::check::check_cover;
 use gate_replies::full::filled;
 use gate_replies::full::room;
 use gate_replies::full::write_full;
 use libc::STDERR_FILENO;
 use libc::STDIN_FILENO;
 use libc::STDOUT_FILENO;
-use planner::question::best;
-use planner::question::trial;
 use replies::Reply;
 use text::write_text;
 use text::write_verdict;
 ghost use Prim.Native.Nat.{_^_, _≤_, _<_};
 ghost use lib.ListN.{length};
-ghost use Rattle.graph.specs.Bytes.{graphOf};
+ghost use Rattle.rules.specs.Questions.{graphIn};
+ghost use Rattle.admit.specs.Crews.{asksWith};
 ghost use Rattle.reply_text.specs.Replies.{TextAsked};
 
 // Prints a reply: all of it, or what the rules fix.
-fn print_reply(whole: bool, kind: Kind, k: usize, b: &[u8], reply: Reply, buf: &[u8])
-    requires { ⌜ TextAsked (graphOf (now b)) reply (now buf) 65536 ⌝ }
+fn print_reply(
+    whole: bool,
+    kind: Kind,
+    k: usize,
+    b: &[u8],
+    reply: Reply,
+    buf: &[u8],
+    lists: Lists,
+    classes: &[u8],
+)
+    requires { ⌜ TextAsked (graphIn (asksWith kind k (now b) lists (now classes))) reply (now buf) 65536 ⌝ }
 {
     let mut out = room();
-    let end = write_text(whole, kind, k, b, reply, buf, &mut out);
+    let end = write_text(whole, kind, k, b, reply, buf, &mut out, lists, classes);
     io::write_all(STDOUT_FILENO, &out[..end]);
 }
 
@@ -44,36 +54,61 @@ fn file_reply(reply: Reply, buf: &[u8])
 }
 
 // The planner's reply to a trial, or to the question for the best limit. It can be printed.
-fn reply_to(asked: Asked, kind: Kind, k: usize, b: &[u8], buf: &mut [u8]) -> Reply
-    ensures { λ r. ⌜ TextAsked (graphOf (now (b .entry))) r (now (buf .exit)) 65536 ⌝ }
+fn reply_to(
+    asked: Asked,
+    kind: Kind,
+    k: usize,
+    b: &[u8],
+    buf: &mut [u8],
+    lists: Lists,
+    classes: &[u8],
+) -> Reply
+    ensures { λ r. ⌜ TextAsked (graphIn (asksWith kind k (now (b .entry)) lists (now (classes .entry)))) r
+        (now (buf .exit)) 65536 ⌝ }
 {
-    match asked {
-        Asked::At(limit) => trial(kind, k, limit, b, buf),
-        Asked::Best => best(kind, k, b, buf),
-    }
+    planner::question::ask(asked, kind, k, b, buf, lists, classes)
 }
 
 // Asks the planner, and prints and files the reply.
-fn answer(asked: Asked, whole: bool, kind: Kind, k: usize, b: &[u8], buf: &mut [u8])
+fn answer(
+    asked: Asked,
+    whole: bool,
+    kind: Kind,
+    k: usize,
+    b: &[u8],
+    buf: &mut [u8],
+    lists: Lists,
+    classes: &[u8],
+)
     requires { ⌜ length (now buf) ≤ 65536 ⌝ }
 {
-    let reply = reply_to(asked, kind, k, b, buf);
-    print_reply(whole, kind, k, b, reply, buf);
+    let reply = reply_to(asked, kind, k, b, buf, lists, classes);
+    print_reply(whole, kind, k, b, reply, buf, lists, classes);
     file_reply(reply, buf);
 }
 
 // Has the planner asked with a filled buffer of the length that the record names.
-fn ask(asked: Asked, whole: bool, lent: usize, kind: Kind, k: usize, b: &[u8])
+fn ask(
+    asked: Asked,
+    whole: bool,
+    lent: usize,
+    kind: Kind,
+    k: usize,
+    b: &[u8],
+    lists: Lists,
+    classes: &[u8],
+)
     requires { ⌜ lent < 2 ^ 16 ⌝ }
 {
     let mut buf = filled();
-    answer(asked, whole, kind, k, b, &mut buf[..lent]);
+    answer(asked, whole, kind, k, b, &mut buf[..lent], lists, classes);
 }
 
 // Asks the check, and prints its answer.
-fn check(kind: Kind, k: usize, b: &[u8], filed: &[u8]) {
+fn check(kind: Kind, k: usize, b: &[u8], filed: &[u8], lists: Lists, classes: &[u8]) {
     let mut out = room();
-    let end = write_verdict(check_cover(kind, k, b, filed), &mut out);
+    let verdict = filed::check::check(kind, k, b, filed, lists, classes);
+    let end = write_verdict(verdict, &mut out);
     io::write_all(STDOUT_FILENO, &out[..end]);
 }
 
@@ -86,23 +121,56 @@ fn answer_record(
     whole: bool,
     b: &[u8],
     filed: &[u8],
+    lists: Lists,
+    classes: &[u8],
 )
     requires { ⌜ lent < 2 ^ 16 ⌝ }
 {
     match question {
-        1 => ask(Asked::At(limit), whole, lent, Kind::Rooted, k, b),
-        2 => ask(Asked::At(limit), whole, lent, Kind::Unrooted, k, b),
-        3 => ask(Asked::Best, whole, lent, Kind::Rooted, k, b),
-        4 => ask(Asked::Best, whole, lent, Kind::Unrooted, k, b),
-        5 => check(Kind::Rooted, k, b, filed),
-        _ => check(Kind::Unrooted, k, b, filed),
+        1 => ask(
+            Asked::At(limit),
+            whole,
+            lent,
+            Kind::Rooted,
+            k,
+            b,
+            lists,
+            classes,
+        ),
+        2 => ask(
+            Asked::At(limit),
+            whole,
+            lent,
+            Kind::Unrooted,
+            k,
+            b,
+            lists,
+            classes,
+        ),
+        3 => ask(Asked::Best, whole, lent, Kind::Rooted, k, b, lists, classes),
+        4 => ask(
+            Asked::Best,
+            whole,
+            lent,
+            Kind::Unrooted,
+            k,
+            b,
+            lists,
+            classes,
+        ),
+        5 => check(Kind::Rooted, k, b, filed, lists, classes),
+        _ => check(Kind::Unrooted, k, b, filed, lists, classes),
     }
 }
 
 // Reads the rest of a record, of which the head was read, and answers it.
-fn read_rest(head: &[u8], sheet: &mut [u8], filed: &mut [u8]) {
+fn read_rest(head: &[u8], sheet: &mut [u8], filed: &mut [u8], classes: &mut [u8]) {
     io::read_full(STDIN_FILENO, sheet);
     io::read_full(STDIN_FILENO, filed);
+    io::read_full(STDIN_FILENO, classes);
+    let lists = Lists {
+        classes: graph::u16_at(head, 16) % 2 == 1,
+    };
     answer_record(
         graph::u16_at(head, 0),
         graph::u16_at(head, 2),
@@ -111,23 +179,28 @@ fn read_rest(head: &[u8], sheet: &mut [u8], filed: &mut [u8]) {
         graph::u16_at(head, 10) == 1,
         sheet,
         filed,
+        lists,
+        classes,
     );
 }
 
 // Reads one record and answers it; says whether there was one.
 fn answer_one() -> bool {
-    let mut head = [0u8; 16];
-    if io::read_full(STDIN_FILENO, &mut head) < 16 {
+    let mut head = [0u8; 24];
+    if io::read_full(STDIN_FILENO, &mut head) < 24 {
         return false;
     }
     let sheet_length = graph::u16_at(&head, 12);
     let cover_length = graph::u16_at(&head, 14);
+    let class_length = graph::u16_at(&head, 18);
     let mut sheet = io::large_buffer();
     let mut filed = io::large_buffer();
+    let mut classes = io::large_buffer();
     read_rest(
         &head,
         &mut sheet[..sheet_length],
         &mut filed[..cover_length],
+        &mut classes[..class_length],
     );
     true
 }

@@ -1,4 +1,6 @@
 // What is printed of a reply, and of the check's answer.
+use admit::brought::Lists;
+use admit::brought::read_list;
 use admit::crews::Kind;
 use filed::check::Verdict;
 use gate_replies::fixed::write_fixed;
@@ -9,8 +11,8 @@ use reply_text::reply::write_reply;
 ghost use Prim.Native.Nat.{_≤_};
 ghost use lib.ListN.{length};
 ghost use Rattle.lists.specs.Put.{PutTo};
-ghost use Rattle.graph.specs.Bytes.{graphOf};
-ghost use Rattle.admit.specs.Crews.{asks};
+ghost use Rattle.rules.specs.Questions.{graphIn};
+ghost use Rattle.admit.specs.Crews.{asksWith};
 ghost use Rattle.filed.specs.Promise.{says};
 ghost use Rattle.reply_text.specs.Replies.{TextAsked};
 ghost use Rattle.districts.specs.Text.{DistrictWritten, verdictText};
@@ -24,15 +26,17 @@ pub(crate) fn write_text(
     reply: Reply,
     buf: &[u8],
     out: &mut [u8],
+    lists: Lists,
+    classes: &[u8],
 ) -> usize
-    requires { ⌜ TextAsked (graphOf (now b)) reply (now buf) (length (now out)) ⌝ }
-    ensures { λ r. ⌜ DistrictWritten whole (asks kind k (now (b .entry))) reply (now (buf .entry)) (now (out .entry))
-        (now (out .exit)) r ⌝ }
+    requires { ⌜ TextAsked (graphIn (asksWith kind k (now b) lists (now classes))) reply (now buf) (length (now out)) ⌝ }
+    ensures { λ r. ⌜ DistrictWritten whole (asksWith kind k (now (b .entry)) lists (now (classes .entry))) reply
+        (now (buf .entry)) (now (out .entry)) (now (out .exit)) r ⌝ }
 {
     if whole {
-        return write_reply(b, reply, buf, out);
+        return write_reply(b, reply, buf, out, read_list(lists.classes, classes));
     }
-    write_fixed(kind, k, b, reply, buf, out)
+    write_fixed(kind, k, b, reply, buf, out, lists, classes)
 }
 
 // The check's answer, as the first bytes of `out`. Says how many.

@@ -1,9 +1,11 @@
 // The text of replies in which the rules leave a choice: only what they fix, and whether the check of a filed cover
 // says yes to what was written.
+use admit::brought::Lists;
+use admit::brought::read_list;
 use admit::crews::Kind;
 use cover::read::cover_length;
 use filed::check::Verdict;
-use filed::check::check_cover;
+use filed::check::check;
 use replies::Reply;
 use reply_text::lines::put_last;
 use reply_text::lines::put_spaced;
@@ -13,8 +15,8 @@ ghost use mathlib.Core.Path.{_≡_};
 ghost use Prim.Native.Nat.{_+_, _≤_};
 ghost use lib.ListN.{length};
 ghost use Rattle.lists.specs.Put.{PutTo};
-ghost use Rattle.graph.specs.Bytes.{graphOf};
-ghost use Rattle.admit.specs.Crews.{asks};
+ghost use Rattle.rules.specs.Questions.{graphIn};
+ghost use Rattle.admit.specs.Crews.{asksWith};
 ghost use Rattle.filed.specs.Promise.{says};
 ghost use Rattle.reply_text.specs.Replies.{TextAsked};
 ghost use Rattle.gate_replies.specs.Fixed.{isYes, confirmed, yesWord, sureLine, FixedWritten};
@@ -30,10 +32,19 @@ fn is_yes(verdict: Verdict, heaviest: u64) -> bool
 }
 
 // Whether the check says yes to the bytes of a cover, with this weight.
-fn confirms(kind: Kind, k: usize, b: &[u8], c: &[u8], heaviest: u64) -> bool
-    ensures { λ r. ⌜ r ≡ confirmed (asks kind k (now (b .entry))) (now (c .entry)) heaviest ⌝ }
+fn confirms(
+    kind: Kind,
+    k: usize,
+    b: &[u8],
+    c: &[u8],
+    heaviest: u64,
+    lists: Lists,
+    classes: &[u8],
+) -> bool
+    ensures { λ r. ⌜ r ≡ confirmed (asksWith kind k (now (b .entry)) lists (now (classes .entry))) (now (c .entry))
+        heaviest ⌝ }
 {
-    is_yes(check_cover(kind, k, b, c), heaviest)
+    is_yes(check(kind, k, b, c, lists, classes), heaviest)
 }
 
 // A space and `yes` or `no`, from a place on.
@@ -66,22 +77,24 @@ pub fn write_fixed(
     reply: Reply,
     buf: &[u8],
     out: &mut [u8],
+    lists: Lists,
+    classes: &[u8],
 ) -> usize
-    requires { ⌜ TextAsked (graphOf (now b)) reply (now buf) (length (now out)) ⌝ }
-    ensures { λ r. ⌜ FixedWritten (asks kind k (now (b .entry))) reply (now (buf .entry)) (now (out .entry))
-        (now (out .exit)) r ⌝ }
+    requires { ⌜ TextAsked (graphIn (asksWith kind k (now b) lists (now classes))) reply (now buf) (length (now out)) ⌝ }
+    ensures { λ r. ⌜ FixedWritten (asksWith kind k (now (b .entry)) lists (now (classes .entry))) reply
+        (now (buf .entry)) (now (out .entry)) (now (out .exit)) r ⌝ }
 {
     match reply {
         Reply::Cover(limit, heaviest, t) => {
             let end = cover_length(buf);
-            let sure = confirms(kind, k, b, &buf[..end], heaviest);
+            let sure = confirms(kind, k, b, &buf[..end], heaviest, lists, classes);
             return write_sure(limit, sure, t as u64, out);
         }
         Reply::Parts(_, _) => {
             return put_word(b"too low parts\n", out, 0);
         }
         _ => {
-            return write_reply(b, reply, buf, out);
+            return write_reply(b, reply, buf, out, read_list(lists.classes, classes));
         }
     }
 }

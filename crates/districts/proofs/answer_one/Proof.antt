@@ -27,11 +27,20 @@ slice-aggregate-u16-at-2 c = search needs
 u16-at-requires-2 : tie.Need-u16-at-requires-2
 u16-at-requires-2 c κs = search needs
 
+slice-aggregate-u16-at-3 : tie.Need-slice-aggregate-u16-at-3
+slice-aggregate-u16-at-3 c = search needs
+
+u16-at-requires-3 : tie.Need-u16-at-requires-3
+u16-at-requires-3 c κs = search needs
+
 large-buffer-requires : tie.Need-large-buffer-requires
 large-buffer-requires c κs = search needs
 
 large-buffer-requires-2 : tie.Need-large-buffer-requires-2
 large-buffer-requires-2 c κs = search needs
+
+large-buffer-requires-3 : tie.Need-large-buffer-requires-3
+large-buffer-requires-3 c κs = search needs
 
 slice-aggregate-read-rest : tie.Need-slice-aggregate-read-rest
 slice-aggregate-read-rest c = search needs
@@ -47,6 +56,12 @@ array-borrow-prefix-filed c = search needs
 
 slice-aggregate-read-rest-3 : tie.Need-slice-aggregate-read-rest-3
 slice-aggregate-read-rest-3 c = sym (length-take-le _ _ (omega arith))
+
+array-borrow-prefix-classes : tie.Need-array-borrow-prefix-classes
+array-borrow-prefix-classes c = search needs
+
+slice-aggregate-read-rest-4 : tie.Need-slice-aggregate-read-rest-4
+slice-aggregate-read-rest-4 c = sym (length-take-le _ _ (omega arith))
 
 read-rest-requires : tie.Need-read-rest-requires
 read-rest-requires c κs = search needs
@@ -65,12 +80,17 @@ answer-one-spec =
     u16-at-requires
     slice-aggregate-u16-at-2
     u16-at-requires-2
+    slice-aggregate-u16-at-3
+    u16-at-requires-3
     large-buffer-requires
     large-buffer-requires-2
+    large-buffer-requires-3
     slice-aggregate-read-rest
     array-borrow-prefix-sheet
     slice-aggregate-read-rest-2
     array-borrow-prefix-filed
     slice-aggregate-read-rest-3
+    array-borrow-prefix-classes
+    slice-aggregate-read-rest-4
     read-rest-requires
     returns-2)

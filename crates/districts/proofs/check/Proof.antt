@@ -9,8 +9,8 @@ use Rattle.districts.proofs.check.Tie as tie
 room-requires : tie.Need-room-requires
 room-requires c κs = search needs
 
-check-cover-requires : tie.Need-check-cover-requires
-check-cover-requires c κs = search needs
+check-requires : tie.Need-check-requires
+check-requires c κs = search needs
 
 slice-aggregate-write-verdict : tie.Need-slice-aggregate-write-verdict
 slice-aggregate-write-verdict c = search needs
@@ -35,7 +35,7 @@ check-spec =
     tie.close
     (tie.spec
     room-requires
-    check-cover-requires
+    check-requires
     slice-aggregate-write-verdict
     write-verdict-requires
     array-share-prefix-out

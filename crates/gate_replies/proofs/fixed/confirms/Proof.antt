@@ -6,8 +6,8 @@ use borrow.Author.Needs.{needs}
 use Rattle.gate_replies.proofs.fixed.confirms.Statement.{statement}
 use Rattle.gate_replies.proofs.fixed.confirms.Tie as tie
 
-check-cover-requires : tie.Need-check-cover-requires
-check-cover-requires c κs = search needs
+check-requires : tie.Need-check-requires
+check-requires c κs = search needs
 
 is-yes-requires : tie.Need-is-yes-requires
 is-yes-requires c κs = search needs
@@ -16,8 +16,8 @@ returns : tie.Need-returns
 unfolding confirmed
 returns c =
     let k = c .before in
-    let s = k .before .before .before in
-    c .is-yes .ensures ∙ ap (λ v. isYes v (s .args .heaviest)) (k .check-cover .ensures .rule)
+    let s = k .before .before .before .before in
+    c .is-yes .ensures ∙ ap (λ v. isYes v (s .args .heaviest)) (k .check .ensures .rule)
 
 pub confirms-spec : {M : Type 1} → statement M
-confirms-spec = tie.close (tie.spec check-cover-requires is-yes-requires returns)
+confirms-spec = tie.close (tie.spec check-requires is-yes-requires returns)

@@ -9,8 +9,8 @@ use Rattle.gate_replies.proofs.fixed.write_fixed.Statement.{statement}
 use Rattle.gate_replies.proofs.fixed.write_fixed.Tie as tie
 
 -- The entry, seen from where the lengths are known.
-abbrev start : tie.After-slice-known → tie.Start
-start c = c .before .before .before
+abbrev start : tie.After-shared-slice-known3 → tie.Start
+start c = c .before .before .before .before
 
 enum-known-reply : tie.Need-enum-known-reply
 enum-known-reply c = search needs
@@ -60,8 +60,11 @@ returns-2 c =
     let k = w .before .before .before in
     fixed-parts (k .enum-told .given .1) (w .put-word .ensures)
 
+read-list-requires : tie.Need-read-list-requires
+read-list-requires c κs = search needs
+
 write-reply-requires : tie.Need-write-reply-requires
-write-reply-requires c κs = search needs
+write-reply-requires c κs = rw (c .read-list .ensures) (start (c .before .before .before) .pre)
 
 same-length-3 : tie.Need-same-length-3
 same-length-3 c = search needs
@@ -69,8 +72,9 @@ same-length-3 c = search needs
 returns-3 : tie.Need-returns-3
 returns-3 c =
     let w = c .before .before in
-    let m = w .before .before in
-    fixed-other (start (m .before) .args .reply) (m .match .keys3) (w .write-reply .ensures)
+    let l = w .before in
+    let m = l .before .before in
+    fixed-other (start (m .before) .args .reply) (m .match .keys3) (rw (l .read-list .ensures) at (w .write-reply .ensures))
 
 pub write-fixed-spec : {M : Type 1} → statement M
 write-fixed-spec =
@@ -88,6 +92,7 @@ write-fixed-spec =
     put-word-requires
     same-length-2
     returns-2
+    read-list-requires
     write-reply-requires
     same-length-3
     returns-3)
