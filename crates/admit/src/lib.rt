@@ -1,5 +1,6 @@
 // What every question about a graph brings, and whether it is admitted: the graph's bytes (11 to 16), the class list
-// beside them (53, 54), then the crews (21). Every question is tested here first, and refused by the same cause and number.
+// beside them (53, 54), then the crews (21). Every question is tested here first, and refused by the same cause and
+// number.
 // The words of the contracts stand in specs/ and in the definitions of the crate `rules`: `questionFault` is what is
 // refused.
 pub mod brought;

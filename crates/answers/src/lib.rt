@@ -16,7 +16,8 @@ ghost use Rattle.answers.specs.Answers.{ForestReady, LimitAsked};
 // Whether no cover by the crews exists at all.
 pub fn no_cover(kind: Kind, k: usize, b: &[u8], roots: &[u16], kept: &[u16], classes: &[u8]) -> bool
     requires { ⌜ ForestReady kind (graphOf (now b) (now classes)) (now roots) (now kept) ⌝ }
-    ensures { λ r. ⌜ r ≡ noCover (graphOf (now (b .entry)) (now (classes .entry))) (crewsWith kind k (now (roots .entry))) ⌝ }
+    ensures { λ r. ⌜ r ≡ noCover (graphOf (now (b .entry)) (now (classes .entry))) (crewsWith kind k
+        (now (roots .entry))) ⌝ }
 {
     match kind {
         Kind::Rooted => no_cover_rooted(b, roots, kept, classes),
@@ -42,10 +43,10 @@ pub fn answer_at(
     buf: &mut [u8],
     classes: &[u8],
 ) -> Reply
-    requires { ⌜ LimitAsked kind k (graphOf (now b) (now classes)) (now roots) limit (now order) (now kept) (now bounds) (now arcs)
-        (now distances) (now lasts) (now total) (now until) (length (now buf)) ⌝ }
-    ensures { λ r. ⌜ Answers (graphOf (now (b .entry)) (now (classes .entry))) (crewsWith kind k (now (roots .entry))) limit (now (buf .entry))
-        (now (buf .exit)) r ⌝ }
+    requires { ⌜ LimitAsked kind k (graphOf (now b) (now classes)) (now roots) limit (now order) (now kept) (now bounds)
+        (now arcs) (now distances) (now lasts) (now total) (now until) (length (now buf)) ⌝ }
+    ensures { λ r. ⌜ Answers (graphOf (now (b .entry)) (now (classes .entry))) (crewsWith kind k (now (roots .entry)))
+        limit (now (buf .entry)) (now (buf .exit)) r ⌝ }
 {
     match kind {
         Kind::Rooted => answer_rooted(

@@ -40,10 +40,10 @@ fn answer_best(
     buf: &mut [u8],
     classes: &[u8],
 ) -> Reply
-    requires { ⌜ AnswerAsked kind k (graphOf (now b) (now classes)) (now roots) (now order) (now kept) (now bounds) (now arcs)
-        (now distances) (now lasts) (now total) (now until) (length (now buf)) ⌝ }
-    ensures { λ r. ⌜ Answered Best (graphOf (now (b .entry)) (now (classes .entry))) (crewsWith kind k (now (roots .entry))) (now (buf .entry))
-        (now (buf .exit)) r ⌝ }
+    requires { ⌜ AnswerAsked kind k (graphOf (now b) (now classes)) (now roots) (now order) (now kept) (now bounds)
+        (now arcs) (now distances) (now lasts) (now total) (now until) (length (now buf)) ⌝ }
+    ensures { λ r. ⌜ Answered Best (graphOf (now (b .entry)) (now (classes .entry))) (crewsWith kind k
+        (now (roots .entry))) (now (buf .entry)) (now (buf .exit)) r ⌝ }
 {
     if no_cover(kind, k, b, roots, kept, classes) {
         return Reply::NoCover;
@@ -99,10 +99,10 @@ pub(crate) fn answer_asked(
     buf: &mut [u8],
     classes: &[u8],
 ) -> Reply
-    requires { ⌜ AskedReady kind k (graphOf (now b) (now classes)) (now roots) asked (now order) (now kept) (now bounds) (now arcs)
-        (now distances) (now lasts) (now total) (now until) (length (now buf)) ⌝ }
-    ensures { λ r. ⌜ Answered asked (graphOf (now (b .entry)) (now (classes .entry))) (crewsWith kind k (now (roots .entry)))
-        (now (buf .entry)) (now (buf .exit)) r ⌝ }
+    requires { ⌜ AskedReady kind k (graphOf (now b) (now classes)) (now roots) asked (now order) (now kept) (now bounds)
+        (now arcs) (now distances) (now lasts) (now total) (now until) (length (now buf)) ⌝ }
+    ensures { λ r. ⌜ Answered asked (graphOf (now (b .entry)) (now (classes .entry))) (crewsWith kind k
+        (now (roots .entry))) (now (buf .entry)) (now (buf .exit)) r ⌝ }
 {
     match asked {
         Asked::At(limit) => answer_at(
@@ -151,7 +151,8 @@ pub fn ask_crews(
     classes: &[u8],
 ) -> Reply
     requires { ⌜ CrewsAsked kind k (graphOf (now b) (now classes)) asked (length (now buf)) ⌝ }
-    ensures { λ r. ⌜ Answered asked (graphOf (now (b .entry)) (now (classes .entry))) (crewsOf kind k) (now (buf .entry)) (now (buf .exit)) r ⌝ }
+    ensures { λ r. ⌜ Answered asked (graphOf (now (b .entry)) (now (classes .entry))) (crewsOf kind k)
+        (now (buf .entry)) (now (buf .exit)) r ⌝ }
 {
     match kind {
         Kind::Rooted => {

@@ -26,14 +26,13 @@ fn ask_rooted_in(
     buf: &mut [u8],
     classes: &[u8],
 ) -> Reply
-    requires { ⌜ RootedLent (graphOf (now b) (now classes)) (now roots) asked (now order) (now kept) (now bounds) (now all) (now arcs)
-        (now distances) (now lasts) (length (now buf)) ⌝ }
-    ensures { λ r. ⌜ RootedAnswered asked (graphOf (now (b .entry)) (now (classes .entry))) (now (roots .entry)) (now (order .entry))
-        (now (order .exit)) (now (kept .entry)) (now (kept .exit))
-        (now (bounds .entry)) (now (bounds .exit)) (now (all .entry)) (now (all .exit)) (now (arcs .entry))
-        (now (arcs .exit))
-        (now (distances .entry)) (now (distances .exit)) (now (lasts .entry)) (now (lasts .exit))
-        (now (buf .entry)) (now (buf .exit)) r ⌝ }
+    requires { ⌜ RootedLent (graphOf (now b) (now classes)) (now roots) asked (now order) (now kept) (now bounds)
+        (now all) (now arcs) (now distances) (now lasts) (length (now buf)) ⌝ }
+    ensures { λ r. ⌜ RootedAnswered asked (graphOf (now (b .entry)) (now (classes .entry))) (now (roots .entry))
+        (now (order .entry)) (now (order .exit)) (now (kept .entry)) (now (kept .exit)) (now (bounds .entry))
+        (now (bounds .exit)) (now (all .entry)) (now (all .exit)) (now (arcs .entry)) (now (arcs .exit))
+        (now (distances .entry)) (now (distances .exit)) (now (lasts .entry)) (now (lasts .exit)) (now (buf .entry))
+        (now (buf .exit)) r ⌝ }
 {
     let ready = prepare_rooted(
         b,
@@ -69,8 +68,8 @@ fn ask_rooted_in(
 // Lends arrays that a small graph and few crews fit in.
 fn ask_rooted_small(b: &[u8], roots: &[u16], asked: Asked, buf: &mut [u8], classes: &[u8]) -> Reply
     requires { ⌜ RootedSmall (graphOf (now b) (now classes)) (now roots) asked (length (now buf)) ⌝ }
-    ensures { λ r. ⌜ Answered asked (graphOf (now (b .entry)) (now (classes .entry))) (rooted (now (roots .entry))) (now (buf .entry))
-        (now (buf .exit)) r ⌝ }
+    ensures { λ r. ⌜ Answered asked (graphOf (now (b .entry)) (now (classes .entry))) (rooted (now (roots .entry)))
+        (now (buf .entry)) (now (buf .exit)) r ⌝ }
 {
     let mut order = [0u16; 512];
     let mut kept = [0u16; 64];
@@ -98,8 +97,8 @@ fn ask_rooted_small(b: &[u8], roots: &[u16], asked: Asked, buf: &mut [u8], class
 // Lends arrays that every graph and all crews fit in.
 fn ask_rooted_full(b: &[u8], roots: &[u16], asked: Asked, buf: &mut [u8], classes: &[u8]) -> Reply
     requires { ⌜ RootedAsked (graphOf (now b) (now classes)) (now roots) asked (length (now buf)) ⌝ }
-    ensures { λ r. ⌜ Answered asked (graphOf (now (b .entry)) (now (classes .entry))) (rooted (now (roots .entry))) (now (buf .entry))
-        (now (buf .exit)) r ⌝ }
+    ensures { λ r. ⌜ Answered asked (graphOf (now (b .entry)) (now (classes .entry))) (rooted (now (roots .entry)))
+        (now (buf .entry)) (now (buf .exit)) r ⌝ }
 {
     let mut order = [0u16; 2048];
     let mut kept = [0u16; 256];
@@ -146,8 +145,8 @@ pub(crate) fn ask_rooted(
     classes: &[u8],
 ) -> Reply
     requires { ⌜ RootedAsked (graphOf (now b) (now classes)) (now roots) asked (length (now buf)) ⌝ }
-    ensures { λ r. ⌜ Answered asked (graphOf (now (b .entry)) (now (classes .entry))) (rooted (now (roots .entry))) (now (buf .entry))
-        (now (buf .exit)) r ⌝ }
+    ensures { λ r. ⌜ Answered asked (graphOf (now (b .entry)) (now (classes .entry))) (rooted (now (roots .entry)))
+        (now (buf .entry)) (now (buf .exit)) r ⌝ }
 {
     if is_small(b, roots.len(), classes) {
         return ask_rooted_small(b, roots, asked, buf, classes);

@@ -21,10 +21,10 @@ fn ask_unrooted_in(
     buf: &mut [u8],
     classes: &[u8],
 ) -> Reply
-    requires { ⌜ UnrootedLent k (graphOf (now b) (now classes)) asked (length (now keys)) (length (now spare)) (length (now order))
-        (length (now buf)) ⌝ }
-    ensures { λ r. ⌜ UnrootedAnswered asked k (graphOf (now (b .entry)) (now (classes .entry))) (now (keys .entry)) (now (keys .exit))
-        (now (spare .entry)) (now (spare .exit)) (now (order .entry)) (now (order .exit))
+    requires { ⌜ UnrootedLent k (graphOf (now b) (now classes)) asked (length (now keys)) (length (now spare))
+        (length (now order)) (length (now buf)) ⌝ }
+    ensures { λ r. ⌜ UnrootedAnswered asked k (graphOf (now (b .entry)) (now (classes .entry))) (now (keys .entry))
+        (now (keys .exit)) (now (spare .entry)) (now (spare .exit)) (now (order .entry)) (now (order .exit))
         (now (buf .entry)) (now (buf .exit)) r ⌝ }
 {
     let mut kept = [0u16; 256];
@@ -62,7 +62,8 @@ fn ask_unrooted_in(
 // Lends arrays that 512 edges fit in.
 fn ask_unrooted_small(k: usize, b: &[u8], asked: Asked, buf: &mut [u8], classes: &[u8]) -> Reply
     requires { ⌜ UnrootedSmall k (graphOf (now b) (now classes)) asked (length (now buf)) ⌝ }
-    ensures { λ r. ⌜ Answered asked (graphOf (now (b .entry)) (now (classes .entry))) (unrooted k) (now (buf .entry)) (now (buf .exit)) r ⌝ }
+    ensures { λ r. ⌜ Answered asked (graphOf (now (b .entry)) (now (classes .entry))) (unrooted k) (now (buf .entry))
+        (now (buf .exit)) r ⌝ }
 {
     let mut keys = [0u64; 512];
     let mut spare = [0u64; 512];
@@ -73,7 +74,8 @@ fn ask_unrooted_small(k: usize, b: &[u8], asked: Asked, buf: &mut [u8], classes:
 // Lends arrays that the edges of every graph fit in.
 fn ask_unrooted_full(k: usize, b: &[u8], asked: Asked, buf: &mut [u8], classes: &[u8]) -> Reply
     requires { ⌜ UnrootedAsked k (graphOf (now b) (now classes)) asked (length (now buf)) ⌝ }
-    ensures { λ r. ⌜ Answered asked (graphOf (now (b .entry)) (now (classes .entry))) (unrooted k) (now (buf .entry)) (now (buf .exit)) r ⌝ }
+    ensures { λ r. ⌜ Answered asked (graphOf (now (b .entry)) (now (classes .entry))) (unrooted k) (now (buf .entry))
+        (now (buf .exit)) r ⌝ }
 {
     let mut keys = [0u64; 2048];
     let mut spare = [0u64; 2048];
@@ -90,7 +92,8 @@ pub(crate) fn ask_unrooted(
     classes: &[u8],
 ) -> Reply
     requires { ⌜ UnrootedAsked k (graphOf (now b) (now classes)) asked (length (now buf)) ⌝ }
-    ensures { λ r. ⌜ Answered asked (graphOf (now (b .entry)) (now (classes .entry))) (unrooted k) (now (buf .entry)) (now (buf .exit)) r ⌝ }
+    ensures { λ r. ⌜ Answered asked (graphOf (now (b .entry)) (now (classes .entry))) (unrooted k) (now (buf .entry))
+        (now (buf .exit)) r ⌝ }
 {
     if graph::edge_count(b, classes) <= 512 {
         return ask_unrooted_small(k, b, asked, buf, classes);

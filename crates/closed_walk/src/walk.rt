@@ -41,7 +41,8 @@ pub fn number_of(walked: Walked) -> u32
 // The walk along one tree of a cover: its stops, two bytes each, and its length, twice the tree's weight.
 fn walk_tree(b: &[u8], c: &[u8], tree: usize, buf: &mut [u8], classes: &[u8]) -> Walked
     requires { ⌜ TreeAsked (graphOf (now b) (now classes)) (now c) tree (length (now buf)) ⌝ }
-    ensures { λ r. ⌜ TreeWalked (graphOf (now (b .entry)) (now (classes .entry))) (now (c .entry)) tree (now (buf .entry)) (now (buf .exit)) r ⌝ }
+    ensures { λ r. ⌜ TreeWalked (graphOf (now (b .entry)) (now (classes .entry))) (now (c .entry)) tree
+        (now (buf .entry)) (now (buf .exit)) r ⌝ }
 {
     let from = run_begin(c, tree);
     let to = run_end(c, tree, from);
@@ -56,8 +57,8 @@ fn walk_tree(b: &[u8], c: &[u8], tree: usize, buf: &mut [u8], classes: &[u8]) ->
 // The same of a cover that passed the check, unless it has no such tree (51) or the buffer is too small (52).
 fn walk_checked(b: &[u8], c: &[u8], tree: usize, buf: &mut [u8], classes: &[u8]) -> Walked
     requires { ⌜ CheckedGiven (graphOf (now b) (now classes)) (now c) ⌝ }
-    ensures { λ r. ⌜ CheckedWalked (graphOf (now (b .entry)) (now (classes .entry))) (now (c .entry)) tree (now (buf .entry)) (now (buf .exit))
-        r ⌝ }
+    ensures { λ r. ⌜ CheckedWalked (graphOf (now (b .entry)) (now (classes .entry))) (now (c .entry)) tree
+        (now (buf .entry)) (now (buf .exit)) r ⌝ }
 {
     if trees_in(c) <= tree {
         return Walked::Refused(Refusal::TreeNumber);

@@ -17,7 +17,8 @@ ghost use Rattle.cover.specs.Runs.{runEdges, InEntries, CoverGiven};
 // The weight of the edges of a run of entries.
 pub fn run_weight(b: &[u8], c: &[u8], from: usize, to: usize, classes: &[u8]) -> u64
     requires { ⌜ InEntries (now c) from to ⌝ }
-    ensures { λ r. ⌜ r ≡ totalWeight (graphOf (now (b .entry)) (now (classes .entry))) (runEdges (now (c .entry)) from to) ⌝ }
+    ensures { λ r. ⌜ r ≡ totalWeight (graphOf (now (b .entry)) (now (classes .entry))) (runEdges (now (c .entry)) from
+        to) ⌝ }
 {
     let mut sum: u64 = 0;
     let mut i = from;
@@ -77,8 +78,8 @@ pub fn heaviest_chosen(
     classes: &[u8],
 ) -> u64
     requires { ⌜ AllHeld (now bounds) (now edges) (now chosen) ⌝ }
-    ensures { λ r. ⌜ HeaviestChosen (graphOf (now (b .entry)) (now (classes .entry))) (now (bounds .entry)) (now (edges .entry))
-        (now (chosen .entry)) r ⌝ }
+    ensures { λ r. ⌜ HeaviestChosen (graphOf (now (b .entry)) (now (classes .entry))) (now (bounds .entry))
+        (now (edges .entry)) (now (chosen .entry)) r ⌝ }
 {
     let mut most: u64 = 0;
     let mut j = 0;

@@ -23,7 +23,8 @@ fn nearer(dist: &[u32], u: usize, v: usize) -> usize
 // A vertex of the part with this start and these edges that is nearest: the start, unless an end of an edge is nearer.
 pub fn nearest_vertex(b: &[u8], dist: &[u32], start: usize, edges: &[u16], classes: &[u8]) -> usize
     requires { ⌜ NearestGiven (graphOf (now b) (now classes)) (now dist) start ⌝ }
-    ensures { λ r. ⌜ Nearest (graphOf (now (b .entry)) (now (classes .entry))) (now (dist .entry)) (treeOf start (now (edges .entry))) r ⌝ }
+    ensures { λ r. ⌜ Nearest (graphOf (now (b .entry)) (now (classes .entry))) (now (dist .entry)) (treeOf start
+        (now (edges .entry))) r ⌝ }
 {
     let mut v = start;
     let mut i = 0;

@@ -46,7 +46,8 @@ pub fn stands_for(parents: &mut [u8], v: usize) -> usize
 // the lower for its parent.
 pub fn join_ends(b: &[u8], e: usize, parents: &mut [u8], classes: &[u8]) -> bool
     requires { ⌜ Joinable (graphOf (now b) (now classes)) (now parents) ⌝ }
-    ensures { λ r. ⌜ EndsJoined (graphOf (now (b .entry)) (now (classes .entry))) e (now (parents .entry)) (now (parents .exit)) r ⌝ }
+    ensures { λ r. ⌜ EndsJoined (graphOf (now (b .entry)) (now (classes .entry))) e (now (parents .entry))
+        (now (parents .exit)) r ⌝ }
 {
     let u = stands_for(parents, graph::one_end(b, e, classes));
     let v = stands_for(parents, graph::other_end(b, e, classes));

@@ -25,8 +25,8 @@ fn run_loop_free(
     classes: &[u8],
 ) -> bool
     requires { ⌜ (from ≤ to) × Joinable (graphOf (now b) (now classes)) (now parents) ⌝ }
-    ensures { λ r. ⌜ RunTaken (graphOf (now (b .entry)) (now (classes .entry))) (now (c .entry)) from to (now (parents .entry))
-        (now (parents .exit)) r ⌝ }
+    ensures { λ r. ⌜ RunTaken (graphOf (now (b .entry)) (now (classes .entry))) (now (c .entry)) from to
+        (now (parents .entry)) (now (parents .exit)) r ⌝ }
 {
     let mut i = from;
     while i < to {
@@ -48,9 +48,10 @@ fn run_joined(
     parents: &mut [u8],
     classes: &[u8],
 ) -> bool
-    requires { ⌜ (start < graphOf (now b) (now classes) .vertices) × Joinable (graphOf (now b) (now classes)) (now parents) ⌝ }
-    ensures { λ r. ⌜ RunJoined (graphOf (now (b .entry)) (now (classes .entry))) (now (c .entry)) from to start (now (parents .entry))
-        (now (parents .exit)) r ⌝ }
+    requires { ⌜ (start < graphOf (now b) (now classes) .vertices) × Joinable (graphOf (now b) (now classes))
+        (now parents) ⌝ }
+    ensures { λ r. ⌜ RunJoined (graphOf (now (b .entry)) (now (classes .entry))) (now (c .entry)) from to start
+        (now (parents .entry)) (now (parents .exit)) r ⌝ }
 {
     let home = stands_for(parents, start);
     let mut i = from;
@@ -92,8 +93,8 @@ fn tree_right(
 // Says whether every tree is so. The parents are scratch.
 pub fn trees_right(b: &[u8], c: &[u8], parents: &mut [u8], classes: &[u8]) -> bool
     requires { ⌜ TreesGiven (graphOf (now b) (now classes)) (now c) (now parents) ⌝ }
-    ensures { λ r. ⌜ TreesTold (graphOf (now (b .entry)) (now (classes .entry))) (decode (now (c .entry))) (now (parents .entry))
-        (now (parents .exit)) r ⌝ }
+    ensures { λ r. ⌜ TreesTold (graphOf (now (b .entry)) (now (classes .entry))) (decode (now (c .entry)))
+        (now (parents .entry)) (now (parents .exit)) r ⌝ }
 {
     let t = trees_in(c);
     let mut from = 0;

@@ -31,8 +31,8 @@ fn mark_starts(c: &[u8], marks: &mut [u8])
 // Marks both ends of each entry's edge.
 fn mark_ends(b: &[u8], c: &[u8], marks: &mut [u8], classes: &[u8])
     requires { ⌜ Labelable (graphOf (now b) (now classes)) (now marks) ⌝ }
-    ensures { λ _. ⌜ EndsMarked (graphOf (now (b .entry)) (now (classes .entry))) (now (c .entry)) (entriesIn (now (c .entry)))
-        (now (marks .entry)) (now (marks .exit)) ⌝ }
+    ensures { λ _. ⌜ EndsMarked (graphOf (now (b .entry)) (now (classes .entry))) (now (c .entry)) (entriesIn
+        (now (c .entry))) (now (marks .entry)) (now (marks .exit)) ⌝ }
 {
     let q = entries_in(c);
     let mut i = 0;

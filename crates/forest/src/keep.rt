@@ -8,7 +8,8 @@ ghost use Rattle.forest.specs.Keeping.{Labelable, Keepable, KeptWritten}
 // Joins the ends of edge e, and says whether they were not yet joined. Where they were, no label changes.
 pub fn join_ends(b: &[u8], e: usize, label: &mut [u16], classes: &[u8]) -> bool
     requires { ⌜ Labelable (graphOf (now b) (now classes)) (now label) ⌝ }
-    ensures { λ r. ⌜ Joined (graphOf (now (b .entry)) (now (classes .entry))) e (now (label .entry)) (now (label .exit)) r ⌝ }
+    ensures { λ r. ⌜ Joined (graphOf (now (b .entry)) (now (classes .entry))) e (now (label .entry)) (now (label .exit))
+        r ⌝ }
 {
     let u = graph::one_end(b, e, classes);
     let v = graph::other_end(b, e, classes);
@@ -30,8 +31,8 @@ pub fn keep_edges(
     classes: &[u8],
 ) -> usize
     requires { ⌜ Keepable (graphOf (now b) (now classes)) (now label) (now kept) ⌝ }
-    ensures { λ r. ⌜ KeptWritten (graphOf (now (b .entry)) (now (classes .entry))) (now (edges .entry)) (now (label .entry))
-        (now (label .exit)) (now (kept .entry)) (now (kept .exit)) r ⌝ }
+    ensures { λ r. ⌜ KeptWritten (graphOf (now (b .entry)) (now (classes .entry))) (now (edges .entry))
+        (now (label .entry)) (now (label .exit)) (now (kept .entry)) (now (kept .exit)) r ⌝ }
 {
     let mut r = 0;
     let mut i = 0;

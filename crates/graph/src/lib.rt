@@ -1,7 +1,8 @@
-// The graph's bytes (document 01: a "sheet"): readers of its fields. The check of the bytes stands in the crate
-// `graph_check`. Everything is read from the caller's own bytes, and every public function of this file but
-// `u16_within` takes any bytes. Edges are read through a view.
-// The words of the contracts stand in specs/: `sheetGraph` is the graph that the bytes spell.
+// The graph's bytes (document 01: a "sheet"): readers of its fields, and of the graph that they and the class bytes
+// beside them spell. The check of the bytes stands in the crate `graph_check`. Everything is read from the caller's own
+// bytes, and every public function of this file but `u16_within` takes any bytes. Edges are read through a view.
+// The words of the contracts stand in specs/: `sheetGraph` is the graph with its weights as given, `graphOf` with its
+// weights by class.
 pub mod surface;
 pub mod view;
 
@@ -109,8 +110,8 @@ pub(crate) fn weight_at(b: &[u8], m: usize, e: usize) -> u64
     }
 }
 
-// THE GRAPH THAT A SHEET AND ITS CLASSES SPELL. Counts and ends are the sheet's own: these readers take the classes too,
-// so that what they promise is of the same graph as the weights.
+// The readers of the graph that a sheet and its classes spell. Counts and ends are the sheet's own: these readers take
+// the classes too, so that what they promise is of the same graph as the weight is.
 
 // How many vertices ("stops") the graph has.
 pub fn vertex_count(b: &[u8], classes: &[u8]) -> usize

@@ -10,7 +10,8 @@ ghost use Rattle.near.specs.Held.{PieceAsked, NearTree, NearPiecesAsked,
 // Those near the tree with this start and these edges: near the start, or near an end of an edge.
 fn near_piece(b: &[u8], near: &[u32], start: usize, edges: &[u16], classes: &[u8]) -> u32
     requires { ⌜ PieceAsked (graphOf (now b) (now classes)) (now near) start ⌝ }
-    ensures { λ r. ⌜ NearTree (graphOf (now (b .entry)) (now (classes .entry))) (now (near .entry)) (treeOf start (now (edges .entry))) r ⌝ }
+    ensures { λ r. ⌜ NearTree (graphOf (now (b .entry)) (now (classes .entry))) (now (near .entry)) (treeOf start
+        (now (edges .entry))) r ⌝ }
 {
     let mut word = near[start];
     let mut i = 0;
@@ -35,11 +36,11 @@ pub fn near_pieces(
     words: &mut [u32],
     classes: &[u8],
 )
-    requires { ⌜ NearPiecesAsked (graphOf (now b) (now classes)) (now near) (now starts) (now cuts) (now members) (now places)
-        (now words) ⌝ }
-    ensures { λ _. ⌜ NearPieces (graphOf (now (b .entry)) (now (classes .entry))) (now (near .entry)) (now (starts .entry)) (now (cuts .entry))
-        (now (members .entry)) (now (places .entry))
-        (now (words .entry)) (now (words .exit)) ⌝ }
+    requires { ⌜ NearPiecesAsked (graphOf (now b) (now classes)) (now near) (now starts) (now cuts) (now members)
+        (now places) (now words) ⌝ }
+    ensures { λ _. ⌜ NearPieces (graphOf (now (b .entry)) (now (classes .entry))) (now (near .entry))
+        (now (starts .entry)) (now (cuts .entry)) (now (members .entry)) (now (places .entry)) (now (words .entry))
+        (now (words .exit)) ⌝ }
 {
     let mut i = 0;
     while i < places.len() {

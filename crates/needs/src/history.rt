@@ -48,9 +48,9 @@ fn merge_edge(
     classes: &[u8],
 )
     requires { ⌜ EdgeAsked (graphOf (now b) (now classes)) e number (now label) (now made) (now total) (now until) ⌝ }
-    ensures { λ _. ⌜ EdgeMerged (graphOf (now (b .entry)) (now (classes .entry))) e number (now (label .entry)) (now (label .exit))
-        (now (made .entry)) (now (made .exit))
-        (now (total .entry)) (now (total .exit)) (now (until .entry)) (now (until .exit)) ⌝ }
+    ensures { λ _. ⌜ EdgeMerged (graphOf (now (b .entry)) (now (classes .entry))) e number (now (label .entry))
+        (now (label .exit)) (now (made .entry)) (now (made .exit)) (now (total .entry)) (now (total .exit))
+        (now (until .entry)) (now (until .exit)) ⌝ }
 {
     let a = wide(label[graph::one_end(b, e, classes)]);
     let c = wide(label[graph::other_end(b, e, classes)]);
@@ -77,9 +77,9 @@ fn merge_all(
     classes: &[u8],
 )
     requires { ⌜ MergesAsked (graphOf (now b) (now classes)) (now kept) (now label) (now made) (now total) (now until) ⌝ }
-    ensures { λ _. ⌜ AllMerged (graphOf (now (b .entry)) (now (classes .entry))) (now (kept .entry)) (now (label .entry)) (now (label .exit))
-        (now (made .entry)) (now (made .exit))
-        (now (total .entry)) (now (total .exit)) (now (until .entry)) (now (until .exit)) ⌝ }
+    ensures { λ _. ⌜ AllMerged (graphOf (now (b .entry)) (now (classes .entry))) (now (kept .entry))
+        (now (label .entry)) (now (label .exit)) (now (made .entry)) (now (made .exit)) (now (total .entry))
+        (now (total .exit)) (now (until .entry)) (now (until .exit)) ⌝ }
 {
     let mut i = 0;
     while i < kept.len() {
@@ -91,8 +91,8 @@ fn merge_all(
 // The history of the whole forest, where no vertex is a root.
 pub fn record_merges(b: &[u8], kept: &[u16], total: &mut [u64], until: &mut [u16], classes: &[u8])
     requires { ⌜ HistoryAsked (graphOf (now b) (now classes)) (now kept) (now total) (now until) ⌝ }
-    ensures { λ _. ⌜ HistoryWritten (graphOf (now (b .entry)) (now (classes .entry))) (now (kept .entry)) (now (total .entry))
-        (now (total .exit)) (now (until .entry)) (now (until .exit)) ⌝ }
+    ensures { λ _. ⌜ HistoryWritten (graphOf (now (b .entry)) (now (classes .entry))) (now (kept .entry))
+        (now (total .entry)) (now (total .exit)) (now (until .entry)) (now (until .exit)) ⌝ }
 {
     let mut label = [0u16; 256];
     let mut made = [0u16; 256];

@@ -8,8 +8,8 @@ ghost use Rattle.needs.specs.Roots.{RootsAsked, RootsWritten};
 // components there are.
 pub fn component_roots(b: &[u8], edges: &[u16], roots: &mut [u16], classes: &[u8]) -> usize
     requires { ⌜ RootsAsked (graphOf (now b) (now classes)) (now roots) ⌝ }
-    ensures { λ r. ⌜ RootsWritten (graphOf (now (b .entry)) (now (classes .entry))) (now (edges .entry)) (now (roots .entry))
-        (now (roots .exit)) r ⌝ }
+    ensures { λ r. ⌜ RootsWritten (graphOf (now (b .entry)) (now (classes .entry))) (now (edges .entry))
+        (now (roots .entry)) (now (roots .exit)) r ⌝ }
 {
     let mut label = [0u16; 256];
     label_edges(b, &[], edges, &mut label, classes);

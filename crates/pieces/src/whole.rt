@@ -14,8 +14,8 @@ ghost use Rattle.pieces.specs.Whole.{AllJoined, EdgesLabelled, StopAsked
 // Joins the ends of each edge, one edge after the other, from the labels given.
 fn join_all(b: &[u8], edges: &[u16], label: &mut [u16], classes: &[u8])
     requires { ⌜ Labelable (graphOf (now b) (now classes)) (now label) ⌝ }
-    ensures { λ _. ⌜ AllJoined (graphOf (now (b .entry)) (now (classes .entry))) (now (edges .entry)) (now (label .entry)) (now (label .exit))
-        ⌝ }
+    ensures { λ _. ⌜ AllJoined (graphOf (now (b .entry)) (now (classes .entry))) (now (edges .entry))
+        (now (label .entry)) (now (label .exit)) ⌝ }
 {
     let mut i = 0;
     while i < edges.len() {
@@ -27,8 +27,8 @@ fn join_all(b: &[u8], edges: &[u16], label: &mut [u16], classes: &[u8])
 // The labels that the edges make, where all roots ("yards") are joined from the start.
 pub fn label_edges(b: &[u8], roots: &[u16], edges: &[u16], label: &mut [u16], classes: &[u8])
     requires { ⌜ Labelable (graphOf (now b) (now classes)) (now label) ⌝ }
-    ensures { λ _. ⌜ EdgesLabelled (graphOf (now (b .entry)) (now (classes .entry))) (now (roots .entry)) (now (edges .entry))
-        (now (label .entry)) (now (label .exit)) ⌝ }
+    ensures { λ _. ⌜ EdgesLabelled (graphOf (now (b .entry)) (now (classes .entry))) (now (roots .entry))
+        (now (edges .entry)) (now (label .entry)) (now (label .exit)) ⌝ }
 {
     start_labels(roots, graph::vertex_count(b, classes), label);
     join_all(b, edges, label, classes);
@@ -37,8 +37,8 @@ pub fn label_edges(b: &[u8], roots: &[u16], edges: &[u16], label: &mut [u16], cl
 // The lowest vertex that the edges join to no root ("stop v"), if there is one. The labels are scratch.
 pub fn stop_at(b: &[u8], roots: &[u16], edges: &[u16], label: &mut [u16], classes: &[u8]) -> Found
     requires { ⌜ StopAsked (graphOf (now b) (now classes)) (now roots) (now label) ⌝ }
-    ensures { λ r. ⌜ StopFound (graphOf (now (b .entry)) (now (classes .entry))) (now (roots .entry)) (now (edges .entry)) (now (label .entry))
-        (now (label .exit)) r ⌝ }
+    ensures { λ r. ⌜ StopFound (graphOf (now (b .entry)) (now (classes .entry))) (now (roots .entry))
+        (now (edges .entry)) (now (label .entry)) (now (label .exit)) r ⌝ }
 {
     label_edges(b, roots, edges, label, classes);
     lowest_unjoined(label, graph::vertex_count(b, classes), wide(roots[0]))
@@ -54,8 +54,8 @@ pub fn keep_whole(
     classes: &[u8],
 ) -> usize
     requires { ⌜ WholeAsked (graphOf (now b) (now classes)) (now order) (now label) (now kept) ⌝ }
-    ensures { λ r. ⌜ WholeForest (graphOf (now (b .entry)) (now (classes .entry))) (now (roots .entry)) (now (label .entry))
-        (now (label .exit)) (now (kept .entry)) (now (kept .exit)) r ⌝ }
+    ensures { λ r. ⌜ WholeForest (graphOf (now (b .entry)) (now (classes .entry))) (now (roots .entry))
+        (now (label .entry)) (now (label .exit)) (now (kept .entry)) (now (kept .exit)) r ⌝ }
 {
     start_labels(roots, graph::vertex_count(b, classes), label);
     keep_edges(b, order, label, kept, classes)

@@ -1,4 +1,5 @@
-// What crosses to C as numbers: the kind of a question, what it asks and which lists it brings, and what a reply, a verdict and a walk say.
+// What crosses to C as numbers: the kind of a question, what it asks and which lists it brings, and what a reply, a
+// verdict and a walk say.
 use admit::brought::Lists;
 use admit::crews::Kind;
 use asking::ask::Asked;

@@ -30,11 +30,11 @@ fn keep_forest(
     kept: &mut [u16],
     classes: &[u8],
 ) -> Ready
-    requires { ⌜ ForestAsked (graphOf (now b) (now classes)) (length (now keys)) (length (now spare)) (length (now order))
-        (length (now kept)) ⌝ }
-    ensures { λ r. ⌜ ForestPrepared (graphOf (now (b .entry)) (now (classes .entry))) (now (roots .entry)) (now (keys .entry))
-        (now (keys .exit)) (now (spare .entry)) (now (spare .exit))
-        (now (order .entry)) (now (order .exit)) (now (kept .entry)) (now (kept .exit)) r ⌝ }
+    requires { ⌜ ForestAsked (graphOf (now b) (now classes)) (length (now keys)) (length (now spare))
+        (length (now order)) (length (now kept)) ⌝ }
+    ensures { λ r. ⌜ ForestPrepared (graphOf (now (b .entry)) (now (classes .entry))) (now (roots .entry))
+        (now (keys .entry)) (now (keys .exit)) (now (spare .entry)) (now (spare .exit)) (now (order .entry))
+        (now (order .exit)) (now (kept .entry)) (now (kept .exit)) r ⌝ }
 {
     let mut label = [0u16; 256];
     let edges = order_edges(b, keys, spare, order, classes);
@@ -56,10 +56,9 @@ fn prepare_distances(
 )
     requires { ⌜ DistancesAsked (graphOf (now b) (now classes)) (now roots) (length (now numbers)) (length (now bounds))
         (length (now all)) (length (now distances)) (length (now lasts)) ⌝ }
-    ensures { λ _. ⌜ DistancesPrepared (graphOf (now (b .entry)) (now (classes .entry))) (now (roots .entry)) (now (numbers .entry))
-        (now (numbers .exit))
-        (now (bounds .entry)) (now (bounds .exit)) (now (all .entry)) (now (all .exit))
-        (now (distances .entry)) (now (distances .exit)) (now (lasts .entry)) (now (lasts .exit)) ⌝ }
+    ensures { λ _. ⌜ DistancesPrepared (graphOf (now (b .entry)) (now (classes .entry))) (now (roots .entry))
+        (now (numbers .entry)) (now (numbers .exit)) (now (bounds .entry)) (now (bounds .exit)) (now (all .entry))
+        (now (all .exit)) (now (distances .entry)) (now (distances .exit)) (now (lasts .entry)) (now (lasts .exit)) ⌝ }
 {
     let m = graph::edge_count(b, classes);
     number_up(m, numbers);
@@ -82,12 +81,11 @@ pub fn prepare_rooted(
     lasts: &mut [u32],
     classes: &[u8],
 ) -> Ready
-    requires { ⌜ RootedPreparable (graphOf (now b) (now classes)) (now roots) (now order) (now kept) (now bounds) (now all) (now arcs)
-        (now distances) (now lasts) ⌝ }
-    ensures { λ r. ⌜ RootedPrepared (graphOf (now (b .entry)) (now (classes .entry))) (now (roots .entry)) (now (order .entry))
-        (now (order .exit)) (now (kept .entry)) (now (kept .exit))
-        (now (bounds .entry)) (now (bounds .exit)) (now (all .entry)) (now (all .exit)) (now (arcs .entry))
-        (now (arcs .exit))
+    requires { ⌜ RootedPreparable (graphOf (now b) (now classes)) (now roots) (now order) (now kept) (now bounds)
+        (now all) (now arcs) (now distances) (now lasts) ⌝ }
+    ensures { λ r. ⌜ RootedPrepared (graphOf (now (b .entry)) (now (classes .entry))) (now (roots .entry))
+        (now (order .entry)) (now (order .exit)) (now (kept .entry)) (now (kept .exit)) (now (bounds .entry))
+        (now (bounds .exit)) (now (all .entry)) (now (all .exit)) (now (arcs .entry)) (now (arcs .exit))
         (now (distances .entry)) (now (distances .exit)) (now (lasts .entry)) (now (lasts .exit)) r ⌝ }
 {
     prepare_distances(b, roots, order, bounds, all, distances, lasts, classes);
@@ -107,12 +105,12 @@ pub fn prepare_unrooted(
     until: &mut [u16],
     classes: &[u8],
 ) -> Ready
-    requires { ⌜ UnrootedPreparable (graphOf (now b) (now classes)) (now keys) (now spare) (now order) (now kept) (now total)
-        (now until) ⌝ }
-    ensures { λ r. ⌜ UnrootedPrepared (graphOf (now (b .entry)) (now (classes .entry))) (now (keys .entry)) (now (keys .exit))
-        (now (spare .entry)) (now (spare .exit))
-        (now (order .entry)) (now (order .exit)) (now (kept .entry)) (now (kept .exit))
-        (now (total .entry)) (now (total .exit)) (now (until .entry)) (now (until .exit)) r ⌝ }
+    requires { ⌜ UnrootedPreparable (graphOf (now b) (now classes)) (now keys) (now spare) (now order) (now kept)
+        (now total) (now until) ⌝ }
+    ensures { λ r. ⌜ UnrootedPrepared (graphOf (now (b .entry)) (now (classes .entry))) (now (keys .entry))
+        (now (keys .exit)) (now (spare .entry)) (now (spare .exit)) (now (order .entry)) (now (order .exit))
+        (now (kept .entry)) (now (kept .exit)) (now (total .entry)) (now (total .exit)) (now (until .entry))
+        (now (until .exit)) r ⌝ }
 {
     let ready = keep_forest(b, &[], keys, spare, order, kept, classes);
     record_merges(b, &kept[..ready.forest], total, until, classes);

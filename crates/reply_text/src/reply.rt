@@ -53,8 +53,8 @@ fn write_cover(
     classes: &[u8],
 ) -> usize
     requires { ⌜ TreesAsked (graphOf (now b) (now classes)) (now c) 69 (length (now out)) ⌝ }
-    ensures { λ r. ⌜ PutTo 0 (coverText (graphOf (now (b .entry)) (now (classes .entry))) limit heaviest t (now (c .entry))) (now (out .entry))
-        (now (out .exit)) r ⌝ }
+    ensures { λ r. ⌜ PutTo 0 (coverText (graphOf (now (b .entry)) (now (classes .entry))) limit heaviest t
+        (now (c .entry))) (now (out .entry)) (now (out .exit)) r ⌝ }
 {
     let behind_word = put_word(b"cover", out, 0);
     let behind_limit = put_spaced(limit, out, behind_word);
@@ -66,8 +66,8 @@ fn write_cover(
 // The text of a reply, as the first bytes of `out`. Says how many. A cover's trees are read from the buffer.
 pub fn write_reply(b: &[u8], reply: Reply, buf: &[u8], out: &mut [u8], classes: &[u8]) -> usize
     requires { ⌜ TextAsked (graphOf (now b) (now classes)) reply (now buf) (length (now out)) ⌝ }
-    ensures { λ r. ⌜ TextWritten (graphOf (now (b .entry)) (now (classes .entry))) reply (now (buf .entry)) (now (out .entry))
-        (now (out .exit)) r ⌝ }
+    ensures { λ r. ⌜ TextWritten (graphOf (now (b .entry)) (now (classes .entry))) reply (now (buf .entry))
+        (now (out .entry)) (now (out .exit)) r ⌝ }
 {
     match reply {
         Reply::Refused(f) => {

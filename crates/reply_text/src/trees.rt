@@ -43,8 +43,8 @@ fn put_tree(
     classes: &[u8],
 ) -> usize
     requires { ⌜ TreeTextAsked (graphOf (now b) (now classes)) (now c) j from to at (length (now out)) ⌝ }
-    ensures { λ r. ⌜ PutTo at (treeLine (graphOf (now (b .entry)) (now (classes .entry))) (runTree (now (c .entry)) j from to))
-        (now (out .entry)) (now (out .exit)) r ⌝ }
+    ensures { λ r. ⌜ PutTo at (treeLine (graphOf (now (b .entry)) (now (classes .entry))) (runTree (now (c .entry)) j
+        from to)) (now (out .entry)) (now (out .exit)) r ⌝ }
 {
     let weight = run_weight(b, c, from, to, classes);
     let behind_word = put_word(b"tree", out, at);
@@ -57,8 +57,8 @@ fn put_tree(
 // The lines of all trees of a cover, from a place on.
 pub(crate) fn put_trees(b: &[u8], c: &[u8], out: &mut [u8], at: usize, classes: &[u8]) -> usize
     requires { ⌜ TreesAsked (graphOf (now b) (now classes)) (now c) at (length (now out)) ⌝ }
-    ensures { λ r. ⌜ PutTo at (treeLines (graphOf (now (b .entry)) (now (classes .entry))) (decode (now (c .entry)))) (now (out .entry))
-        (now (out .exit)) r ⌝ }
+    ensures { λ r. ⌜ PutTo at (treeLines (graphOf (now (b .entry)) (now (classes .entry))) (decode (now (c .entry))))
+        (now (out .entry)) (now (out .exit)) r ⌝ }
 {
     let t = trees_in(c);
     let mut next = at;

@@ -41,8 +41,8 @@ fn answer_placed(
         (trialArrays (now starts) (now cuts) (now members) (now lefts) (now places) (now rows) (now assignment))
         (placed .parts) (placed .assigned)
         (length (now edges)) (length (now buf)) ⌝ }
-    ensures { λ r. ⌜ PlacedReplied (graphOf (now (b .entry)) (now (classes .entry))) (now (roots .entry)) limit (now (edges .entry))
-        (now (edges .exit)) (now (buf .entry)) (now (buf .exit)) r ⌝ }
+    ensures { λ r. ⌜ PlacedReplied (graphOf (now (b .entry)) (now (classes .entry))) (now (roots .entry)) limit
+        (now (edges .entry)) (now (edges .exit)) (now (buf .entry)) (now (buf .exit)) r ⌝ }
 {
     let k = roots.len();
     if placed.assigned {
@@ -93,12 +93,11 @@ fn answer_parts(
     buf: &mut [u8],
     classes: &[u8],
 ) -> Reply
-    requires { ⌜ JoinedLent (graphOf (now b) (now classes)) (now roots) limit (now order) (now bounds) (now arcs) (now distances)
-        (now lasts) (now rows) (length (now edges))
-        (length (now buf)) ⌝ }
-    ensures { λ r. ⌜ JoinedReplied (graphOf (now (b .entry)) (now (classes .entry))) (now (roots .entry)) limit (now (rows .entry))
-        (now (rows .exit)) (now (edges .entry)) (now (edges .exit))
-        (now (buf .entry)) (now (buf .exit)) r ⌝ }
+    requires { ⌜ JoinedLent (graphOf (now b) (now classes)) (now roots) limit (now order) (now bounds) (now arcs)
+        (now distances) (now lasts) (now rows) (length (now edges)) (length (now buf)) ⌝ }
+    ensures { λ r. ⌜ JoinedReplied (graphOf (now (b .entry)) (now (classes .entry))) (now (roots .entry)) limit
+        (now (rows .entry)) (now (rows .exit)) (now (edges .entry)) (now (edges .exit)) (now (buf .entry))
+        (now (buf .exit)) r ⌝ }
 {
     let mut starts = [0u16; 288];
     let mut cuts = [0u16; 289];
@@ -156,10 +155,10 @@ fn answer_small(
     buf: &mut [u8],
     classes: &[u8],
 ) -> Reply
-    requires { ⌜ JoinedSmall (graphOf (now b) (now classes)) (now roots) limit (now order) (now bounds) (now arcs) (now distances)
-        (now lasts) (length (now buf)) ⌝ }
-    ensures { λ r. ⌜ Answers (graphOf (now (b .entry)) (now (classes .entry))) (rooted (now (roots .entry))) limit (now (buf .entry))
-        (now (buf .exit)) r ⌝ }
+    requires { ⌜ JoinedSmall (graphOf (now b) (now classes)) (now roots) limit (now order) (now bounds) (now arcs)
+        (now distances) (now lasts) (length (now buf)) ⌝ }
+    ensures { λ r. ⌜ Answers (graphOf (now (b .entry)) (now (classes .entry))) (rooted (now (roots .entry))) limit
+        (now (buf .entry)) (now (buf .exit)) r ⌝ }
 {
     let mut rows = [0u8; 512];
     let mut edges = [0u16; 512];
@@ -192,10 +191,10 @@ fn answer_full(
     buf: &mut [u8],
     classes: &[u8],
 ) -> Reply
-    requires { ⌜ JoinedAsked (graphOf (now b) (now classes)) (now roots) limit (now order) (now bounds) (now arcs) (now distances)
-        (now lasts) (length (now buf)) ⌝ }
-    ensures { λ r. ⌜ Answers (graphOf (now (b .entry)) (now (classes .entry))) (rooted (now (roots .entry))) limit (now (buf .entry))
-        (now (buf .exit)) r ⌝ }
+    requires { ⌜ JoinedAsked (graphOf (now b) (now classes)) (now roots) limit (now order) (now bounds) (now arcs)
+        (now distances) (now lasts) (length (now buf)) ⌝ }
+    ensures { λ r. ⌜ Answers (graphOf (now (b .entry)) (now (classes .entry))) (rooted (now (roots .entry))) limit
+        (now (buf .entry)) (now (buf .exit)) r ⌝ }
 {
     let mut rows = [0u8; 8192];
     let mut edges = [0u16; 8192];
@@ -230,10 +229,10 @@ pub fn answer_rooted(
     buf: &mut [u8],
     classes: &[u8],
 ) -> Reply
-    requires { ⌜ RootedAnswerAsked (graphOf (now b) (now classes)) (now roots) limit (now order) (now kept) (now bounds) (now arcs)
-        (now distances) (now lasts) (length (now buf)) ⌝ }
-    ensures { λ r. ⌜ Answers (graphOf (now (b .entry)) (now (classes .entry))) (rooted (now (roots .entry))) limit (now (buf .entry))
-        (now (buf .exit)) r ⌝ }
+    requires { ⌜ RootedAnswerAsked (graphOf (now b) (now classes)) (now roots) limit (now order) (now kept) (now bounds)
+        (now arcs) (now distances) (now lasts) (length (now buf)) ⌝ }
+    ensures { λ r. ⌜ Answers (graphOf (now (b .entry)) (now (classes .entry))) (rooted (now (roots .entry))) limit
+        (now (buf .entry)) (now (buf .exit)) r ⌝ }
 {
     let light = light_forest(b, kept, limit, classes);
     let mut label = [0u16; 256];

@@ -32,10 +32,10 @@ fn put_tree(
     requires { ⌜ TreeGivenAt (graphOf (now b) (now classes)) (now order) (now distances) (now lasts) (now roots)
         (arraysOf (now starts) (now cuts) (now members) (now lefts) (now places)) (now assignment) j at
         (length (now edges)) ⌝ }
-    ensures { λ r. ⌜ TreePut (graphOf (now (b .entry)) (now (classes .entry))) (now (distances .entry)) (now (lasts .entry))
-        (now (roots .entry)) (arraysOf
-        (now (starts .entry)) (now (cuts .entry)) (now (members .entry)) (now (lefts .entry)) (now (places .entry)))
-        (now (assignment .entry)) j at (now (edges .entry)) (now (edges .exit)) r ⌝ }
+    ensures { λ r. ⌜ TreePut (graphOf (now (b .entry)) (now (classes .entry))) (now (distances .entry))
+        (now (lasts .entry)) (now (roots .entry)) (arraysOf (now (starts .entry)) (now (cuts .entry))
+        (now (members .entry)) (now (lefts .entry)) (now (places .entry))) (now (assignment .entry)) j at
+        (now (edges .entry)) (now (edges .exit)) r ⌝ }
 {
     let n = graph::vertex_count(b, classes);
     let root = wide(roots[j]);
@@ -81,10 +81,9 @@ fn lay_trees(
     requires { ⌜ LayRootsGiven (graphOf (now b) (now classes)) (now order) (now distances) (now lasts) (now roots)
         (arraysOf (now starts) (now cuts) (now members) (now lefts) (now places)) (now assignment)
         (length (now bounds)) (length (now edges)) ⌝ }
-    ensures { λ _. ⌜ RootsLaid (graphOf (now (b .entry)) (now (classes .entry))) (now (distances .entry)) (now (lasts .entry))
-        (now (roots .entry)) (arraysOf
-        (now (starts .entry)) (now (cuts .entry)) (now (members .entry)) (now (lefts .entry)) (now (places .entry)))
-        (now (assignment .entry))
+    ensures { λ _. ⌜ RootsLaid (graphOf (now (b .entry)) (now (classes .entry))) (now (distances .entry))
+        (now (lasts .entry)) (now (roots .entry)) (arraysOf (now (starts .entry)) (now (cuts .entry))
+        (now (members .entry)) (now (lefts .entry)) (now (places .entry))) (now (assignment .entry))
         (now (bounds .entry)) (now (bounds .exit)) (now (edges .entry)) (now (edges .exit)) ⌝ }
 {
     bounds[0] = 0;

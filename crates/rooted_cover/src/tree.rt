@@ -56,7 +56,8 @@ fn mark_back(last: &[u32], root: usize, v: usize, marks: &mut [u8])
 // number. Says how many.
 fn keep_risen(b: &[u8], order: &[u16], marks: &[u8], tree: &mut [u16], classes: &[u8]) -> usize
     requires { ⌜ TreeAsked (graphOf (now b) (now classes)) (now order) (now tree) ⌝ }
-    ensures { λ r. ⌜ TreeKept (graphOf (now (b .entry)) (now (classes .entry))) (now (marks .entry)) (now (tree .entry)) (now (tree .exit)) r ⌝ }
+    ensures { λ r. ⌜ TreeKept (graphOf (now (b .entry)) (now (classes .entry))) (now (marks .entry)) (now (tree .entry))
+        (now (tree .exit)) r ⌝ }
 {
     let r = keep_union(b, order, marks, tree, classes);
     rise_edges(&mut tree[..r]);
@@ -75,10 +76,10 @@ fn mark_reach(
     marks: &mut [u8],
     classes: &[u8],
 )
-    requires { ⌜ ReachGiven (graphOf (now b) (now classes)) (now dist) (now last) root start (now edges) (length (now marks)) ⌝ }
-    ensures { λ _. ⌜ ReachMarked (graphOf (now (b .entry)) (now (classes .entry))) (now (dist .entry)) (now (last .entry)) root start
-        (now (edges .entry))
-        (now (marks .entry)) (now (marks .exit)) ⌝ }
+    requires { ⌜ ReachGiven (graphOf (now b) (now classes)) (now dist) (now last) root start (now edges)
+        (length (now marks)) ⌝ }
+    ensures { λ _. ⌜ ReachMarked (graphOf (now (b .entry)) (now (classes .entry))) (now (dist .entry))
+        (now (last .entry)) root start (now (edges .entry)) (now (marks .entry)) (now (marks .exit)) ⌝ }
 {
     let v = nearest_vertex(b, dist, start, edges, classes);
     mark_edges(edges, marks);
@@ -100,11 +101,11 @@ fn mark_assigned(
     marks: &mut [u8],
     classes: &[u8],
 )
-    requires { ⌜ AssignedGiven (graphOf (now b) (now classes)) (now dist) (now last) root (now starts) (now cuts) (now members)
-        (now places) (now assignment) j (length (now marks)) ⌝ }
-    ensures { λ _. ⌜ AssignedMarked (graphOf (now (b .entry)) (now (classes .entry))) (now (dist .entry)) (now (last .entry)) root
-        (now (starts .entry)) (now (cuts .entry)) (now (members .entry))
-        (now (places .entry)) (now (assignment .entry)) j (now (marks .entry)) (now (marks .exit)) ⌝ }
+    requires { ⌜ AssignedGiven (graphOf (now b) (now classes)) (now dist) (now last) root (now starts) (now cuts)
+        (now members) (now places) (now assignment) j (length (now marks)) ⌝ }
+    ensures { λ _. ⌜ AssignedMarked (graphOf (now (b .entry)) (now (classes .entry))) (now (dist .entry))
+        (now (last .entry)) root (now (starts .entry)) (now (cuts .entry)) (now (members .entry)) (now (places .entry))
+        (now (assignment .entry)) j (now (marks .entry)) (now (marks .exit)) ⌝ }
 {
     let i = place_with(assignment, places.len(), j);
     if places.len() <= i {
@@ -142,10 +143,10 @@ pub fn rooted_tree(
     tree: &mut [u16],
     classes: &[u8],
 ) -> usize
-    requires { ⌜ RootGiven (graphOf (now b) (now classes)) (now order) (now dist) (now last) root (now starts) (now cuts)
-        (now members) left (now places) (now assignment) j (now tree) ⌝ }
-    ensures { λ r. ⌜ RootWritten (graphOf (now (b .entry)) (now (classes .entry))) (now (dist .entry)) (now (last .entry)) root
-        (now (starts .entry)) (now (cuts .entry)) (now (members .entry)) left
+    requires { ⌜ RootGiven (graphOf (now b) (now classes)) (now order) (now dist) (now last) root (now starts)
+        (now cuts) (now members) left (now places) (now assignment) j (now tree) ⌝ }
+    ensures { λ r. ⌜ RootWritten (graphOf (now (b .entry)) (now (classes .entry))) (now (dist .entry))
+        (now (last .entry)) root (now (starts .entry)) (now (cuts .entry)) (now (members .entry)) left
         (now (places .entry)) (now (assignment .entry)) j (now (tree .entry)) (now (tree .exit)) r ⌝ }
 {
     let mut marks = [0u8; 2048];

@@ -43,8 +43,8 @@ fn parts_near(
     classes: &[u8],
 ) -> usize
     requires { ⌜ NearReady (graphOf (now b) (now classes)) (now roots) limit (now distances) (now steps) (now parts) ⌝ }
-    ensures { λ r. ⌜ PartsNearPut (graphOf (now (b .entry)) (now (classes .entry))) (now (roots .entry)) limit (now (parts .entry))
-        (now (parts .exit)) r ⌝ }
+    ensures { λ r. ⌜ PartsNearPut (graphOf (now (b .entry)) (now (classes .entry))) (now (roots .entry)) limit
+        (now (parts .entry)) (now (parts .exit)) r ⌝ }
 {
     let mut near = [0u32; 256];
     roots_within(b, roots, limit, distances, &mut near, classes);
@@ -108,7 +108,8 @@ pub fn accepts_rooted(
     steps: &[u64],
     classes: &[u8],
 ) -> bool
-    requires { ⌜ RootedDecisionAsked (graphOf (now b) (now classes)) (now roots) limit (now kept) (now distances) (now steps) ⌝ }
+    requires { ⌜ RootedDecisionAsked (graphOf (now b) (now classes)) (now roots) limit (now kept) (now distances)
+        (now steps) ⌝ }
     ensures { λ r. ⌜ r ≡ accepts (graphOf (now (b .entry)) (now (classes .entry))) (rooted (now (roots .entry))) limit ⌝ }
 {
     if light_forest(b, kept, limit, classes) < kept.len() {

@@ -73,10 +73,10 @@ fn pieces_near(
     words: &mut [u32],
     classes: &[u8],
 )
-    requires { ⌜ WordsAsked (graphOf (now b) (now classes)) (now roots) limit (now distances) (now starts) (now cuts) (now members)
-        (now places) parts (now words) ⌝ }
-    ensures { λ _. ⌜ PartsNearPut (graphOf (now (b .entry)) (now (classes .entry))) (now (roots .entry)) limit (now (words .entry))
-        (now (words .exit)) parts ⌝ }
+    requires { ⌜ WordsAsked (graphOf (now b) (now classes)) (now roots) limit (now distances) (now starts) (now cuts)
+        (now members) (now places) parts (now words) ⌝ }
+    ensures { λ _. ⌜ PartsNearPut (graphOf (now (b .entry)) (now (classes .entry))) (now (roots .entry)) limit
+        (now (words .entry)) (now (words .exit)) parts ⌝ }
 {
     let mut near = [0u32; 256];
     roots_within(b, roots, limit, distances, &mut near, classes);
@@ -107,11 +107,10 @@ fn assign_parts(
     assignment: &mut [u8],
     classes: &[u8],
 ) -> bool
-    requires { ⌜ RowsAsked (graphOf (now b) (now classes)) (now roots) limit (now distances) (now starts) (now cuts) (now members)
-        (now places) parts (now rows) (now assignment) ⌝ }
-    ensures { λ r. ⌜ RowsPlaced (graphOf (now (b .entry)) (now (classes .entry))) (now (roots .entry)) limit parts (now (rows .entry))
-        (now (rows .exit))
-        (now (assignment .entry)) (now (assignment .exit)) r ⌝ }
+    requires { ⌜ RowsAsked (graphOf (now b) (now classes)) (now roots) limit (now distances) (now starts) (now cuts)
+        (now members) (now places) parts (now rows) (now assignment) ⌝ }
+    ensures { λ r. ⌜ RowsPlaced (graphOf (now (b .entry)) (now (classes .entry))) (now (roots .entry)) limit parts
+        (now (rows .entry)) (now (rows .exit)) (now (assignment .entry)) (now (assignment .exit)) r ⌝ }
 {
     let mut words = [0u32; 256];
     pieces_near(

@@ -13,8 +13,8 @@ pub fn roots_within(
     classes: &[u8],
 )
     requires { ⌜ WithinAsked (graphOf (now b) (now classes)) (now roots) limit (now distances) (now words) ⌝ }
-    ensures { λ _. ⌜ WithinDone (graphOf (now (b .entry)) (now (classes .entry))) (now (roots .entry)) limit (now (words .entry))
-        (now (words .exit)) ⌝ }
+    ensures { λ _. ⌜ WithinDone (graphOf (now (b .entry)) (now (classes .entry))) (now (roots .entry)) limit
+        (now (words .entry)) (now (words .exit)) ⌝ }
 {
     let n = graph::vertex_count(b, classes);
     near_vertices(distances, roots.len(), limit as u32, &mut words[..n]);

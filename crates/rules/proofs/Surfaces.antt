@@ -11,10 +11,19 @@ use borrow.Author.Tests.{ltb-false, le-ltb, lt-ltb}
 use Rattle.lists.proofs.AnyBelow.{found-any-below, none-any-below}
 use Rattle.graph.specs.Graph.{Graph, edgeCount, weightOf}
 use Rattle.graph.specs.Bytes.{sheetGraph}
-use Rattle.graph.specs.Fault.{Fault, faultIf, firstFault}
+use Rattle.graph.specs.Fault.{Fault, faultIf, faultUnless, firstFault, refusedOr}
 use Rattle.graph.proofs.Faults.{quiet-if, quiet-each}
 use Rattle.graph.proofs.Surfaced.{plain-graph}
-use Rattle.rules.specs.Questions.{Kind, Question, question, graphIn, crewsIn, sheetFault, classFault, adjustedFault, surfaceFault, crewFault, questionFault}
+use Rattle.rules.specs.Cover.{Crews, heaviest}
+use Rattle.rules.specs.CoverBytes.{treesIn, treeIn, decode}
+use Rattle.rules.specs.CheckCover.{coverFault}
+use Rattle.rules.specs.Reply.{yes, number, refused}
+use Rattle.rules.specs.RootedTrial.{Choices}
+use Rattle.rules.specs.Search.{trial, best}
+use Rattle.rules.specs.Questions.{Kind, Question, question, graphIn, crewsBy, sheetFault, classFault, adjustedFault, surfaceFault, crewFault, questionFault, limitFault, roomFault, trialFault, askTrial, bestFault, askBest, checkFault, askCheck}
+use Rattle.rules.specs.ClosedWalk.{stopsOf, lengthOf, closedWalk}
+use Rattle.rules.specs.WalkQuestion as walks
+use Rattle.rules.specs.WalkQuestion.{leastWalkRoom, walkFault, askWalk}
 use Rattle.rules.proofs.SheetRight.{sheet-right}
 
 module _ (g : Graph) where
@@ -43,19 +52,52 @@ pub weights-light : (q : Question) → surfaceFault q ≡ none → (e : ℕ) →
 unfolding surfaceFault
 weights-light q none-refused = light-each (graphIn q) (quiet-each _ none-refused (List·Memᴰ·tail (List·Memᴰ·head refl)))
 
--- Without a class list the graph is the sheet's own,
+-- WITHOUT A CLASS LIST, what was asked before the request is answered as it was: about the sheet's own graph.
 module _ (kind : Kind) (k : ℕ) (sheet : List ℕ) where
-  pub plain-question : graphIn (question kind k sheet) ≡ sheetGraph sheet
-  plain-question = plain-graph sheet
+  abbrev q : Question
+  q = question kind k sheet
 
-  -- and nothing else is refused than the sheet, 11 to 16, and the crews, 21.
-  pub plain-fault : questionFault (question kind k sheet) ≡ firstFault (sheetFault sheet ∷ crewFault (crewsIn (question kind k sheet)) (sheetGraph sheet .vertices) ∷ [])
+  abbrev g : Graph
+  g = sheetGraph sheet
+
+  abbrev crews : Crews
+  crews = crewsBy kind k
+
+  -- What is refused of every question: the sheet, 11 to 16, and the crews, 21.
+  abbrev plainFault : Fault
+  plainFault = firstFault (sheetFault sheet ∷ crewFault crews (g .vertices) ∷ [])
+
+  pub plain-fault : questionFault q ≡ plainFault
   unfolding questionFault surfaceFault classFault firstFault
   plain-fault = go (sheetFault sheet) refl
     where
-      crews : Fault
-      crews = crewFault (crewsIn (question kind k sheet)) (sheetGraph sheet .vertices)
+      go : (f : Fault) → sheetFault sheet ≡ f → questionFault q ≡ firstFault (f ∷ crewFault crews (g .vertices) ∷ [])
+      go (some n) e = rw e
+      go none e = rw (e, plain-graph sheet, each-light g (λ i h. sheet-right sheet .0 e .valid .each-edge i h .weight-most))
 
-      go : (f : Fault) → sheetFault sheet ≡ f → questionFault (question kind k sheet) ≡ firstFault (f ∷ crews ∷ [])
-      go (some n) q = rw q
-      go none q = rw (q, plain-graph sheet, each-light (sheetGraph sheet) (λ e h. sheet-right sheet .0 q .valid .each-edge e h .weight-most))
+  -- The replies.
+  pub plain-trial : (limit room : ℕ) (c : Choices) → askTrial q limit room c
+      ≡ refusedOr refused (firstFault (plainFault ∷ limitFault limit ∷ roomFault room ∷ [])) (trial g crews limit c)
+  unfolding askTrial trialFault
+  plain-trial limit room c = rw (plain-fault, plain-graph sheet)
+
+  pub plain-best : (room : ℕ) (c : Choices) → askBest q room c ≡ refusedOr refused (firstFault (plainFault ∷ roomFault room ∷ [])) (best g crews c)
+  unfolding askBest bestFault
+  plain-best room c = rw (plain-fault, plain-graph sheet)
+
+  abbrev plainCheckFault : List ℕ → Fault
+  plainCheckFault cover = firstFault (plainFault ∷ coverFault g crews cover ∷ [])
+
+  plain-check-fault : (cover : List ℕ) → checkFault q cover ≡ plainCheckFault cover
+  unfolding checkFault
+  plain-check-fault cover = rw (plain-fault, plain-graph sheet)
+
+  pub plain-check : (cover : List ℕ) → askCheck q cover ≡ refusedOr number (plainCheckFault cover) (yes (heaviest g (decode cover)))
+  unfolding askCheck
+  plain-check cover = rw (plain-check-fault cover, plain-graph sheet)
+
+  pub plain-walk : (cover : List ℕ) (tree room : ℕ) → let walk = closedWalk g (treeIn cover tree) in askWalk q cover tree room
+      ≡ refusedOr walks.refused (firstFault (plainCheckFault cover ∷ faultUnless (ltb tree (treesIn cover)) 51 ∷ faultIf (ltb room leastWalkRoom) 52 ∷ []))
+      (walks.walks (stopsOf g walk) (lengthOf g walk))
+  unfolding askWalk walkFault
+  plain-walk cover tree room = rw (plain-check-fault cover, plain-graph sheet)

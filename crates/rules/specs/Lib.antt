@@ -47,6 +47,9 @@ pub mod RivalWalks
 pub mod WalkQuestion
 -- the walks along small trees
 pub mod WalkExamples
+-- Document 02, "A.3 Surfaces" (the weight by class stands in the crate `graph`):
+-- small sheets with class lists
+pub mod SurfaceExamples
 -- Besides the documents, what promises cite:
 -- trees as arrays hold them
 pub mod Held

@@ -22,9 +22,10 @@ pub(crate) fn accepts_at(
     steps: &[u64],
     classes: &[u8],
 ) -> bool
-    requires { ⌜ DecisionAsked kind k (graphOf (now b) (now classes)) (now roots) limit (now kept) (now distances) (now total)
-        (now until) (now steps) ⌝ }
-    ensures { λ r. ⌜ r ≡ accepts (graphOf (now (b .entry)) (now (classes .entry))) (crewsWith kind k (now (roots .entry))) limit ⌝ }
+    requires { ⌜ DecisionAsked kind k (graphOf (now b) (now classes)) (now roots) limit (now kept) (now distances)
+        (now total) (now until) (now steps) ⌝ }
+    ensures { λ r. ⌜ r ≡ accepts (graphOf (now (b .entry)) (now (classes .entry))) (crewsWith kind k
+        (now (roots .entry))) limit ⌝ }
 {
     match kind {
         Kind::Rooted => accepts_rooted(b, roots, limit, kept, distances, steps, classes),

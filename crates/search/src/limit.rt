@@ -25,9 +25,10 @@ fn search(
     budget: usize,
     classes: &[u8],
 ) -> u64
-    requires { ⌜ SearchAsked kind k (graphOf (now b) (now classes)) (now roots) (now kept) (now distances) (now total) (now until)
-        (now steps) sum ⌝ }
-    ensures { λ r. ⌜ r ≡ searchEnd (graphOf (now (b .entry)) (now (classes .entry))) (crewsWith kind k (now (roots .entry))) sum budget ⌝ }
+    requires { ⌜ SearchAsked kind k (graphOf (now b) (now classes)) (now roots) (now kept) (now distances) (now total)
+        (now until) (now steps) sum ⌝ }
+    ensures { λ r. ⌜ r ≡ searchEnd (graphOf (now (b .entry)) (now (classes .entry))) (crewsWith kind k
+        (now (roots .entry))) sum budget ⌝ }
 {
     let mut low = 0;
     let mut high = sum;
@@ -74,9 +75,10 @@ fn search_limit(
     steps: &[u64],
     classes: &[u8],
 ) -> u64
-    requires { ⌜ SteppedAsked kind k (graphOf (now b) (now classes)) (now roots) (now order) (now kept) (now distances) (now total)
-        (now until) (now steps) ⌝ }
-    ensures { λ r. ⌜ r ≡ bestLimit (graphOf (now (b .entry)) (now (classes .entry))) (crewsWith kind k (now (roots .entry))) ⌝ }
+    requires { ⌜ SteppedAsked kind k (graphOf (now b) (now classes)) (now roots) (now order) (now kept) (now distances)
+        (now total) (now until) (now steps) ⌝ }
+    ensures { λ r. ⌜ r ≡ bestLimit (graphOf (now (b .entry)) (now (classes .entry))) (crewsWith kind k
+        (now (roots .entry))) ⌝ }
 {
     if accepts_at(
         kind,
@@ -121,8 +123,8 @@ fn write_steps(
     classes: &[u8],
 ) -> usize
     requires { ⌜ StepsGiven kind (graphOf (now b) (now classes)) (now roots) (now bounds) (now arcs) (now steps) ⌝ }
-    ensures { λ r. ⌜ StepsFor kind (graphOf (now (b .entry)) (now (classes .entry))) (now (roots .entry)) (now (steps .entry))
-        (now (steps .exit)) r ⌝ }
+    ensures { λ r. ⌜ StepsFor kind (graphOf (now (b .entry)) (now (classes .entry))) (now (roots .entry))
+        (now (steps .entry)) (now (steps .exit)) r ⌝ }
 {
     match kind {
         Kind::Rooted => put_steps(graph::vertex_count(b, classes), bounds, arcs, roots, steps),
@@ -145,9 +147,10 @@ pub fn best_limit(
     until: &[u16],
     classes: &[u8],
 ) -> u64
-    requires { ⌜ BestAsked kind k (graphOf (now b) (now classes)) (now roots) (now order) (now kept) (now bounds) (now arcs)
-        (now distances) (now total) (now until) ⌝ }
-    ensures { λ r. ⌜ r ≡ bestLimit (graphOf (now (b .entry)) (now (classes .entry))) (crewsWith kind k (now (roots .entry))) ⌝ }
+    requires { ⌜ BestAsked kind k (graphOf (now b) (now classes)) (now roots) (now order) (now kept) (now bounds)
+        (now arcs) (now distances) (now total) (now until) ⌝ }
+    ensures { λ r. ⌜ r ≡ bestLimit (graphOf (now (b .entry)) (now (classes .entry))) (crewsWith kind k
+        (now (roots .entry))) ⌝ }
 {
     let mut steps = [0u64; 256];
     let count = write_steps(kind, b, roots, bounds, arcs, &mut steps, classes);

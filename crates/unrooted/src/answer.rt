@@ -48,8 +48,10 @@ pub fn answer_unrooted(
     buf: &mut [u8],
     classes: &[u8],
 ) -> Reply
-    requires { ⌜ UnrootedAnswerAsked (graphOf (now b) (now classes)) k limit (now kept) (now total) (now until) (length (now buf)) ⌝ }
-    ensures { λ r. ⌜ Answers (graphOf (now (b .entry)) (now (classes .entry))) (unrooted k) limit (now (buf .entry)) (now (buf .exit)) r ⌝ }
+    requires { ⌜ UnrootedAnswerAsked (graphOf (now b) (now classes)) k limit (now kept) (now total) (now until)
+        (length (now buf)) ⌝ }
+    ensures { λ r. ⌜ Answers (graphOf (now (b .entry)) (now (classes .entry))) (unrooted k) limit (now (buf .entry))
+        (now (buf .exit)) r ⌝ }
 {
     let at = at_limit(b, limit, kept, total, until, classes);
     if (k as u64) < at.trees {

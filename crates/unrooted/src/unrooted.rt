@@ -37,10 +37,11 @@ fn split_components(
     lefts: &mut [u16],
     classes: &[u8],
 ) -> Split
-    requires { ⌜ SplitAsked (graphOf (now b) (now classes)) (now edges) limit (now starts) (now cuts) (now members) (now lefts) ⌝ }
-    ensures { λ r. ⌜ ComponentsSplit (graphOf (now (b .entry)) (now (classes .entry))) limit (now (starts .entry)) (now (starts .exit))
-        (now (cuts .entry)) (now (cuts .exit))
-        (now (members .entry)) (now (members .exit)) (now (lefts .entry)) (now (lefts .exit)) r ⌝ }
+    requires { ⌜ SplitAsked (graphOf (now b) (now classes)) (now edges) limit (now starts) (now cuts) (now members)
+        (now lefts) ⌝ }
+    ensures { λ r. ⌜ ComponentsSplit (graphOf (now (b .entry)) (now (classes .entry))) limit (now (starts .entry))
+        (now (starts .exit)) (now (cuts .entry)) (now (cuts .exit)) (now (members .entry)) (now (members .exit))
+        (now (lefts .entry)) (now (lefts .exit)) r ⌝ }
 {
     let mut roots = [0u16; 256];
     let mut bounds = [0u16; 257];
@@ -75,9 +76,9 @@ fn order_trees(
     classes: &[u8],
 ) -> usize
     requires { ⌜ OrderAsked pieces (now lefts) (now starts) (now cuts) (now members) (now chosen) ⌝ }
-    ensures { λ r. ⌜ TreesOrdered (graphOf (now (b .entry)) (now (classes .entry))) pieces (now (lefts .entry)) (now (starts .entry))
-        (now (starts .exit)) (now (cuts .entry))
-        (now (members .entry)) (now (members .exit)) (now (chosen .entry)) (now (chosen .exit)) r ⌝ }
+    ensures { λ r. ⌜ TreesOrdered (graphOf (now (b .entry)) (now (classes .entry))) pieces (now (lefts .entry))
+        (now (starts .entry)) (now (starts .exit)) (now (cuts .entry)) (now (members .entry)) (now (members .exit))
+        (now (chosen .entry)) (now (chosen .exit)) r ⌝ }
 {
     let mut keys = [0u32; 512];
     let t = tree_places(lefts, cuts, chosen);
@@ -98,7 +99,8 @@ pub(crate) fn unrooted_trees(
     classes: &[u8],
 ) -> Written
     requires { ⌜ UnrootedTreesAsked (graphOf (now b) (now classes)) (now edges) limit (now buf) ⌝ }
-    ensures { λ r. ⌜ TreesWritten (graphOf (now (b .entry)) (now (classes .entry))) limit (now (buf .entry)) (now (buf .exit)) r ⌝ }
+    ensures { λ r. ⌜ TreesWritten (graphOf (now (b .entry)) (now (classes .entry))) limit (now (buf .entry))
+        (now (buf .exit)) r ⌝ }
 {
     let mut starts = [0u16; 512];
     let mut cuts = [0u16; 513];

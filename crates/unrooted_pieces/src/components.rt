@@ -68,8 +68,8 @@ fn piece_lowest(
     classes: &[u8],
 ) -> u16
     requires { ⌜ PieceHeld (now cuts) (now members) i ⌝ }
-    ensures { λ r. ⌜ LowestFound (graphOf (now (b .entry)) (now (classes .entry))) start (segment (now (cuts .entry)) (now (members .entry)) i)
-        r ⌝ }
+    ensures { λ r. ⌜ LowestFound (graphOf (now (b .entry)) (now (classes .entry))) start (segment (now (cuts .entry))
+        (now (members .entry)) i) r ⌝ }
 {
     lowest_vertex(b, wide(start), edges_at(cuts, members, i), classes) as u16
 }
@@ -84,8 +84,8 @@ pub fn set_lowest(
     classes: &[u8],
 )
     requires { ⌜ PiecesGiven (now starts) (now cuts) (now members) k ⌝ }
-    ensures { λ _. ⌜ LowestSet (graphOf (now (b .entry)) (now (classes .entry))) (now (cuts .entry)) (now (members .entry)) k
-        (now (starts .entry)) (now (starts .exit)) ⌝ }
+    ensures { λ _. ⌜ LowestSet (graphOf (now (b .entry)) (now (classes .entry))) (now (cuts .entry))
+        (now (members .entry)) k (now (starts .entry)) (now (starts .exit)) ⌝ }
 {
     let mut i = 0;
     while i < k {
