@@ -1,7 +1,8 @@
 // Links libplanner_c.a from where `rt staticlib planner_c` writes it, or from the folder that PLANNER_LIB_DIR names.
 // Without it only the plain Rust version is measured. Beside it, where PLANNER_BEFORE_DIR names a folder, the library of an
-// earlier state: libplanner_before.a, whose names begin with `before_`.
+// earlier state: libplanner_before.a, whose names begin with `before_`; it may be of a time before questions had lists.
 use std::env;
+use std::fs::read;
 use std::path::PathBuf;
 
 fn main() {
@@ -21,10 +22,15 @@ fn main() {
         println!("cargo:rustc-link-lib=static=planner_c");
     }
     println!("cargo:rerun-if-env-changed=PLANNER_BEFORE_DIR");
-    println!("cargo:rustc-check-cfg=cfg(earlier)");
+    println!("cargo:rustc-check-cfg=cfg(earlier, earlier_lists)");
     if let (true, Ok(folder)) = (archive.exists(), env::var("PLANNER_BEFORE_DIR")) {
         println!("cargo:rustc-cfg=earlier");
         println!("cargo:rustc-link-search=native={folder}");
         println!("cargo:rustc-link-lib=static=planner_before");
+        let library = read(format!("{folder}/libplanner_before.a")).unwrap_or_default();
+        let name = b"before_ask\0";
+        if library.windows(name.len()).any(|bytes| bytes == name) {
+            println!("cargo:rustc-cfg=earlier_lists");
+        }
     }
 }

@@ -13,13 +13,20 @@ extern "C" {
 #define PLANNER_ROOTED 0u
 #define PLANNER_UNROOTED 1u
 
+/* What planner_ask is asked: 0 is a trial at the limit, every other number the best limit. */
+#define PLANNER_TRIAL 0u
+#define PLANNER_BEST 1u
+
+/* The lists that a question may bring beside its graph, a bit for each; bits without a list are not read. */
+#define PLANNER_CLASSES 1u
+
 /* The least length of a buffer, in bytes: room for any cover. */
 #define PLANNER_BUFFER 32708u
 
-/* The least length of planner_walk's buffer, in bytes: room for any walk. */
+/* The least length of a walk's buffer, in bytes: room for any walk. */
 #define PLANNER_WALK_BUFFER 1022u
 
-/* What planner_trial and planner_best answer, with the values of each; every other number is that of a refusal. */
+/* What planner_trial, planner_best and planner_ask answer, with the values; every other number is that of a refusal. */
 #define PLANNER_COVER 0u         /* values: the limit, the heaviest weight, the number of trees. A cover is written. */
 #define PLANNER_TOO_LOW_STOP 1u  /* values: the lowest vertex joined to no root. */
 #define PLANNER_TOO_LOW_PARTS 2u /* values: T parts, D roots near any of them, D < T. The parts are written. */
@@ -37,16 +44,24 @@ extern "C" {
  * k is the number of crews, 1 to 32: a rooted cover has k trees, an unrooted one 1 to k. The roots of a rooted question are
  * vertices 0 to k - 1, so k is at most n.
  *
- * For all functions below: any input is answered. Each pointer is to as many bytes as its length says, `values` to exactly
- * three numbers, that of planner_walk to exactly two; no pointer is null even where a length is 0, and what is written
- * overlaps nothing else: nothing tests this. Only the values of the answer's case are written, from the first on; of the
- * buffer only the front that a walk fills, or that the cover or the parts fill, as cover bytes, whose length is
- * 4 + 2t + 4q by the t and q that they begin with. All else, and all of both at a refusal, is left as it came.
+ * Classes, a list that a question may bring beside its graph: the class of each edge in a byte, m bytes. Classes 0 to 9
+ * count 100 percent of the edge's weight, 10 to 19 count 120, 20 to 39 count 150, 40 to 59 count 200, and all others 100.
+ * The weight used is weight times percent over 100, rounded up, and whatever is said of weights below is said of the weights
+ * used. Where no list is brought every edge is of class 60.
  *
- * Stack: planner_trial and planner_best take up to 320 KiB, planner_walk, refused or not, up to 12 KiB; planner_check, and
- * a refusal by the first two, up to 4 KiB. Measured, with some room to spare, and not proved: a stack that is too small ends
- * the program. No memory is allocated.
+ * For the seven functions of the library: any input is answered. Each pointer is to as many bytes as its length says,
+ * `values` to exactly three numbers, those of planner_walk and planner_route to exactly two; no pointer is null even where a
+ * length is 0, and what is written overlaps nothing else: nothing tests this. Only the values of the answer's case are
+ * written, from the first on; of the buffer only the front that a walk fills, or that the cover or the parts fill, as cover
+ * bytes, whose length is 4 + 2t + 4q by the t and q that they begin with. All else, and all of both at a refusal, is left as
+ * it came.
+ *
+ * Stack: planner_trial, planner_best and planner_ask take up to 320 KiB, planner_walk and planner_route, refused or not, up
+ * to 12 KiB; planner_check, planner_verify, and a refusal by the first three, up to 4 KiB. Measured, with some room to
+ * spare, and not proved: a stack that is too small ends the program. No memory is allocated.
  */
+
+/* Questions without lists: four functions. */
 
 /*
  * A trial at a limit (0 to 2,048,000,000). Accepted: a cover whose heaviest tree weighs at most four times the limit.
@@ -94,6 +109,114 @@ uint32_t planner_check(uint32_t kind, size_t k, const uint8_t *graph, size_t gra
  */
 uint32_t planner_walk(uint32_t kind, size_t k, const uint8_t *graph, size_t graph_length, const uint8_t *cover,
                       size_t cover_length, size_t tree, uint64_t *values, uint8_t *buffer, size_t buffer_length);
+
+/*
+ * Any question: three functions, with the lists that it brings. A program in C or C++ has planner_question for this, further
+ * below; these are for callers without a C compiler.
+ *
+ * `brought` has a bit for each list. A list whose bit is 0 is not read; its pointer is not null even so. A list whose bit is
+ * 1 is brought, of no bytes too. It is looked at after the graph, and left unread where the graph is refused, and before k.
+ * Refused, after 16, which is of the weights as given, and before 21: 53 classes_length is not m. 54 a weight used is above
+ * 1,000,000.
+ */
+
+/*
+ * A trial at the limit or the best limit, by `asked`; answers, values and buffer are as of planner_trial and planner_best.
+ * For the best limit `limit` is not read.
+ */
+uint32_t planner_ask(uint32_t asked, uint64_t limit, uint32_t kind, size_t k, const uint8_t *graph, size_t graph_length,
+                     uint32_t brought, const uint8_t *classes, size_t classes_length, uint64_t *values, uint8_t *buffer,
+                     size_t buffer_length);
+
+/* The check of a filed cover; answers and values are as of planner_check. */
+uint32_t planner_verify(uint32_t kind, size_t k, const uint8_t *graph, size_t graph_length, uint32_t brought,
+                        const uint8_t *classes, size_t classes_length, const uint8_t *cover, size_t cover_length,
+                        uint64_t *values);
+
+/* The closed walk of one tree of a filed cover; answers, values and buffer are as of planner_walk. */
+uint32_t planner_route(uint32_t kind, size_t k, const uint8_t *graph, size_t graph_length, uint32_t brought,
+                       const uint8_t *classes, size_t classes_length, const uint8_t *cover, size_t cover_length,
+                       size_t tree, uint64_t *values, uint8_t *buffer, size_t buffer_length);
+
+/*
+ * A list. {0}, in C++ {}, is none; planner_list_of makes one. Whether there is one is said by `brought` alone (0 if not),
+ * and not by a null pointer: that of an empty vector is null too, and a list that could not be loaded must get 53.
+ */
+typedef struct planner_list {
+    const uint8_t *bytes;
+    size_t length;
+    uint32_t brought;
+} planner_list;
+
+/*
+ * A question. Begin with {0}, in C++ {}, and fill its fields by name: later versions add fields at the end, and 0 in each of
+ * them asks what is asked without it.
+ */
+typedef struct planner_question {
+    uint32_t kind;
+    size_t k;
+    const uint8_t *graph;
+    size_t graph_length;
+    planner_list classes;
+} planner_question;
+
+/* These bytes as a list that is brought. A null pointer is to no bytes, whatever the length. */
+static inline planner_list planner_list_of(const uint8_t *bytes, size_t length) {
+    static const uint8_t none = 0;
+    planner_list list;
+    list.bytes = bytes != NULL ? bytes : &none;
+    list.length = bytes != NULL ? length : 0;
+    list.brought = 1u;
+    return list;
+}
+
+/* The bits of the lists that a question brings. */
+static inline uint32_t planner_brought(const planner_question *q) {
+    return q->classes.brought != 0 ? PLANNER_CLASSES : 0u;
+}
+
+/*
+ * The functions above with a question and its lists, under their names with `_of`. A null pointer to a graph, a list, a
+ * cover or a buffer is to no bytes, whatever the length; `values` is not null.
+ */
+static inline uint32_t planner_ask_of(const planner_question *q, uint32_t asked, uint64_t limit, uint64_t *values,
+                                      uint8_t *buffer, size_t buffer_length) {
+    static uint8_t none = 0;
+    const planner_list graph = planner_list_of(q->graph, q->graph_length);
+    const planner_list classes = planner_list_of(q->classes.bytes, q->classes.length);
+    return planner_ask(asked, limit, q->kind, q->k, graph.bytes, graph.length, planner_brought(q), classes.bytes,
+                       classes.length, values, buffer != NULL ? buffer : &none, buffer != NULL ? buffer_length : 0);
+}
+
+static inline uint32_t planner_trial_of(const planner_question *q, uint64_t limit, uint64_t *values, uint8_t *buffer,
+                                        size_t buffer_length) {
+    return planner_ask_of(q, PLANNER_TRIAL, limit, values, buffer, buffer_length);
+}
+
+static inline uint32_t planner_best_of(const planner_question *q, uint64_t *values, uint8_t *buffer,
+                                       size_t buffer_length) {
+    return planner_ask_of(q, PLANNER_BEST, 0, values, buffer, buffer_length);
+}
+
+static inline uint32_t planner_check_of(const planner_question *q, const uint8_t *cover, size_t cover_length,
+                                        uint64_t *values) {
+    const planner_list graph = planner_list_of(q->graph, q->graph_length);
+    const planner_list classes = planner_list_of(q->classes.bytes, q->classes.length);
+    const planner_list filed = planner_list_of(cover, cover_length);
+    return planner_verify(q->kind, q->k, graph.bytes, graph.length, planner_brought(q), classes.bytes, classes.length,
+                          filed.bytes, filed.length, values);
+}
+
+static inline uint32_t planner_walk_of(const planner_question *q, const uint8_t *cover, size_t cover_length, size_t tree,
+                                       uint64_t *values, uint8_t *buffer, size_t buffer_length) {
+    static uint8_t none = 0;
+    const planner_list graph = planner_list_of(q->graph, q->graph_length);
+    const planner_list classes = planner_list_of(q->classes.bytes, q->classes.length);
+    const planner_list filed = planner_list_of(cover, cover_length);
+    return planner_route(q->kind, q->k, graph.bytes, graph.length, planner_brought(q), classes.bytes, classes.length,
+                         filed.bytes, filed.length, tree, values, buffer != NULL ? buffer : &none,
+                         buffer != NULL ? buffer_length : 0);
+}
 
 #ifdef __cplusplus
 }

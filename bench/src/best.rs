@@ -1,13 +1,14 @@
 //! The best limit.
 
 use crate::assign::Assigned;
-use crate::question::{admit, answer_cover, is_rooted, BUFFER, NO_COVER};
+use crate::question::{admit, answer_cover, is_rooted, Question, BUFFER, NO_COVER};
 use crate::rooted::Placed;
 use crate::{rooted, unrooted};
 
 /// Answers with the number of a case or of a refusal; the values and the buffer's front are written as the case has them.
-pub fn best(kind: u32, k: usize, sheet: &[u8], values: &mut [u64; 3], buffer: &mut [u8]) -> u32 {
-    let graph = match admit(kind, k, sheet) {
+pub fn best(question: Question, values: &mut [u64; 3], buffer: &mut [u8]) -> u32 {
+    let Question { kind, k, .. } = question;
+    let graph = match admit(question) {
         Ok(graph) => graph,
         Err(number) => return number,
     };

@@ -2,13 +2,12 @@
 
 use crate::forest::Joined;
 use crate::graph::Graph;
-use crate::question::{admit, is_rooted};
+use crate::question::{admit, is_rooted, Question};
 
 /// Answers 0 for yes, with the heaviest weight in the first value, otherwise with the number of the refusal.
-pub fn check(kind: u32, k: usize, sheet: &[u8], cover: &[u8], values: &mut [u64; 3]) -> u32 {
-    let heaviest = |graph| checked(kind, k, &graph, cover).map(|(_, heaviest)| heaviest);
-    match admit(kind, k, sheet).and_then(heaviest) {
-        Ok(heaviest) => {
+pub fn check(question: Question, cover: &[u8], values: &mut [u64; 3]) -> u32 {
+    match checked(question, cover) {
+        Ok(Checked { heaviest, .. }) => {
             values[0] = heaviest;
             0
         }
@@ -90,13 +89,17 @@ impl Filed<'_> {
     }
 }
 
-/// Checks cover bytes on a graph: the cover and its heaviest weight, or 31 to 35.
-pub fn checked<'a>(
-    kind: u32,
-    k: usize,
-    graph: &Graph,
-    cover: &'a [u8],
-) -> Result<(Filed<'a>, u64), u32> {
+/// What is known of a cover that is checked.
+pub struct Checked<'a> {
+    pub graph: Graph,
+    pub filed: Filed<'a>,
+    heaviest: u64,
+}
+
+/// Checks cover bytes, or refuses them: as a question is, or with 31 to 35.
+pub fn checked<'a>(question: Question, cover: &'a [u8]) -> Result<Checked<'a>, u32> {
+    let Question { kind, k, .. } = question;
+    let graph = admit(question)?;
     let filed = Filed::read(cover)?;
     if !filed.starts_fit(kind, k, graph.n) {
         return Err(32);
@@ -113,13 +116,13 @@ pub fn checked<'a>(
             at += 1;
         }
         let edges = (begin..at).map(|i| filed.entry(i).1);
-        let weight = tree_weight(graph, filed.start(tree), edges, &mut joined, &mut covered);
+        let weight = tree_weight(&graph, filed.start(tree), edges, &mut joined, &mut covered);
         heaviest = weight.ok_or(34u32)?.max(heaviest);
     }
     if !covered[..graph.n].iter().all(|&is| is) {
         return Err(35);
     }
-    Ok((filed, heaviest))
+    Ok(Checked { graph, filed, heaviest })
 }
 
 /// The weight of a tree, whose vertices are marked, or nothing if it has a loop or an edge not joined to its start.

@@ -11,6 +11,8 @@ pub mod cover;
 pub mod distance;
 pub mod forest;
 pub mod graph;
+#[cfg(linked)]
+pub mod library;
 pub mod made;
 pub mod measure;
 pub mod planners;

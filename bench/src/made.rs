@@ -67,8 +67,21 @@ impl Made {
 
 /// The sheet bytes of a shape at a size: always the same, connected, its vertices and edges numbered at random.
 pub fn sheet(shape: Shape, size: &Size) -> Vec<u8> {
+    weighed(&mut Made(shape as u64), shape, size, 1_000_000)
+}
+
+/// Such bytes, and a class for each edge: one that counts 100, 120, 150 or 200 percent, each as often. The weights are up to
+/// 500,000, so that none is above 1,000,000 when it is adjusted.
+pub fn surfaced(shape: Shape, size: &Size) -> (Vec<u8>, Vec<u8>) {
     let mut made = Made(shape as u64);
-    let mut pairs = pairs(&mut made, shape, size.n);
+    let sheet = weighed(&mut made, shape, size, 500_000);
+    let class = |_| [0, 10, 20, 40][made.below(4)] + made.below(10) as u8;
+    (sheet, (0..size.m).map(class).collect())
+}
+
+/// The sheet bytes of a shape at a size, with weights from 1 to a most.
+fn weighed(made: &mut Made, shape: Shape, size: &Size, most: usize) -> Vec<u8> {
+    let mut pairs = pairs(made, shape, size.n);
     while pairs.len() < size.m {
         pairs.push(match shape {
             Shape::Random => {
@@ -89,7 +102,7 @@ pub fn sheet(shape: Shape, size: &Size) -> Vec<u8> {
         out.extend(name[b].to_le_bytes());
     }
     for _ in 0..size.m {
-        out.extend((1 + made.below(1_000_000) as u32).to_le_bytes());
+        out.extend((1 + made.below(most) as u32).to_le_bytes());
     }
     out
 }

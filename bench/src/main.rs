@@ -1,12 +1,18 @@
 //! Measures the linked planner beside the plain Rust version and prints a table. The word behind the program's name is
 //! the number of rounds (101).
 
-use bench::made::{Shape, Size, SHAPES, SIZES};
-use bench::measure::{medians, Asked, Question};
-use bench::planners::{linked, planners};
-use bench::question::{ROOTED, UNROOTED};
+use bench::made::{sheet, surfaced, Shape, Size, SHAPES, SIZES};
+use bench::measure::{medians, Asked, Measured};
+use bench::planners::{linked, planners, Planner};
+use bench::question::{Question, ROOTED, UNROOTED};
 
-const QUESTIONS: [(&str, Asked, u32); 8] = [
+/// What a row asks, and of which kind.
+type Row = (&'static str, Asked, u32);
+
+/// The name of a row, and its time over that of the plain Rust version.
+type Ratio = (&'static str, f64);
+
+const QUESTIONS: [Row; 8] = [
     ("rooted best", Asked::Best, ROOTED),
     ("unrooted best", Asked::Best, UNROOTED),
     ("rooted trial", Asked::Trial, ROOTED),
@@ -42,6 +48,38 @@ const BY_WORDS: [Size; 4] = [
 /// One crew, whose tree has an edge for every vertex but one.
 const WHOLE_TREE: [Size; 1] = [Size { n: 256, m: 2_048, k: 1 }];
 
+/// A quarter of the full size, and the full size.
+const WITH_LISTS: [Size; 2] = [SIZES[2], SIZES[0]];
+
+/// The graphs of a row.
+#[derive(Clone, Copy)]
+enum Graphs {
+    Of(Shape),
+    /// Random ones for which a list of classes is made, put without it.
+    Unlisted,
+    /// The same, put with the list.
+    Listed,
+}
+
+impl Graphs {
+    fn name(self) -> &'static str {
+        match self {
+            Graphs::Of(shape) => shape.name(),
+            Graphs::Unlisted => "no list",
+            Graphs::Listed => "classes",
+        }
+    }
+
+    /// The graph's bytes at a size, and the list beside them.
+    fn made(self, size: &Size) -> (Vec<u8>, Option<Vec<u8>>) {
+        let (sheet, classes) = match self {
+            Graphs::Of(shape) => return (sheet(shape, size), None),
+            Graphs::Unlisted | Graphs::Listed => surfaced(Shape::Random, size),
+        };
+        (sheet, matches!(self, Graphs::Listed).then_some(classes))
+    }
+}
+
 fn main() {
     let rounds = std::env::args().nth(1).map_or(101, |word| word.parse().expect("a number"));
     println!("Medians of {rounds} rounds in microseconds; nothing is cleared between rounds.");
@@ -49,74 +87,88 @@ fn main() {
     if linked().is_none() {
         println!("libplanner_c.a is not linked: the plain Rust version alone.");
     }
-    let mut summary = Vec::new();
-    for (name, asked, kind) in QUESTIONS {
-        println!();
-        heading();
-        for shape in SHAPES {
-            let sizes: Vec<Size> = SIZES.iter().rev().copied().collect();
-            if let [ours, plain, ..] = rows(name, asked, kind, shape, &sizes, rounds)[..] {
-                summary.push((name, ours / plain));
-            }
-        }
-    }
-    println!();
-    println!(
-        "At fixed n, growth as m doubles, then as k doubles: the best limit on random graphs."
-    );
-    heading();
-    for (name, asked, kind) in QUESTIONS.iter().copied().filter(|row| row.1 == Asked::Best) {
-        rows(name, asked, kind, Shape::Random, &BY_EDGES, rounds);
-        rows(name, asked, kind, Shape::Random, &BY_CREWS, rounds);
-    }
-    println!();
-    println!("The walk along one tree of 255 edges.");
-    heading();
-    for (name, asked, kind) in QUESTIONS.iter().copied().filter(|row| row.1 == Asked::Walk) {
-        for shape in SHAPES {
-            rows(name, asked, kind, shape, &WHOLE_TREE, rounds);
-        }
-    }
-    println!();
-    println!("The check, which looks at the vertices eight at a time.");
-    heading();
-    for (name, asked, kind) in QUESTIONS.iter().copied().filter(|row| row.1 == Asked::Check) {
-        rows(name, asked, kind, Shape::Random, &BY_WORDS, rounds);
-    }
+    let mut ratios = all_shapes(rounds);
+    single_sizes(rounds);
+    ratios.extend(with_lists(rounds));
     println!();
     for (name, _, _) in QUESTIONS {
-        let ratios = summary.iter().filter(|row| row.0 == name).map(|row| row.1);
+        let ratios = ratios.iter().filter(|ratio| ratio.0 == name).map(|ratio| ratio.1);
         if let Some(worst) = ratios.reduce(f64::max) {
             println!("{name:15} planner_c : Rust at full size at most {worst:.2}");
         }
     }
 }
 
-/// Prints a row for each size, and gives the medians of the last.
-fn rows(
-    name: &str,
-    asked: Asked,
-    kind: u32,
-    shape: Shape,
-    sizes: &[Size],
-    rounds: usize,
-) -> Vec<f64> {
-    let planners = planners();
-    let mut before: Option<Vec<f64>> = None;
-    for size in sizes {
-        let question = Question::new(asked, kind, shape, size);
-        planners.iter().for_each(|planner| question.assert_right(planner));
-        let now = medians(&question, &planners, rounds);
-        print!("{name:15} {:11} {:4} {:5} {:3}", shape.name(), size.n, size.m, size.k);
-        row(&now, before.as_deref());
-        before = Some(now);
+/// Every question on every shape at every size; the ratios at full size.
+fn all_shapes(rounds: usize) -> Vec<Ratio> {
+    let sizes: Vec<Size> = SIZES.iter().rev().copied().collect();
+    let mut ratios = Vec::new();
+    for row in QUESTIONS {
+        heading("");
+        let on = |shape| rows(row, Graphs::Of(shape), &sizes, rounds);
+        ratios.extend(SHAPES.into_iter().filter_map(on));
     }
-    before.unwrap_or_default()
+    ratios
 }
 
-fn heading() {
+/// Questions at sizes of their own.
+fn single_sizes(rounds: usize) {
+    heading("At fixed n, growth as m doubles, then as k doubles: the best limit on random graphs.");
+    for row in about(Asked::Best) {
+        rows(row, Graphs::Of(Shape::Random), &BY_EDGES, rounds);
+        rows(row, Graphs::Of(Shape::Random), &BY_CREWS, rounds);
+    }
+    heading("The walk along one tree of 255 edges.");
+    for row in about(Asked::Walk) {
+        for shape in SHAPES {
+            rows(row, Graphs::Of(shape), &WHOLE_TREE, rounds);
+        }
+    }
+    heading("The check, which looks at the vertices eight at a time.");
+    for row in about(Asked::Check) {
+        rows(row, Graphs::Of(Shape::Random), &BY_WORDS, rounds);
+    }
+}
+
+/// Every question on the same graphs without a list and with one; the ratios at full size.
+fn with_lists(rounds: usize) -> Vec<Ratio> {
+    heading("Random graphs, weights up to 500,000, without and with a list of classes; growth: from a quarter of the edges.");
+    let of = |row| [Graphs::Unlisted, Graphs::Listed].map(|graphs| (row, graphs));
+    let put = |(row, graphs)| rows(row, graphs, &WITH_LISTS, rounds);
+    QUESTIONS.into_iter().flat_map(of).filter_map(put).collect()
+}
+
+/// The rows that ask this, of both kinds.
+fn about(asked: Asked) -> impl Iterator<Item = Row> {
+    QUESTIONS.into_iter().filter(move |row| row.1 == asked)
+}
+
+/// Prints a row for each size, and gives the ratio of the last.
+fn rows((name, asked, kind): Row, graphs: Graphs, sizes: &[Size], rounds: usize) -> Option<Ratio> {
+    let mut before = Vec::new();
+    for size in sizes {
+        let (sheet, classes) = graphs.made(size);
+        let classes = classes.as_deref();
+        let question = Measured::new(asked, Question { kind, k: size.k, sheet: &sheet, classes });
+        // The library of an earlier state comes last, and may not take the question.
+        let planners: Vec<Planner> =
+            planners().into_iter().filter(|planner| question.is_for(planner)).collect();
+        planners.iter().for_each(|planner| question.assert_right(planner));
+        let now = medians(&question, &planners, rounds);
+        print!("{name:15} {:11} {:4} {:5} {:3}", graphs.name(), size.n, size.m, size.k);
+        row(&now, &before);
+        before = now;
+    }
+    Some((name, before.first()? / before.get(1)?))
+}
+
+fn heading(title: &str) {
+    println!();
+    if !title.is_empty() {
+        println!("{title}");
+    }
     print!("{:15} {:11} {:>4} {:>5} {:>3}", "question", "graph", "n", "m", "k");
-    let names: Vec<_> = planners().iter().map(|planner| planner.name).collect();
+    let names: Vec<_> = planners().iter().map(Planner::name).collect();
     names.iter().for_each(|name| print!(" {name:>10}"));
     names[1..].iter().for_each(|name| print!(" {:>8}", format!(": {name}")));
     names.iter().for_each(|name| print!(" {:>17}", format!("growth {name}")));
@@ -124,14 +176,18 @@ fn heading() {
 }
 
 /// Prints the medians of one question, the first over each of the others, and how they grew from those of the row above.
-fn row(now: &[f64], before: Option<&[f64]>) {
-    now.iter().for_each(|time| print!(" {time:10.2}"));
-    now[1..].iter().for_each(|time| print!(" {:8.2}", now[0] / time));
-    for (i, time) in now.iter().enumerate() {
-        match before {
-            Some(before) => print!(" {:17.1}", time / before[i]),
-            None => print!(" {:>17}", "-"),
-        }
-    }
+fn row(now: &[f64], before: &[f64]) {
+    let columns = 0..planners().len();
+    columns.clone().for_each(|i| cell(10, 2, now.get(i).copied()));
+    columns.clone().skip(1).for_each(|i| cell(8, 2, now.get(i).map(|time| now[0] / time)));
+    columns.for_each(|i| cell(17, 1, now.get(i).zip(before.get(i)).map(|(now, then)| now / then)));
     println!();
+}
+
+/// Prints a number, or that there is none.
+fn cell(width: usize, places: usize, number: Option<f64>) {
+    match number {
+        Some(number) => print!(" {number:width$.places$}"),
+        None => print!(" {:>width$}", "-"),
+    }
 }

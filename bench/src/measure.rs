@@ -3,9 +3,8 @@
 use std::hint::black_box;
 use std::time::{Duration, Instant};
 
-use crate::made::{sheet, Shape, Size};
-use crate::planners::{plain, Planner};
-use crate::question::BUFFER;
+use crate::planners::Planner;
+use crate::question::{Question, BUFFER};
 
 /// What is asked.
 #[derive(Clone, Copy, Debug, PartialEq, Eq)]
@@ -21,40 +20,41 @@ pub enum Asked {
 }
 
 /// A question with all that it needs; the limit and the cover are those of the plain version's best answer.
-pub struct Question {
+pub struct Measured<'a> {
     asked: Asked,
-    kind: u32,
-    k: usize,
-    sheet: Vec<u8>,
+    question: Question<'a>,
     limit: u64,
     cover: Vec<u8>,
     tree: usize,
 }
 
-impl Question {
-    /// The question of a kind on the graph of a shape and size.
-    pub fn new(asked: Asked, kind: u32, shape: Shape, size: &Size) -> Question {
-        let sheet = sheet(shape, size);
+impl Measured<'_> {
+    /// What is asked about a question.
+    pub fn new(asked: Asked, question: Question) -> Measured {
         let (mut values, mut buffer) = ([0; 3], vec![0; BUFFER]);
-        let case = (plain().best)(kind, size.k, &sheet, &mut values, &mut buffer);
+        let case = Planner::Plain.best(question, &mut values, &mut buffer);
         assert_eq!(case, 0, "the graphs measured have covers");
         let cover = written(&buffer).to_vec();
         let tree = largest_tree(&cover);
-        Question { asked, kind, k: size.k, sheet, limit: values[0], cover, tree }
+        Measured { asked, question, limit: values[0], cover, tree }
     }
 
     /// Puts the question to a planner.
     fn put(&self, planner: &Planner, values: &mut [u64; 3], buffer: &mut [u8]) -> u32 {
-        let Question { kind, k, ref sheet, .. } = *self;
         match self.asked {
-            Asked::Best => (planner.best)(kind, k, sheet, values, buffer),
-            Asked::Trial => (planner.trial)(kind, k, self.limit, sheet, values, buffer),
-            Asked::Check => (planner.check)(kind, k, sheet, &self.cover, values),
+            Asked::Best => planner.best(self.question, values, buffer),
+            Asked::Trial => planner.trial(self.question, self.limit, values, buffer),
+            Asked::Check => planner.check(self.question, &self.cover, values),
             Asked::Walk => {
                 let values = values.first_chunk_mut().expect("three values");
-                (planner.walk)(kind, k, sheet, &self.cover, self.tree, values, buffer)
+                planner.walk(self.question, &self.cover, self.tree, values, buffer)
             }
         }
+    }
+
+    /// Whether a planner takes the question.
+    pub fn is_for(&self, planner: &Planner) -> bool {
+        self.question.classes.is_none() || planner.takes_lists()
     }
 
     /// Fails unless a planner's answer is right: the case, what the rules fix of the values, and a cover that the plain
@@ -62,14 +62,14 @@ impl Question {
     pub fn assert_right(&self, planner: &Planner) {
         let (mut due, mut values) = ([0; 3], [0; 3]);
         let (mut right, mut buffer) = (vec![0; BUFFER], vec![0; BUFFER]);
-        assert_eq!(self.put(&plain(), &mut due, &mut right), 0);
+        assert_eq!(self.put(&Planner::Plain, &mut due, &mut right), 0);
         assert_eq!(self.put(planner, &mut values, &mut buffer), 0, "a cover, yes or a walk is due");
         assert_eq!(values[0], due[0], "the limit, the heaviest of the check, or the stops");
         match self.asked {
             Asked::Best | Asked::Trial => {
                 let mut heaviest = [0; 3];
                 let cover = written(&buffer);
-                let said = (plain().check)(self.kind, self.k, &self.sheet, cover, &mut heaviest);
+                let said = Planner::Plain.check(self.question, cover, &mut heaviest);
                 assert_eq!((said, heaviest[0]), (0, values[1]), "the cover written");
             }
             Asked::Check => {}
@@ -100,7 +100,7 @@ const LEAST: Duration = Duration::from_micros(200);
 
 /// The median time of a question for each planner, in microseconds. Each round measures every planner once, one after
 /// the other, beginning with another one each time.
-pub fn medians(question: &Question, planners: &[Planner], rounds: usize) -> Vec<f64> {
+pub fn medians(question: &Measured, planners: &[Planner], rounds: usize) -> Vec<f64> {
     let (mut values, mut buffer) = ([0; 3], vec![0; BUFFER]);
     let mut measured = |planner: &Planner, times: u32| {
         let begin = Instant::now();

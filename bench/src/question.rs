@@ -1,4 +1,4 @@
-//! What every question has: the kind, the numbers of the cases, and who is refused.
+//! What every question has: the kind, its bytes, the numbers of the cases, and who is refused.
 
 use crate::cover::{heaviest, write, Tree};
 use crate::graph::{read, Graph};
@@ -23,9 +23,22 @@ pub fn is_rooted(kind: u32) -> bool {
     kind == ROOTED
 }
 
-/// The graph of a question for k trees, or its refusal: 11 to 16, 21.
-pub fn admit(kind: u32, k: usize, sheet: &[u8]) -> Result<Graph, u32> {
-    let graph = read(sheet)?;
+/// What is asked about: k trees of a kind on the graph of sheet bytes, and the class of each edge where there is a list.
+#[derive(Clone, Copy)]
+pub struct Question<'a> {
+    pub kind: u32,
+    pub k: usize,
+    pub sheet: &'a [u8],
+    pub classes: Option<&'a [u8]>,
+}
+
+/// The graph of a question, or its refusal: 11 to 16, 53, 54, 21.
+pub fn admit(question: Question) -> Result<Graph, u32> {
+    let Question { kind, k, sheet, classes } = question;
+    let mut graph = read(sheet)?;
+    if let Some(classes) = classes {
+        graph.adjust(classes)?;
+    }
     if k == 0 || k > 32 || is_rooted(kind) && k > graph.n {
         return Err(21);
     }

@@ -3,21 +3,17 @@
 use crate::assign::Assigned;
 use crate::cover::{write, Tree};
 use crate::graph::Graph;
-use crate::question::{admit, answer_cover, is_rooted, BUFFER, LIMIT, NEEDS, PARTS, STOP};
+use crate::question::{
+    admit, answer_cover, is_rooted, Question, BUFFER, LIMIT, NEEDS, PARTS, STOP,
+};
 use crate::rooted::Placed;
 use crate::split::Piece;
 use crate::{rooted, unrooted};
 
 /// Answers with the number of a case or of a refusal; the values and the buffer's front are written as the case has them.
-pub fn trial(
-    kind: u32,
-    k: usize,
-    limit: u64,
-    sheet: &[u8],
-    values: &mut [u64; 3],
-    buffer: &mut [u8],
-) -> u32 {
-    let graph = match admit(kind, k, sheet) {
+pub fn trial(question: Question, limit: u64, values: &mut [u64; 3], buffer: &mut [u8]) -> u32 {
+    let Question { kind, k, .. } = question;
+    let graph = match admit(question) {
         Ok(graph) => graph,
         Err(number) => return number,
     };

@@ -1,8 +1,8 @@
 //! The closed walk of one tree of a filed cover.
 
-use crate::check::checked;
+use crate::check::{checked, Checked};
 use crate::graph::Around;
-use crate::question::admit;
+use crate::question::Question;
 
 /// The least length of a walk's buffer in bytes.
 pub const WALK_BUFFER: usize = 1_022;
@@ -13,15 +13,13 @@ const NONE: u16 = u16::MAX;
 /// Answers 0, with the number of stops and the length as values and the stops at the buffer's front, otherwise with the
 /// number of the refusal.
 pub fn walk(
-    kind: u32,
-    k: usize,
-    sheet: &[u8],
+    question: Question,
     cover: &[u8],
     tree: usize,
     values: &mut [u64; 2],
     buffer: &mut [u8],
 ) -> u32 {
-    match walked(kind, k, sheet, cover, tree, buffer) {
+    match walked(question, cover, tree, buffer) {
         Ok(said) => {
             *values = said;
             0
@@ -32,15 +30,12 @@ pub fn walk(
 
 /// The values of a walk, which is written, or the number of the refusal.
 fn walked(
-    kind: u32,
-    k: usize,
-    sheet: &[u8],
+    question: Question,
     cover: &[u8],
     tree: usize,
     buffer: &mut [u8],
 ) -> Result<[u64; 2], u32> {
-    let graph = admit(kind, k, sheet)?;
-    let (filed, _) = checked(kind, k, &graph, cover)?;
+    let Checked { graph, filed, .. } = checked(question, cover)?;
     if tree >= filed.t {
         return Err(51);
     }

@@ -1,13 +1,18 @@
-//! The quick version against `reference/`, an implementation that shares no code with it: the same case and values, and
-//! every byte where the rules fix it; where they leave a choice, the reference's judge says whether it is an allowed one.
+//! The quick version against `reference/`, an implementation that shares no code with it, with lists and without: the same case
+//! and values, and every byte where the rules fix it; where they leave a choice, the reference's judge says whether it is an
+//! allowed one.
 
 use bench::best::best;
 use bench::check::check;
-use bench::question::{BUFFER, ROOTED, UNROOTED};
+use bench::question::{Question, BUFFER, ROOTED, UNROOTED};
 use bench::trial::trial;
+use reference::brought::Brought;
+use reference::check::check_with;
+use reference::districts::Asked;
 use reference::judge::{self, Reply};
 use reference::made_filings::filings;
 use reference::made_shapes::{graph, SEARCHED, SHAPES, WEIGHTS};
+use reference::made_surfaces::surfaced;
 use reference::made_trials::trials;
 use reference::question::{Answer, Kind};
 use reference::random::Random;
@@ -16,12 +21,10 @@ use reference::random::Random;
 const VALUE: u64 = 0x1111_2222_3333_4444;
 const FILL: u8 = 0xa5;
 
-fn number(kind: Kind) -> u32 {
-    if kind == Kind::Rooted {
-        ROOTED
-    } else {
-        UNROOTED
-    }
+/// The question of a kind for k trees on what is brought.
+fn question(kind: Kind, k: usize, brought: Brought) -> Question {
+    let number = if kind == Kind::Rooted { ROOTED } else { UNROOTED };
+    Question { kind: number, k, sheet: brought.sheet, classes: brought.classes }
 }
 
 /// A question's number, values and buffer.
@@ -54,6 +57,28 @@ fn answer(case: u32, values: [u64; 3], buffer: &[u8]) -> Result<Answer, String> 
 }
 
 /// Judges a trial, or with no limit the best limit.
+fn judged_with(
+    kind: Kind,
+    k: usize,
+    limit: Option<u64>,
+    brought: Brought,
+    room: usize,
+) -> Result<u32, String> {
+    let question = question(kind, k, brought);
+    let (case, values, buffer) = asked(room, |values, buffer| match limit {
+        Some(limit) => trial(question, limit, values, buffer),
+        None => best(question, values, buffer),
+    });
+    let answer = answer(case, values, &buffer)?;
+    let reply = Reply { answer: &answer, before: &vec![FILL; room], after: &buffer };
+    match limit {
+        Some(limit) => judge::trial_with(kind, brought, k as u64, limit, reply)?,
+        None => judge::best_with(kind, brought, k as u64, reply)?,
+    }
+    Ok(case)
+}
+
+/// The same without lists.
 fn judged(
     kind: Kind,
     k: usize,
@@ -61,17 +86,21 @@ fn judged(
     sheet: &[u8],
     room: usize,
 ) -> Result<u32, String> {
-    let (case, values, buffer) = asked(room, |values, buffer| match limit {
-        Some(limit) => trial(number(kind), k, limit, sheet, values, buffer),
-        None => best(number(kind), k, sheet, values, buffer),
-    });
-    let answer = answer(case, values, &buffer)?;
-    let reply = Reply { answer: &answer, before: &vec![FILL; room], after: &buffer };
-    match limit {
-        Some(limit) => judge::trial(kind, sheet, k as u64, limit, reply)?,
-        None => judge::best(kind, sheet, k as u64, reply)?,
+    judged_with(kind, k, limit, Brought::plain(sheet), room)
+}
+
+/// Checks cover bytes, which must be answered as by the reference; gives the number.
+fn checked(kind: Kind, k: usize, brought: Brought, cover: &[u8]) -> Result<u32, String> {
+    let mut values = [VALUE; 3];
+    let said = check(question(kind, k, brought), cover, &mut values);
+    let (number, first) = match check_with(kind, brought, k as u64, cover) {
+        Ok(heaviest) => (0, heaviest),
+        Err(number) => (u32::from(number), VALUE),
+    };
+    if (said, values) != (number, [first, VALUE, VALUE]) {
+        return Err(format!("{number} {first} is due, not {said} {values:?}"));
     }
-    Ok(case)
+    Ok(said)
 }
 
 #[test]
@@ -164,15 +193,44 @@ fn short_buffers_are_refused() {
 #[test]
 fn filed_covers_are_checked_as_the_reference_checks_them() {
     for (i, filing) in filings().iter().enumerate() {
-        let mut values = [VALUE; 3];
-        let said = check(number(filing.kind), filing.k, &filing.sheet, &filing.cover, &mut values);
-        let due =
-            reference::check::check(filing.kind, &filing.sheet, filing.k as u64, &filing.cover);
-        match due {
-            Ok(heaviest) => assert_eq!((said, values), (0, [heaviest, VALUE, VALUE]), "filing {i}"),
-            Err(number) => {
-                assert_eq!((said, values), (u32::from(number), [VALUE; 3]), "filing {i}")
-            }
+        let said = checked(filing.kind, filing.k, Brought::plain(&filing.sheet), &filing.cover);
+        said.unwrap_or_else(|why| panic!("filing {i}: {why}"));
+    }
+}
+
+/// Trials, best limits and checks with lists of classes, right and wrong ones.
+#[test]
+fn records_with_lists_are_answered_as_the_reference_allows() {
+    let mut met = [[0; 64]; 2];
+    for (i, record) in surfaced().iter().enumerate() {
+        let (kind, k, brought) = (record.kind, record.k, record.brought());
+        let (which, said) = match &record.asked {
+            Asked::Trial { limit, room } => (0, judged_with(kind, k, Some(*limit), brought, *room)),
+            Asked::Best { room } => (0, judged_with(kind, k, None, brought, *room)),
+            Asked::Check { cover } => (1, checked(kind, k, brought, cover)),
+        };
+        let case = said.unwrap_or_else(|why| panic!("record {i}: {why}"));
+        met[which][case as usize] += 1;
+    }
+    for case in [0, 1, 2, 3, 4, 11, 12, 13, 14, 15, 16, 53, 54, 21, 22, 23] {
+        assert!(met[0][case] > 0, "case {case} is not met");
+    }
+    for case in [0, 11, 12, 13, 14, 15, 16, 53, 54, 21, 31, 32, 33, 34, 35] {
+        assert!(met[1][case] > 0, "case {case} of the check is not met");
+    }
+}
+
+/// The lists that are measured: the adjusted weights are those of a graph that is put without a list.
+#[test]
+fn measured_lists() {
+    for size in &bench::made::SIZES[2..] {
+        let (sheet, classes) = bench::made::surfaced(bench::made::Shape::Random, size);
+        let brought = Brought { sheet: &sheet, classes: Some(&classes) };
+        for kind in [Kind::Rooted, Kind::Unrooted] {
+            assert_eq!(judged_with(kind, size.k, None, brought, BUFFER), Ok(0), "{size:?}");
         }
+        let graph = brought.graph().expect("a right list");
+        let heaviest = graph.edges.iter().map(|edge| edge.weight).max();
+        assert!(heaviest > Some(500_000), "no class counts: {heaviest:?}");
     }
 }

@@ -2,33 +2,44 @@
 //! values, and every byte.
 
 use bench::made::{sheet, SHAPES, SIZES};
-use bench::planners::{linked, plain};
+use bench::planners::{linked, Planner};
+use bench::question::Question;
 use bench::walk::WALK_BUFFER;
 use reference::best::best;
+use reference::brought::Brought;
 use reference::cover::{encode, filed_length, Tree};
+use reference::districts::Asked;
 use reference::made_filings::{filings, Filing};
+use reference::made_surfaces::surfaced;
 use reference::question::{Kind, BUFFER};
+use reference::walk::walk_with;
 
 /// What stands in the values and the buffer before a question.
 const VALUE: u64 = 0x1111_2222_3333_4444;
 const FILL: u8 = 0xa5;
 
 /// Asks every planner for a tree of a filing, with so many bytes of room, and gives the number due.
-fn asked(filing: &Filing, tree: usize, room: usize) -> u16 {
+fn asked_with(filing: &Filing, classes: Option<&[u8]>, tree: usize, room: usize) -> u16 {
     let Filing { kind, k, ref sheet, ref cover } = *filing;
     let mut right = vec![FILL; room];
-    let said = reference::walk::walk(kind, sheet, k as u64, cover, tree, &mut right);
+    let said = walk_with(kind, Brought { sheet, classes }, k as u64, cover, tree, &mut right);
     let (number, due) = match said {
         Ok((stops, length)) => (0, [stops as u64, length]),
         Err(number) => (number, [VALUE; 2]),
     };
-    for planner in linked().into_iter().chain([plain()]) {
+    for planner in linked().into_iter().chain([Planner::Plain]) {
         let (mut values, mut buffer) = ([VALUE; 2], vec![FILL; room]);
-        let case = (planner.walk)(kind as u32, k, sheet, cover, tree, &mut values, &mut buffer);
+        let question = Question { kind: kind as u32, k, sheet, classes };
+        let case = planner.walk(question, cover, tree, &mut values, &mut buffer);
         assert_eq!((case, values), (number.into(), due), "{kind:?} k {k} tree {tree} room {room}");
         assert!(buffer == right, "{kind:?} k {k} tree {tree} room {room}");
     }
     number
+}
+
+/// The same without lists.
+fn asked(filing: &Filing, tree: usize, room: usize) -> u16 {
+    asked_with(filing, None, tree, room)
 }
 
 /// Asks for every tree with enough room, and for trees and rooms that are refused; gives the number due of the first tree.
@@ -51,6 +62,22 @@ fn made_filings() {
         met[usize::from(every_tree(&filing))] += 1;
     }
     for case in [0, 11, 12, 13, 14, 15, 16, 21, 31, 32, 33, 34, 35] {
+        assert!(met[case] > 0, "case {case} is not met");
+    }
+}
+
+/// Made filings with lists of classes, right and wrong ones: the first tree, and one that no cover here has.
+#[test]
+fn made_filings_with_lists() {
+    let mut met = [0; 64];
+    for record in surfaced() {
+        let Asked::Check { cover } = record.asked else { continue };
+        let filing = Filing { kind: record.kind, k: record.k, sheet: record.sheet, cover };
+        for (tree, room) in [(0, WALK_BUFFER), (0, WALK_BUFFER - 1), (33, WALK_BUFFER)] {
+            met[usize::from(asked_with(&filing, record.classes.as_deref(), tree, room))] += 1;
+        }
+    }
+    for case in [0, 11, 12, 13, 14, 15, 16, 53, 54, 21, 31, 32, 33, 34, 35, 51, 52] {
         assert!(met[case] > 0, "case {case} is not met");
     }
 }

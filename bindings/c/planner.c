@@ -35,6 +35,55 @@ static int untouched_from(size_t place) {
     return place == sizeof stops;
 }
 
+/* Sheet N with a list: trial, best, check and walk by the weights used. */
+static void surfaces(void) {
+    /* 120 percent of 3, 150 of 3, 200 of 5: 3.6, 4.5 and 10, so 4, 5 and 10. The cover's tree 0 weighs 4 + 5. */
+    static const uint8_t classes[] = {10, 20, 40};
+    planner_question q = {0};
+    q.k = 2;
+    q.graph = sheet;
+    q.graph_length = sizeof sheet;
+    q.classes = planner_list_of(classes, sizeof classes);
+
+    /* At 4 no line that remains comes to stop 3. At 5 line 1 is a part, and yard 0 is 4 from it. */
+    assert(planner_trial_of(&q, 4, values, buffer, sizeof buffer) == PLANNER_TOO_LOW_STOP && values[0] == 3);
+    assert(planner_trial_of(&q, 5, values, buffer, sizeof buffer) == PLANNER_COVER);
+    assert(memcmp(values, (uint64_t[]){5, 9, 2}, sizeof values) == 0);
+    assert(planner_best_of(&q, values, buffer, sizeof buffer) == PLANNER_COVER);
+    assert(memcmp(values, (uint64_t[]){5, 9, 2}, sizeof values) == 0);
+    assert(memcmp(buffer, cover, sizeof cover) == 0);
+    assert(planner_check_of(&q, cover, sizeof cover, values) == 0 && values[0] == 9);
+    assert(planner_walk_of(&q, cover, sizeof cover, 0, walked, stops, sizeof stops) == 0);
+    assert(memcmp(walked, (uint64_t[]){5, 18}, sizeof walked) == 0);
+
+    /* Null pointers are to no bytes: of a cover, a buffer, and a list that is brought; 53 comes before 31. */
+    assert(planner_check_of(&q, NULL, 0, values) == 31 && planner_best_of(&q, values, NULL, 0) == 23);
+    q.classes = planner_list_of(NULL, 3);
+    assert(planner_check_of(&q, NULL, 0, values) == 53 && planner_best_of(&q, values, NULL, 0) == 53);
+
+    /* No list: as without. */
+    q.classes = (planner_list){0};
+    assert(planner_best_of(&q, values, buffer, sizeof buffer) == PLANNER_COVER);
+    assert(memcmp(values, (uint64_t[]){4, 6, 2}, sizeof values) == 0);
+}
+
+/* One line: 120 percent of 833,333 are 999,999.6, so 1,000,000, which passes; of 833,334 they are above 1,000,000. */
+static void heaviest_line(void) {
+    static const uint8_t classes[] = {10};
+    uint8_t line[] = {2, 0, 1, 0, 0, 0, 1, 0, 0x35, 0xb7, 0x0c, 0};
+    planner_question q = {0};
+    q.kind = PLANNER_UNROOTED;
+    q.k = 1;
+    q.graph = line;
+    q.graph_length = sizeof line;
+    q.classes = planner_list_of(classes, sizeof classes);
+    assert(planner_best_of(&q, values, buffer, sizeof buffer) == PLANNER_COVER && values[1] == 1000000);
+    line[8]++;
+    assert(planner_best_of(&q, values, buffer, sizeof buffer) == 54);
+    q.classes.brought = 0;
+    assert(planner_best_of(&q, values, buffer, sizeof buffer) == PLANNER_COVER && values[1] == 833334);
+}
+
 int main(void) {
     /* Yards: "B 4, heaviest 6". */
     assert(trial(PLANNER_ROOTED, 4) == PLANNER_COVER);
@@ -63,5 +112,8 @@ int main(void) {
     assert(memcmp(stops, (uint8_t[]){1, 0}, 2) == 0 && untouched_from(2));
     assert(walk(2, 1022) == 51 && walk(2, 1021) == 51 && walk(0, 1021) == 52);
     assert(memcmp(walked, (uint64_t[]){1, 0}, sizeof walked) == 0 && untouched_from(0));
+
+    surfaces();
+    heaviest_line();
     return 0;
 }

@@ -1,64 +1,22 @@
 //! Min-max tree covers of a graph, from the proved static library `planner_c`: trials at a limit, the best limit, the check of
-//! a filed cover, and the closed walk of one of its trees. `include/planner.h` says what the bytes of a graph and of a cover
-//! are.
+//! a filed cover, and the closed walk of one of its trees. `include/planner.h` says what the bytes of a graph, of a cover and
+//! of a list beside the graph are. The functions here take a graph alone, a [`Question`] has its lists too.
 //!
 //! Stack: [`trial`] and [`best`] take up to 320 KiB, [`walk`], refused or not, up to 12 KiB; [`check`], and a refusal by the
-//! first two, up to 4 KiB. Measured, with some room to spare, and not proved: a stack that is too small ends the program. The
-//! 2 MiB that a thread of the standard library has are enough; [`std::thread::Builder::stack_size`] gives a thread less.
+//! first two, up to 4 KiB; those of a [`Question`] as much. Measured, with some room to spare, and not proved: a stack that is
+//! too small ends the program. The 2 MiB that a thread of the standard library has are enough;
+//! [`std::thread::Builder::stack_size`] gives a thread less.
 
 mod cover;
+pub mod exported;
+mod question;
 mod walk;
 
 pub use cover::{Cover, Tree};
+pub use question::Question;
 pub use walk::{walk, Walk, WALK_BUFFER};
 
 use exported::{planner_best, planner_check, planner_trial};
-
-/// The functions of `include/planner.h` as they are, for callers that lend the memory themselves.
-pub mod exported {
-    extern "C" {
-        pub fn planner_trial(
-            kind: u32,
-            k: usize,
-            limit: u64,
-            graph: *const u8,
-            graph_length: usize,
-            values: *mut u64,
-            buffer: *mut u8,
-            buffer_length: usize,
-        ) -> u32;
-        pub fn planner_best(
-            kind: u32,
-            k: usize,
-            graph: *const u8,
-            graph_length: usize,
-            values: *mut u64,
-            buffer: *mut u8,
-            buffer_length: usize,
-        ) -> u32;
-        pub fn planner_check(
-            kind: u32,
-            k: usize,
-            graph: *const u8,
-            graph_length: usize,
-            cover: *const u8,
-            cover_length: usize,
-            values: *mut u64,
-        ) -> u32;
-        pub fn planner_walk(
-            kind: u32,
-            k: usize,
-            graph: *const u8,
-            graph_length: usize,
-            cover: *const u8,
-            cover_length: usize,
-            tree: usize,
-            values: *mut u64,
-            buffer: *mut u8,
-            buffer_length: usize,
-        ) -> u32;
-    }
-}
 
 /// The least length of a buffer in bytes: room for any cover.
 pub const BUFFER: usize = 32_708;
@@ -107,6 +65,14 @@ fn reply(case: u32, values: [u64; 3]) -> Reply {
         3 => Reply::TooLowNeeds { trees: first },
         4 => Reply::NoCover,
         number => Reply::Refused(number),
+    }
+}
+
+/// The verdict of a check's number and values.
+fn verdict(case: u32, values: [u64; 3]) -> Result<u64, u32> {
+    match case {
+        0 => Ok(values[0]),
+        number => Err(number),
     }
 }
 
@@ -168,8 +134,5 @@ pub fn check(kind: Kind, k: usize, graph: &[u8], cover: &[u8]) -> Result<u64, u3
             values.as_mut_ptr(),
         )
     };
-    match case {
-        0 => Ok(values[0]),
-        number => Err(number),
-    }
+    verdict(case, values)
 }

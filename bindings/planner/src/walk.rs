@@ -59,6 +59,11 @@ pub fn walk(
             buffer.len(),
         )
     };
+    walked(case, values)
+}
+
+/// The answer of a walk's number and values.
+pub(crate) fn walked(case: u32, values: [u64; 2]) -> Result<Walk, u32> {
     match case {
         0 => Ok(Walk { stops: values[0], length: values[1] }),
         number => Err(number),

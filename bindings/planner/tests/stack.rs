@@ -1,9 +1,14 @@
-//! The stack that the documentation names is enough. Where it is not, the run of these tests ends in a fault. What takes up to
-//! 4 KiB is given 32, and up to 12 is given 40: a thread has some of its own to keep there.
+//! The stack that the documentation names is enough, with lists and without. Where it is not, the run of these tests ends in a
+//! fault. What takes up to 4 KiB is given 32, and up to 12 is given 40: a thread has some of its own to keep there.
 
-use planner::{best, check, trial, walk, Cover, Kind, Reply, Walk, BUFFER, WALK_BUFFER};
+use planner::{best, check, trial, walk, Cover, Kind, Question, Reply, Walk, BUFFER, WALK_BUFFER};
 use reference::graph::sheet;
 use std::thread::Builder;
+
+const KINDS: [Kind; 2] = [Kind::Rooted, Kind::Unrooted];
+
+/// No list, and one that doubles each weight of the path below.
+const LISTS: [Option<&[u8]>; 2] = [None, Some(&[40; 255])];
 
 /// What the work gives in a thread of its own with so many KiB of stack.
 fn within<T: Send + 'static>(kib: usize, work: impl FnOnce() -> T + Send + 'static) -> T {
@@ -16,9 +21,26 @@ fn path() -> Vec<u8> {
     sheet(256, &lines)
 }
 
+/// What is asked about the path with a list or without, in a thread of its own with so many KiB of stack.
+fn about_the_path<T: Send + 'static>(
+    kib: usize,
+    kind: Kind,
+    k: usize,
+    classes: Option<&'static [u8]>,
+    work: impl FnOnce(Question) -> T + Send + 'static,
+) -> T {
+    within(kib, move || work(Question { classes, ..Question::new(kind, k, &path()) }))
+}
+
+/// The bytes of one tree with all edges.
+fn whole_tree(start: u16) -> Vec<u8> {
+    let fields = [1, 255, start].into_iter().chain([0; 255]).chain(0..255);
+    fields.flat_map(u16::to_le_bytes).collect()
+}
+
 #[test]
 fn the_deepest_questions() {
-    for kind in [Kind::Rooted, Kind::Unrooted] {
+    for kind in KINDS {
         for k in [1, 32] {
             let (reply, buffer) = within(320, move || {
                 let mut buffer = vec![0; BUFFER];
@@ -34,32 +56,76 @@ fn the_deepest_questions() {
     }
 }
 
+/// The same by the general functions.
+#[test]
+fn the_deepest_questions_with_lists() {
+    for (kind, k) in KINDS.into_iter().flat_map(|kind| [(kind, 1), (kind, 32)]) {
+        for list in LISTS {
+            let (reply, buffer) = about_the_path(320, kind, k, list, |question| {
+                let mut buffer = vec![0; BUFFER];
+                (question.best(&mut buffer), buffer)
+            });
+            let Reply::Cover { limit, heaviest, .. } = reply else { panic!("{reply:?}") };
+            let length = Cover::length(&buffer).unwrap();
+            let filed = move |question: Question| question.check(&buffer[..length]);
+            assert_eq!(about_the_path(32, kind, k, list, filed), Ok(heaviest));
+            let tried = move |question: Question| question.trial(limit, &mut vec![0; BUFFER]);
+            assert_eq!(about_the_path(320, kind, k, list, tried), reply);
+        }
+    }
+}
+
 /// One tree with all edges, from an end of the path and from its middle; and walks of that cover that are refused.
 #[test]
 fn the_longest_walks() {
     for start in [0, 128, 255] {
-        let fields = [1, 255, start].into_iter().chain([0; 255]).chain(0..255);
-        let cover: Vec<u8> = fields.flat_map(u16::to_le_bytes).collect();
         for (tree, room, due) in [
             (0, WALK_BUFFER, Ok(Walk { stops: 511, length: 510 })),
             (1, WALK_BUFFER, Err(51)),
             (0, WALK_BUFFER - 1, Err(52)),
         ] {
-            let cover = cover.clone();
-            let walked = move || walk(Kind::Unrooted, 1, &path(), &cover, tree, &mut vec![0; room]);
+            let walked = move || {
+                walk(Kind::Unrooted, 1, &path(), &whole_tree(start), tree, &mut vec![0; room])
+            };
             assert_eq!(within(40, walked), due);
+            for list in LISTS {
+                let walked = move |question: Question| {
+                    question.walk(&whole_tree(start), tree, &mut vec![0; room])
+                };
+                let times = if list.is_some() { 2 } else { 1 };
+                let due = due.map(|walk| Walk { length: times * walk.length, ..walk });
+                assert_eq!(about_the_path(40, Kind::Unrooted, 1, list, walked), due);
+            }
         }
     }
 }
 
 #[test]
 fn refusals() {
-    for kind in [Kind::Rooted, Kind::Unrooted] {
+    for kind in KINDS {
         let tried = move || trial(kind, 33, 1, &path(), &mut vec![0; BUFFER]);
         assert_eq!(within(32, tried), Reply::Refused(21));
         let asked = move || best(kind, 32, &path(), &mut vec![0; BUFFER - 1]);
         assert_eq!(within(32, asked), Reply::Refused(23));
         let walked = move || walk(kind, 33, &path(), &[], 0, &mut vec![0; WALK_BUFFER]);
         assert_eq!(within(40, walked), Err(21));
+    }
+}
+
+/// The same by the general functions, and a list that is too short.
+#[test]
+fn refusals_with_lists() {
+    for kind in KINDS {
+        let lists = [(LISTS[0], 21, 23), (LISTS[1], 21, 23), (Some(&[40; 254][..]), 53, 53)];
+        for (list, crews, room) in lists {
+            let tried = |question: Question| question.trial(1, &mut vec![0; BUFFER]);
+            assert_eq!(about_the_path(32, kind, 33, list, tried), Reply::Refused(crews));
+            let asked = |question: Question| question.best(&mut vec![0; BUFFER - 1]);
+            assert_eq!(about_the_path(32, kind, 32, list, asked), Reply::Refused(room));
+            let filed = |question: Question| question.check(&[]);
+            assert_eq!(about_the_path(32, kind, 33, list, filed), Err(crews));
+            let walked = |question: Question| question.walk(&[], 0, &mut vec![0; WALK_BUFFER]);
+            assert_eq!(about_the_path(40, kind, 33, list, walked), Err(crews));
+        }
     }
 }
