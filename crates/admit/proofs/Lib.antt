@@ -1,4 +1,6 @@
 -- Laws that belong to no one function, in reading order.
+-- the bytes of a list that are read
+pub mod Listed
 -- the test of the crews' number
 pub mod CrewTests
 -- what each test of a question makes of what is refused

@@ -2,8 +2,10 @@
 use crate::Admitted;
 use crate::crews::Kind;
 use crate::refusal::Refusal;
-use graph::surface;
+use graph::view;
 ghost use mathlib.Core.Path.{_≡_};
+ghost use lib.Dec.{leb};
+ghost use Rattle.graph.specs.Graph.{weightOf};
 ghost use Rattle.graph.specs.Bytes.{sheetGraph, graphOf};
 ghost use Rattle.graph.specs.Valid.{Valid};
 ghost use Rattle.rules.specs.Questions.{listed, surfaceFault};
@@ -30,15 +32,25 @@ pub fn read_list<'a>(given: bool, list: &'a [u8]) -> &'a [u8]
     &list[..0]
 }
 
-// Says whether no weight, by its edge's class, is above 1,000,000.
+// Says whether the weight of edge e, by its class, is at most 1,000,000. No class more than doubles a weight: one of at
+// most half of that needs no look at its class.
+fn weight_right(b: &[u8], e: usize, classes: &[u8]) -> bool
+    ensures { λ r. ⌜ r ≡ leb (weightOf (graphOf (now (b .entry)) (now (classes .entry))) e) 1000000 ⌝ }
+{
+    if view::weight(b, graph::sheet_vertices(b), graph::sheet_edges(b), e) <= 500000 {
+        return true;
+    }
+    graph::weight(b, e, classes) <= 1000000
+}
+
+// Says whether that is so of every edge.
 fn weights_right(b: &[u8], classes: &[u8]) -> bool
     ensures { λ r. ⌜ WeightsTested (graphOf (now (b .entry)) (now (classes .entry))) r ⌝ }
 {
-    let n = graph::vertex_count(b, classes);
     let m = graph::edge_count(b, classes);
     let mut e = 0;
     while e < m {
-        if 1000000 < surface::weight(b, n, m, e, classes) {
+        if !weight_right(b, e, classes) {
             return false;
         }
         e += 1;

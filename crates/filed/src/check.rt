@@ -4,7 +4,6 @@ use crate::trees::trees_right;
 use admit::Admitted;
 use admit::brought::Lists;
 use admit::brought::NO_LISTS;
-use admit::brought::read_list;
 use admit::crews::Kind;
 use admit::refusal::Refusal;
 use cover::heaviest::heaviest_tree;
@@ -66,7 +65,8 @@ fn check_trees(b: &[u8], c: &[u8], classes: &[u8]) -> Verdict
     Verdict::Yes(heaviest_tree(b, c, classes))
 }
 
-// The check of the cover's bytes, for a graph.
+// The check of the cover's bytes, for a graph. It is called at two places, and so compiled apart from the test of the
+// question: in one function with it, it is slower.
 fn check_filed(kind: Kind, k: usize, b: &[u8], c: &[u8], classes: &[u8]) -> Verdict
     requires { ⌜ Valid (graphOf (now b) (now classes)) ⌝ }
     ensures { λ r. ⌜ says r ≡ answer (graphOf (now (b .entry)) (now (classes .entry))) (now (c .entry))
@@ -97,7 +97,12 @@ pub fn check(kind: Kind, k: usize, b: &[u8], c: &[u8], lists: Lists, classes: &[
 {
     match admit::admit(kind, k, b, lists, classes) {
         Admitted::Refused(f) => Verdict::Refused(f),
-        Admitted::Fits => check_filed(kind, k, b, c, read_list(lists.classes, classes)),
+        Admitted::Fits => {
+            if lists.classes {
+                return check_filed(kind, k, b, c, classes);
+            }
+            check_filed(kind, k, b, c, &[])
+        }
     }
 }
 

@@ -4,37 +4,40 @@ use cover::read::entry_edge;
 use cover::read::entry_tree;
 use cover::read::trees_in;
 ghost use mathlib.Core.Path.{_≡_};
+ghost use Rattle.rules.specs.CoverBytes.{entryTree, entryEdge};
 ghost use Rattle.rules.specs.CheckCover.{entryRises, entryRight, entriesRight};
 
-// Entry i comes strictly after the entry before it.
-fn entry_rises(c: &[u8], i: usize) -> bool
+// Entry i, of this tree and this edge, comes strictly after the entry before it.
+fn entry_rises(c: &[u8], i: usize, tree: usize, edge: usize) -> bool
+    requires { ⌜ (tree ≡ entryTree (now c) i) × (edge ≡ entryEdge (now c) i) ⌝ }
     ensures { λ r. ⌜ r ≡ entryRises (now (c .entry)) i ⌝ }
 {
     if i == 0 {
         return true;
     }
     let before = entry_tree(c, i - 1);
-    let here = entry_tree(c, i);
-    if before < here {
+    if before < tree {
         return true;
     }
-    if before != here {
+    if before != tree {
         return false;
     }
-    entry_edge(c, i - 1) < entry_edge(c, i)
+    entry_edge(c, i - 1) < edge
 }
 
 // Entry i names a tree and one of m edges, and rises.
 fn entry_right(c: &[u8], m: usize, i: usize) -> bool
     ensures { λ r. ⌜ r ≡ entryRight m (now (c .entry)) i ⌝ }
 {
-    if trees_in(c) <= entry_tree(c, i) {
+    let tree = entry_tree(c, i);
+    if trees_in(c) <= tree {
         return false;
     }
-    if m <= entry_edge(c, i) {
+    let edge = entry_edge(c, i);
+    if m <= edge {
         return false;
     }
-    entry_rises(c, i)
+    entry_rises(c, i, tree, edge)
 }
 
 // Every entry does.

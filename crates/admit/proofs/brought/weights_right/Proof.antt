@@ -1,11 +1,11 @@
 -- `admit::brought::weights_right` meets its contract. The loop's invariant: no edge before e weighs too much.
 -- The measure is how many edges are left. Assumes nothing.
 use Prim.Native.Nat.{ℕ, _-_, _≤_, _<_}
-use mathlib.Core.Path.{_≡_}
+use mathlib.Core.Path.{sym, _∙_}
 use mathlib.Core.Bool.{false≢true, true≢false}
-use mathlib.Core.Logic.{dite}
-use native.Mathlib.Decide.{decLt}
 use native.Mathlib.Omega.{arith}
+use borrow.Author.Count.{below-none, below-more}
+use borrow.Author.Tests.{leb-true, leb-false, not-true, not-false}
 use Rattle.graph.specs.Graph.{Graph, weightOf}
 use Rattle.graph.specs.Bytes.{graphOf}
 use Rattle.rules.proofs.Surfaces.{each-light, heavy-refused}
@@ -14,31 +14,32 @@ use Rattle.admit.proofs.brought.weights_right.Statement.{statement}
 use Rattle.admit.proofs.brought.weights_right.Tie as tie
 
 abbrev Inv-loop : tie.InvT-loop
-Inv-loop b classes n m e₀ e = (i : ℕ) → i < e → weightOf (graphOf b classes) i ≤ 1000000
+Inv-loop b classes m e₀ e = (i : ℕ) → i < e → weightOf (graphOf b classes) i ≤ 1000000
 
 abbrev μ-loop : tie.MeasureT-loop
-μ-loop b classes n m e₀ e = m - e
+μ-loop b classes m e₀ e = m - e
 
 -- The graph, where a turn begins.
 abbrev g : tie.At-loop Inv-loop μ-loop → Graph
-g t = let s = t .before .before .before .before .before in graphOf (s .args .b .now) (s .args .classes .now)
-
-vertex-count-requires : tie.Need-vertex-count-requires Inv-loop μ-loop
-vertex-count-requires c κs = search needs
+g t = let s = t .before .before .before .before in graphOf (s .args .b .now) (s .args .classes .now)
 
 edge-count-requires : tie.Need-edge-count-requires Inv-loop μ-loop
 edge-count-requires c κs = search needs
 
 loop-holds : tie.Need-loop-holds Inv-loop μ-loop
-loop-holds c = λ i h. absurd (omega arith)
+loop-holds c = below-none _
 
-weight-requires : tie.Need-weight-requires Inv-loop μ-loop
-weight-requires c κs = search needs
+weight-right-requires : tie.Need-weight-right-requires Inv-loop μ-loop
+weight-right-requires c κs = search needs
 
 returns : tie.Need-returns Inv-loop μ-loop
 returns c =
-    let t = c .before .before .before in
-    record { right = λ r. absurd (false≢true r); wrong = λ r. heavy-refused (g t) {e = t .loop .e} (omega arith) (omega arith) }
+    let w = c .before in
+    let t = w .before .before in
+    record {
+      right = λ r. absurd (false≢true r);
+      wrong = λ r. heavy-refused (g t) {e = t .loop .e} (omega arith) (leb-false _ _ (sym (w .weight-right .ensures) ∙ not-true (w .weight-right .result) (c .if1 .taken)));
+    }
 
 add-e : tie.Need-add-e Inv-loop μ-loop
 add-e c = search needs
@@ -47,8 +48,10 @@ loop-less : tie.Need-loop-less Inv-loop μ-loop
 loop-less c = search needs
 
 loop-again : tie.Need-loop-again Inv-loop μ-loop
-loop-again c = let t = c .before .before .before in
-    λ i h. dite (decLt i (t .loop .e)) (λ l. t .loop .inv i l) (λ l. let last : i ≡ t .loop .e = omega arith in rw last (omega (arith, c .before .weight .ensures .is)))
+loop-again c =
+    let w = c .before in
+    let t = w .before .before in
+    below-more _ (t .loop .e) (t .loop .inv) (leb-true _ _ (sym (w .weight-right .ensures) ∙ not-false (w .weight-right .result) (c .if1 .left)))
 
 returns-2 : tie.Need-returns-2 Inv-loop μ-loop
 returns-2 c =
@@ -61,10 +64,9 @@ weights-right-spec =
     (tie.spec
     Inv-loop
     μ-loop
-    vertex-count-requires
     edge-count-requires
     loop-holds
-    weight-requires
+    weight-right-requires
     returns
     add-e
     loop-less

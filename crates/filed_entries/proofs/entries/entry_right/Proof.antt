@@ -6,15 +6,15 @@ use borrow.Author.Needs.{needs}
 use Rattle.filed_entries.proofs.entries.entry_right.Statement.{statement}
 use Rattle.filed_entries.proofs.entries.entry_right.Tie as tie
 
--- The entry's tree was read.
-abbrev start : tie.After-entry-tree → tie.Start
+-- The entry's tree was read, and is one.
+abbrev start : tie.After-trees-in → tie.Start
 start t = t .before .before .before
-
-trees-in-requires : tie.Need-trees-in-requires
-trees-in-requires c κs = search needs
 
 entry-tree-requires : tie.Need-entry-tree-requires
 entry-tree-requires c κs = search needs
+
+trees-in-requires : tie.Need-trees-in-requires
+trees-in-requires c κs = search needs
 
 returns : tie.Need-returns
 returns c =
@@ -41,8 +41,8 @@ pub entry-right-spec : {M : Type 1} → statement M
 entry-right-spec =
     tie.close
     (tie.spec
-    trees-in-requires
     entry-tree-requires
+    trees-in-requires
     returns
     entry-edge-requires
     returns-2

@@ -7,9 +7,9 @@ use borrow.Author.Needs.{needs}
 use Rattle.filed_entries.proofs.entries.entry_rises.Statement.{statement}
 use Rattle.filed_entries.proofs.entries.entry_rises.Tie as tie
 
--- Both trees were read.
-abbrev start : tie.After-entry-tree2 → tie.Start
-start t = t .before .before .before .before
+-- The tree of the entry before was read.
+abbrev start : tie.After-entry-tree → tie.Start
+start t = t .before .before .before
 
 returns : tie.Need-returns
 returns c =
@@ -21,9 +21,6 @@ sub-entry-tree c = search needs
 
 entry-tree-requires : tie.Need-entry-tree-requires
 entry-tree-requires c κs = search needs
-
-entry-tree-requires-2 : tie.Need-entry-tree-requires-2
-entry-tree-requires-2 c κs = search needs
 
 returns-2 : tie.Need-returns-2
 returns-2 c =
@@ -41,14 +38,10 @@ sub-entry-edge c = search needs
 entry-edge-requires : tie.Need-entry-edge-requires
 entry-edge-requires c κs = search needs
 
-entry-edge-requires-2 : tie.Need-entry-edge-requires-2
-entry-edge-requires-2 c κs = search needs
-
 returns-4 : tie.Need-returns-4
 returns-4 c =
-    let g = start (c .before .before .before .before) .args in
-    ap₂ ltb (c .before .entry-edge .ensures .is) (c .entry-edge2 .ensures .is)
-    ∙ sym (edge-decides (g .c .now) (g .i) (omega arith) (omega arith))
+    let s = start (c .before .before .before) in
+    ap₂ ltb (c .entry-edge .ensures .is) (s .pre .1) ∙ sym (edge-decides (s .args .c .now) (s .args .i) (omega arith) (omega arith))
 
 pub entry-rises-spec : {M : Type 1} → statement M
 entry-rises-spec =
@@ -57,10 +50,8 @@ entry-rises-spec =
     returns
     sub-entry-tree
     entry-tree-requires
-    entry-tree-requires-2
     returns-2
     returns-3
     sub-entry-edge
     entry-edge-requires
-    entry-edge-requires-2
     returns-4)

@@ -1,13 +1,12 @@
 -- `planner::question::ask` meets its contract: what is refused decides, then what is asked, by the class bytes where they are brought and by none
 -- elsewhere. Assumes nothing.
 use mathlib.Core.Path.{_≡_, sym, ap, _∙_}
-use mathlib.Core.List.{[]}
 use mathlib.Core.Option.{none}
 use lib.ListN.{length}
-use Rattle.rules.specs.Questions.{Question, listed}
-use Rattle.admit.specs.Brought.{brought}
+use Rattle.rules.specs.Questions.{Question}
 use Rattle.admit.specs.Crews.{asksWith}
 use Rattle.admit.specs.Refusals.{faultIn}
+use Rattle.admit.proofs.Listed.{read-all, read-none}
 use Rattle.planner.specs.Promise.{faultOf}
 use Rattle.planner.proofs.Promised.{can-ask, refusal-given, answer-given, ask-promised}
 use borrow.Author.Needs.{needs}
@@ -26,13 +25,6 @@ module _ (t : tie.After-test) where
 quiet : (e : tie.After-enum-told) → none ≡ faultOf (s (e .before .before) .args .asked) (q (e .before .before)) (length (s (e .before .before) .args .buf .now))
 quiet e = sym (ap faultIn (e .enum-told .given .1)) ∙ e .before .before .test .ensures
 
--- What is read of the class list: all of it where it is brought, and nothing elsewhere.
-read-all : (t : tie.Then1) → listed (q (t .before .before .before) .classes) ≡ s (t .before .before .before) .args .classes .now
-read-all t = ap (λ is. listed (brought is (s (t .before .before .before) .args .classes .now))) (t .if1 .taken)
-
-read-none : (t : tie.Else1) → listed (q (t .before .before .before) .classes) ≡ []
-read-none t = ap (λ is. listed (brought is (s (t .before .before .before) .args .classes .now))) (t .if1 .left)
-
 test-requires : tie.Need-test-requires
 test-requires c κs = search needs
 
@@ -46,7 +38,7 @@ ask-crews-requires : tie.Need-ask-crews-requires
 ask-crews-requires c κs =
     let t = c .before in
     let a = s (t .before .before .before) .args in
-    can-ask (a .asked) (a .kind) (a .k) (a .b .now) (a .lists) (a .classes .now) _ (read-all t) (quiet (t .before))
+    can-ask (a .asked) (a .kind) (a .k) (a .b .now) (a .lists) (a .classes .now) _ (read-all _ _ (t .if1 .taken)) (quiet (t .before))
 
 same-length : tie.Need-same-length
 same-length c = search needs
@@ -56,7 +48,7 @@ returns c =
     let answered = c .before .before in
     let t = answered .before .before in
     let tested = t .before .before .before in
-    ask-promised (s tested .args .asked) (answer-given (s tested .args .asked) (q tested) (quiet (t .before)) (rw (read-all t) (answered .ask-crews .ensures)))
+    ask-promised (s tested .args .asked) (answer-given (s tested .args .asked) (q tested) (quiet (t .before)) (rw (read-all (s tested .args .lists .classes) (s tested .args .classes .now) (t .if1 .taken)) (answered .ask-crews .ensures)))
 
 slice-aggregate-ask-crews : tie.Need-slice-aggregate-ask-crews
 slice-aggregate-ask-crews c = search needs
@@ -65,7 +57,7 @@ ask-crews-requires-2 : tie.Need-ask-crews-requires-2
 ask-crews-requires-2 c κs =
     let t = c .before .before in
     let a = s (t .before .before .before) .args in
-    can-ask (a .asked) (a .kind) (a .k) (a .b .now) (a .lists) (a .classes .now) _ (read-none t) (quiet (t .before))
+    can-ask (a .asked) (a .kind) (a .k) (a .b .now) (a .lists) (a .classes .now) _ (read-none _ _ (t .if1 .left)) (quiet (t .before))
 
 returns-2 : tie.Need-returns-2
 returns-2 c =
@@ -81,7 +73,7 @@ returns-3 c =
     let answered = c .before .before in
     let t = answered .before .before .before in
     let tested = t .before .before .before in
-    ask-promised (s tested .args .asked) (answer-given (s tested .args .asked) (q tested) (quiet (t .before)) (rw (read-none t) (answered .ask-crews2 .ensures)))
+    ask-promised (s tested .args .asked) (answer-given (s tested .args .asked) (q tested) (quiet (t .before)) (rw (read-none (s tested .args .lists .classes) (s tested .args .classes .now) (t .if1 .left)) (answered .ask-crews2 .ensures)))
 
 pub ask-spec : {M : Type 1} → statement M
 ask-spec =
