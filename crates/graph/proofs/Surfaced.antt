@@ -1,13 +1,12 @@
 -- A graph with its weights by class: counts and ends are the graph's own, the weights are adjusted, and without a class list it is the graph itself.
 -- Assumes nothing.
 use Prim.Native.Nat.{ℕ, zero, suc, _≤_, _<_}
-use mathlib.Core.Path.{_≡_, refl, sym, ap, ap₂, _∙_}
+use mathlib.Core.Path.{_≡_, refl, sym, ap, _∙_}
 use mathlib.Core.Logic.{dite}
-use mathlib.Core.List.{List, [], _∷_, map}
+use mathlib.Core.List.{List, [], _∷_}
 use native.Mathlib.Decide.{decLt}
 use native.Mathlib.Omega.{arith}
 use lib.ListN.{length, getD, List·getD-eq-default}
-use Rattle.lists.specs.Count.{below}
 use Rattle.lists.proofs.Runs.{length-map-below, getD-map-below, map-below}
 use Rattle.graph.specs.Graph.{Edge, Graph, edgeCount, noEdge, edgeAt, oneEnd, otherEnd, weightOf}
 use Rattle.graph.specs.Surface.{percentOf, adjusted, classAt, withClass, surfaced}

@@ -2,7 +2,6 @@
 use mathlib.Core.Path.{_≡_, refl}
 use native.Mathlib.Omega.{arith}
 use Rattle.planner_c.proofs.Values.{best-asked}
-use borrow.Author.Needs.{needs}
 use Rattle.planner_c.proofs.said.asked_of.Statement.{statement}
 use Rattle.planner_c.proofs.said.asked_of.Tie as tie
 
