@@ -3,7 +3,7 @@
 use Prim.Native.Nat.{ℕ}
 use mathlib.Core.Path.{_≡_, sym, _∙_}
 use mathlib.Core.List.{List, [], _∷_}
-use mathlib.Core.Option.{some, none}
+use mathlib.Core.Option.{Option, some, none}
 use lib.ListN.{length}
 use borrow.Author.Tests.{eq-eqb, ne-eqb}
 use Rattle.graph.specs.Graph.{edgeCount}
@@ -17,39 +17,41 @@ use Rattle.graph_check.proofs.Exactly.{yes-graph}
 use Rattle.rules.specs.Questions.{Question, listed, graphIn, crewsIn, numberIn, sheetFault, classFault, adjustedFault, surfaceFault, crewFault, questionFault}
 use Rattle.rules.proofs.Surfaces.{each-light}
 
+-- The class list beside a sheet: without one nothing is refused of a sheet that passed its check;
+module _ (sheet : List ℕ) {given : Option (List ℕ)} where
+  pub unlisted : given ≡ none → Valid (sheetGraph sheet) → none ≡ surfaceFault sheet given
+  unfolding surfaceFault classFault firstFault
+  unlisted e valid = rw (e, plain-graph sheet, each-light (sheetGraph sheet) (λ i h. valid .each-edge i h .weight-most))
+
+  -- with one its length, 53, and then the weights, 54, decide.
+  module _ {classes : List ℕ} (e : given ≡ some classes) where
+    pub count-refused : (length classes ≡ edgeCount (sheetGraph sheet) → ⊥) → some 53 ≡ surfaceFault sheet given
+    unfolding surfaceFault classFault faultUnless firstFault
+    count-refused d = rw (e, ne-eqb (length classes) (edgeCount (sheetGraph sheet)) d)
+
+    pub weights-decide : length classes ≡ edgeCount (sheetGraph sheet) → {f : Fault} → adjustedFault (graphOf sheet classes) ≡ f → f ≡ surfaceFault sheet given
+    unfolding surfaceFault classFault faultUnless firstFault
+    weights-decide l {f} p = sym (one-fault f) ∙ rw (e, eq-eqb (length classes) (edgeCount (sheetGraph sheet)) l, p)
+
+-- All that is tested.
 module _ (q : Question) where
   -- The graph's bytes, 11 to 16,
   pub sheet-refused : {number : ℕ} → sheet.checkOf (q .sheet) ≡ sheet.number number → some number ≡ questionFault q
   unfolding questionFault sheetFault numberIn firstFault
   sheet-refused e = rw e
 
-  -- The class list: without one nothing is refused of a sheet that passed its check;
-  pub unlisted : q .classes ≡ none → Valid (sheetGraph (q .sheet)) → none ≡ surfaceFault q
-  unfolding surfaceFault classFault firstFault
-  unlisted e valid = rw (e, plain-graph (q .sheet), each-light (sheetGraph (q .sheet)) (λ i h. valid .each-edge i h .weight-most))
-
-  -- with one its length, 53, and then the weights, 54, decide.
-  module _ {classes : List ℕ} (e : q .classes ≡ some classes) where
-    pub count-refused : (length classes ≡ edgeCount (sheetGraph (q .sheet)) → ⊥) → some 53 ≡ surfaceFault q
-    unfolding surfaceFault classFault faultUnless firstFault
-    count-refused d = rw (e, ne-eqb (length classes) (edgeCount (sheetGraph (q .sheet))) d)
-
-    pub weights-decide : length classes ≡ edgeCount (sheetGraph (q .sheet)) → {f : Fault} → adjustedFault (graphOf (q .sheet) classes) ≡ f → f ≡ surfaceFault q
-    unfolding surfaceFault classFault faultUnless firstFault
-    weights-decide l {f} p = sym (one-fault f) ∙ rw (e, eq-eqb (length classes) (edgeCount (sheetGraph (q .sheet))) l, p)
-
   module _ {n m : ℕ} (passed : sheet.checkOf (q .sheet) ≡ sheet.yes n m) where
     -- then the class list, 53 and 54,
-    lists-decide : {f : Fault} → f ≡ surfaceFault q → firstFault (f ∷ crewFault (crewsIn q) (graphIn q .vertices) ∷ []) ≡ questionFault q
+    lists-decide : {f : Fault} → f ≡ surfaceFault (q .sheet) (q .classes) → firstFault (f ∷ crewFault (crewsIn q) (graphIn q .vertices) ∷ []) ≡ questionFault q
     unfolding questionFault sheetFault numberIn firstFault
     lists-decide e = rw (passed, ← e)
 
-    pub lists-refused : {number : ℕ} → some number ≡ surfaceFault q → some number ≡ questionFault q
+    pub lists-refused : {number : ℕ} → some number ≡ surfaceFault (q .sheet) (q .classes) → some number ≡ questionFault q
     unfolding firstFault
     lists-refused e = lists-decide e
 
     -- then the crews, 21.
-    pub crews-decide : {f : Fault} → none ≡ surfaceFault q → f ≡ crewFault (crewsIn q) n → f ≡ questionFault q
+    pub crews-decide : {f : Fault} → none ≡ surfaceFault (q .sheet) (q .classes) → f ≡ crewFault (crewsIn q) n → f ≡ questionFault q
     unfolding firstFault
     crews-decide {f} p e = sym (one-fault f) ∙ rw (e, passed-vertices) (lists-decide p)
       where

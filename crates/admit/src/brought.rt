@@ -1,6 +1,5 @@
 // The lists that a question may bring beside the graph's bytes (document 02), and their tests.
 use crate::Admitted;
-use crate::crews::Kind;
 use crate::refusal::Refusal;
 use graph::view;
 ghost use mathlib.Core.Path.{_≡_};
@@ -10,7 +9,6 @@ ghost use Rattle.graph.specs.Bytes.{sheetGraph, graphOf};
 ghost use Rattle.graph.specs.Valid.{Valid};
 ghost use Rattle.rules.specs.Questions.{listed, surfaceFault};
 ghost use Rattle.admit.specs.Brought.{brought, WeightsTested};
-ghost use Rattle.admit.specs.Crews.{asksWith};
 ghost use Rattle.admit.specs.Refusals.{faultIn};
 
 // Which lists are brought: a list of no bytes is not the same as none. One that is not brought is not read.
@@ -59,15 +57,9 @@ fn weights_right(b: &[u8], classes: &[u8]) -> bool
 }
 
 // Tests the class list beside a graph that passed its check: 53, then 54. Without a list there is nothing to test.
-pub(crate) fn admit_classes(
-    kind: Kind,
-    k: usize,
-    b: &[u8],
-    lists: Lists,
-    classes: &[u8],
-) -> Admitted
+pub(crate) fn admit_classes(b: &[u8], lists: Lists, classes: &[u8]) -> Admitted
     requires { ⌜ Valid (sheetGraph (now b)) ⌝ }
-    ensures { λ r. ⌜ faultIn r ≡ surfaceFault (asksWith kind k (now (b .entry)) lists (now (classes .entry))) ⌝ }
+    ensures { λ r. ⌜ faultIn r ≡ surfaceFault (now (b .entry)) (brought (lists .classes) (now (classes .entry))) ⌝ }
 {
     if !lists.classes {
         return Admitted::Fits;

@@ -40,7 +40,7 @@ pub fn admit(kind: Kind, k: usize, b: &[u8], lists: Lists, classes: &[u8]) -> Ad
 {
     match graph_check::check_graph(b) {
         Checked::Refused(f) => Admitted::Refused(Refusal::Sheet(f)),
-        Checked::Counts(n, _) => match admit_classes(kind, k, b, lists, classes) {
+        Checked::Counts(n, _) => match admit_classes(b, lists, classes) {
             Admitted::Refused(f) => Admitted::Refused(f),
             Admitted::Fits => admit_crews(kind, k, n),
         },

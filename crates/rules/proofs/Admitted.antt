@@ -30,7 +30,7 @@ pub admitted : (q : Question) → questionFault q ≡ none → Admitted q
 unfolding questionFault graphOf
 admitted q e =
     let g = sheetGraph (q .sheet) in
-    let faults : List Fault = sheetFault (q .sheet) ∷ surfaceFault q ∷ crewFault (crewsIn q) (graphIn q .vertices) ∷ [] in
+    let faults : List Fault = sheetFault (q .sheet) ∷ surfaceFault (q .sheet) (q .classes) ∷ crewFault (crewsIn q) (graphIn q .vertices) ∷ [] in
     let sheet = sheet-right (q .sheet) .0 (quiet-each faults e (List·Memᴰ·head refl)) in
     let light = weights-light q (quiet-each faults e (List·Memᴰ·tail (List·Memᴰ·head refl))) in
     let right = quiet-each faults e (List·Memᴰ·tail (List·Memᴰ·tail (List·Memᴰ·head refl))) in

@@ -70,11 +70,11 @@ unfolding classFault
 class-numbered none m = λ k q. absurd (Option·none-ne-some k q)
 class-numbered (some classes) m = unless-numbered _ _ (omega arith)
 
-surface-numbered : (q : Question) → Numbered (surfaceFault q)
+surface-numbered : (sheet : List ℕ) (classes : Option (List ℕ)) → Numbered (surfaceFault sheet classes)
 unfolding surfaceFault adjustedFault
-surface-numbered q = first-next _ _ (class-numbered (q .classes) _) (first-next _ _ (if-numbered _ _ (omega arith)) first-none)
+surface-numbered sheet classes = first-next _ _ (class-numbered classes _) (first-next _ _ (if-numbered _ _ (omega arith)) first-none)
 
 -- What is refused of every question.
 pub question-numbered : (q : Question) → Numbered (questionFault q)
 unfolding questionFault crewFault
-question-numbered q = first-next _ _ (sheet-numbered (q .sheet)) (first-next _ _ (surface-numbered q) (first-next _ _ (if-numbered _ _ (omega arith)) first-none))
+question-numbered q = first-next _ _ (sheet-numbered (q .sheet)) (first-next _ _ (surface-numbered (q .sheet) (q .classes)) (first-next _ _ (if-numbered _ _ (omega arith)) first-none))

@@ -48,7 +48,7 @@ module _ (g : Graph) where
   heavy-refused {e} h l = rw (found-any-below heavy (edgeCount g) h (lt-ltb 1000000 (weightOf g e) l))
 
 -- So where nothing is refused of a class list, no weight of the question's graph is.
-pub weights-light : (q : Question) → surfaceFault q ≡ none → (e : ℕ) → e < edgeCount (graphIn q) → weightOf (graphIn q) e ≤ 1000000
+pub weights-light : (q : Question) → surfaceFault (q .sheet) (q .classes) ≡ none → (e : ℕ) → e < edgeCount (graphIn q) → weightOf (graphIn q) e ≤ 1000000
 unfolding surfaceFault
 weights-light q none-refused = light-each (graphIn q) (quiet-each _ none-refused (List·Memᴰ·tail (List·Memᴰ·head refl)))
 

@@ -61,7 +61,7 @@ pub data Kind : Type 0 where
   yards : Kind
   roving : Kind
 
--- What every question about a graph brings: "a question may carry m class bytes beside the sheet".
+-- What every question about a graph brings. (Document 02, A.3: "Let a question carry m class bytes beside the sheet.")
 pub record Question : Type 0 where
   pub kind : Kind
   pub k : ℕ
@@ -99,12 +99,12 @@ unfoldable pub adjustedFault : Graph → Fault
 adjustedFault g = faultIf (anyBelow (edgeCount g) (λ e. ltb 1000000 (weightOf g e))) 54
 
 -- Both, each over the whole list before the next.
-unfoldable pub surfaceFault : Question → Fault
-surfaceFault q = firstFault (classFault (q .classes) (edgeCount (sheetGraph (q .sheet))) ∷ adjustedFault (graphIn q) ∷ [])
+unfoldable pub surfaceFault : List ℕ → Option (List ℕ) → Fault
+surfaceFault sheet classes = firstFault (classFault classes (edgeCount (sheetGraph sheet)) ∷ adjustedFault (graphOf sheet (listed classes)) ∷ [])
 
 -- What is refused of every question, in document 01's order; 53 and 54 come "after 16, before 21".
 unfoldable pub questionFault : Question → Fault
-questionFault q = firstFault (sheetFault (q .sheet) ∷ surfaceFault q ∷ crewFault (crewsIn q) (graphIn q .vertices) ∷ [])
+questionFault q = firstFault (sheetFault (q .sheet) ∷ surfaceFault (q .sheet) (q .classes) ∷ crewFault (crewsIn q) (graphIn q .vertices) ∷ [])
 
 -- The trial question, at a limit and with a buffer of so many bytes: what is refused of it, and the reply.
 unfoldable pub trialFault : Question → ℕ → ℕ → Fault
