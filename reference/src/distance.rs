@@ -1,24 +1,32 @@
-//! Distances from a vertex: the least weight of a path, or none where no path leads.
+//! Distances from a vertex: the least weight of a path, or none where no path leads; and one path of that weight.
 
 use crate::graph::Graph;
 
-/// The distance from one vertex to every vertex.
-pub fn from(graph: &Graph, source: usize) -> Vec<Option<u64>> {
+/// What a search from a vertex finds of every vertex: its distance, and the last edge of a shortest path to it with the
+/// vertex before that edge.
+struct Search {
+    distance: Vec<Option<u64>>,
+    last: Vec<Option<(usize, usize)>>,
+}
+
+/// Settles the vertices one by one, the nearest first.
+fn search(graph: &Graph, source: usize) -> Search {
     let all: Vec<usize> = (0..graph.edges.len()).collect();
     let around = graph.around(&all);
-    let mut distance = vec![None; graph.n];
+    let mut found = Search { distance: vec![None; graph.n], last: vec![None; graph.n] };
     let mut settled = vec![false; graph.n];
-    distance[source] = Some(0);
-    while let Some((near, vertex)) = nearest(&distance, &settled) {
+    found.distance[source] = Some(0);
+    while let Some((near, vertex)) = nearest(&found.distance, &settled) {
         settled[vertex] = true;
         for &(edge, other) in &around[vertex] {
             let through = near + graph.edges[edge].weight;
-            if distance[other].is_none_or(|known| through < known) {
-                distance[other] = Some(through);
+            if found.distance[other].is_none_or(|known| through < known) {
+                found.distance[other] = Some(through);
+                found.last[other] = Some((edge, vertex));
             }
         }
     }
-    distance
+    found
 }
 
 /// The nearest vertex reached and not settled.
@@ -28,6 +36,11 @@ fn nearest(distance: &[Option<u64>], settled: &[bool]) -> Option<(u64, usize)> {
         _ => None,
     };
     (0..distance.len()).filter_map(open).min()
+}
+
+/// The distance from one vertex to every vertex.
+pub fn from(graph: &Graph, source: usize) -> Vec<Option<u64>> {
+    search(graph, source).distance
 }
 
 /// The distances from each of the roots 0 to k - 1.
@@ -41,30 +54,17 @@ pub fn closest(distance: &[Option<u64>], vertices: &[usize]) -> Option<(u64, usi
     vertices.iter().filter_map(reached).min()
 }
 
-/// The edges of one shortest path to a vertex that has a distance, walked back from it.
-pub fn path(graph: &Graph, distance: &[Option<u64>], target: usize) -> Vec<usize> {
+/// The edges of one shortest path from a vertex to one that has a distance from it, walked back from there.
+///
+/// Each step goes to a vertex that was settled earlier. So the path comes to no vertex twice and leads to the source, though
+/// other vertices may be as near to it and edges may weigh nothing.
+pub fn path(graph: &Graph, source: usize, target: usize) -> Vec<usize> {
+    let last = search(graph, source).last;
     let mut path = Vec::new();
     let mut vertex = target;
-    while distance[vertex] != Some(0) {
-        let (edge, before) = step_back(graph, distance, vertex);
+    while let Some((edge, before)) = last[vertex] {
         path.push(edge);
         vertex = before;
     }
     path
-}
-
-/// The lowest last edge of a shortest path to a vertex, and the vertex before it.
-fn step_back(graph: &Graph, distance: &[Option<u64>], vertex: usize) -> (usize, usize) {
-    (0..graph.edges.len())
-        .find_map(|e| {
-            let edge = graph.edges[e];
-            let before = match vertex {
-                v if v == edge.a => edge.b,
-                v if v == edge.b => edge.a,
-                _ => return None,
-            };
-            let through = distance[before].map(|d| d + edge.weight);
-            (through == distance[vertex]).then_some((e, before))
-        })
-        .expect("a vertex with a distance above 0 has a last edge")
 }

@@ -38,7 +38,7 @@ use crate::check::check_with;
 use crate::cover::{decode, filed_length, gather};
 use crate::fixed::is_fixed;
 use crate::question::{Answer, Kind};
-use crate::rounds::text as answer_text;
+use crate::rounds::text as text_of;
 use crate::{best, trial};
 
 /// What is asked.
@@ -95,7 +95,7 @@ impl Record {
     }
 
     /// Whether the rules leave no choice in what is printed of the answer.
-    fn is_whole(&self, answer: &Answer) -> bool {
+    pub fn is_whole(&self, answer: &Answer) -> bool {
         let limit = match (answer, &self.asked) {
             (Answer::Cover { limit, .. }, _) => *limit,
             (Answer::Parts { .. }, Asked::Trial { limit, .. }) => *limit,
@@ -151,20 +151,25 @@ fn record_text(record: &Record) -> String {
     }
     let mut buffer = vec![0; record.room()];
     let answer = record.answer(&mut buffer).expect("a trial or a best limit is answered");
-    let is_whole = record.is_whole(&answer);
+    answer_text(record, record.is_whole(&answer), &answer, &buffer)
+}
+
+/// What is printed of a planner's answer to a record and of the buffer it leaves, whole or without what is free.
+pub fn answer_text(record: &Record, is_whole: bool, answer: &Answer, buffer: &[u8]) -> String {
+    let (kind, brought, k) = (record.kind, record.brought(), record.k as u64);
     match answer {
         Answer::Cover { limit, heaviest } => {
-            let length = filed_length(&buffer).expect("a buffer has four bytes");
+            let length = filed_length(buffer).expect("a buffer has four bytes");
             let cover = &buffer[..length];
             let trees = gather(&decode(cover).expect("an accepted cover was written"));
             if is_whole {
                 let graph = brought.graph().expect("what is accepted can be read");
-                return answer_text(&answer, Some((&graph, &trees)));
+                return text_of(answer, Some((&graph, &trees)));
             }
-            let said = check_with(kind, brought, k, cover) == Ok(heaviest);
+            let said = check_with(kind, brought, k, cover) == Ok(*heaviest);
             format!("cover {limit} {} {}\n", if said { "yes" } else { "no" }, trees.len())
         }
         Answer::Parts { .. } if !is_whole => "too low parts\n".to_string(),
-        other => answer_text(&other, None),
+        other => text_of(other, None),
     }
 }

@@ -1,8 +1,8 @@
-//! Whether the rules leave no choice in what is printed of a trial's reply: no other assignment, no other shortest path,
-//! no other counts of parts and roots.
+//! Whether the rules leave no choice in what is printed of a trial's reply: no other assignment, no shortest path that makes
+//! another tree, no other counts of parts and roots.
 
 use crate::assignment::{assign, roots_near, Assigned};
-use crate::graph::Graph;
+use crate::graph::{Edge, Graph};
 use crate::question::Kind;
 use crate::rooted::{plan, Plan};
 
@@ -19,7 +19,7 @@ pub fn is_fixed(kind: Kind, graph: &Graph, k: usize, limit: u64) -> bool {
     match assign(p, k, &plan.allowed, &mut roots) {
         Assigned::Roots => {
             is_only_assignment(k, &plan, &roots)
-                && (0..p).all(|part| is_only_path(graph, &plan, part, roots[part].into()))
+                && (0..p).all(|part| is_only_union(graph, &plan, part, roots[part].into()))
         }
         _ => counts_of_deficient(k, &plan).is_some(),
     }
@@ -35,37 +35,79 @@ fn is_only_assignment(k: usize, plan: &Plan, roots: &[u8]) -> bool {
     })
 }
 
-/// Whether one path alone is a shortest one from a root to a part.
-fn is_only_path(graph: &Graph, plan: &Plan, part: usize, root: usize) -> bool {
+/// Whether all shortest paths from a root to a part bring the same edges to what the tree holds without them.
+///
+/// Each edge that one of them may bring must then be one that all of them need.
+fn is_only_union(graph: &Graph, plan: &Plan, part: usize, root: usize) -> bool {
     let distance = &plan.distance[root];
+    let held = [&plan.parts[part].edges[..], &plan.left[root].edges].concat();
     let ends = graph.ends(&plan.parts[part].edges);
     let least = ends.iter().filter_map(|&v| distance[v]).min();
-    let paths = paths_to(graph, distance);
-    let nearest = ends.iter().filter(|&&v| distance[v] == least);
-    nearest.map(|&v| paths[v]).sum::<usize>() == 1
+    let nearest: Vec<usize> = ends.into_iter().filter(|&v| distance[v] == least).collect();
+    let steps = steps_outward(graph, distance);
+    let leads = spread(graph.n, steps.iter().map(Step::back), &nearest);
+    let mut brought = steps.iter().filter(|step| leads[step.to] && !held.contains(&step.edge));
+    brought.all(|step| {
+        let others = steps.iter().filter(|other| other.edge != step.edge);
+        let is_needed = !spread(graph.n, others.map(Step::back), &nearest)[root];
+        is_needed || !may_be_taken(graph.n, &steps, step, root, &nearest)
+    })
 }
 
-/// How many shortest paths lead to each vertex; 2 stands for more.
-fn paths_to(graph: &Graph, distance: &[Option<u64>]) -> Vec<usize> {
-    let mut by_distance: Vec<usize> = (0..graph.n).filter(|&v| distance[v].is_some()).collect();
-    by_distance.sort_by_key(|&v| distance[v]);
-    let mut paths = vec![0; graph.n];
-    for v in by_distance {
-        if distance[v] == Some(0) {
-            paths[v] = 1;
-            continue;
-        }
-        let mut here = 0;
-        for edge in &graph.edges {
-            for (from, to) in [(edge.a, edge.b), (edge.b, edge.a)] {
-                if to == v && distance[from].map(|d| d + edge.weight) == distance[v] {
-                    here += paths[from];
-                }
+/// Whether a step may be one of a path from a root to one of the nearest vertices: it must be come to without the vertex
+/// behind it, and followed without the vertex before it.
+///
+/// A path comes to no vertex twice. By weightless edges that may forbid other steps too, so a yes is not certain; a no is.
+fn may_be_taken(n: usize, steps: &[Step], step: &Step, root: usize, nearest: &[usize]) -> bool {
+    let apart_from = |vertex| steps.iter().filter(move |s| s.from != vertex && s.to != vertex);
+    step.to != root
+        && spread(n, apart_from(step.from).map(Step::back), nearest)[step.to]
+        && spread(n, apart_from(step.to).map(Step::forth), &[root])[step.from]
+}
+
+/// An edge as a shortest path may cross it.
+struct Step {
+    from: usize,
+    edge: usize,
+    to: usize,
+}
+
+impl Step {
+    fn forth(&self) -> (usize, usize) {
+        (self.from, self.to)
+    }
+
+    fn back(&self) -> (usize, usize) {
+        (self.to, self.from)
+    }
+}
+
+/// Every step that keeps to the distances; a weightless edge may be crossed either way.
+fn steps_outward(graph: &Graph, distance: &[Option<u64>]) -> Vec<Step> {
+    let mut steps = Vec::new();
+    for (edge, &Edge { a, b, weight }) in graph.edges.iter().enumerate() {
+        for (from, to) in [(a, b), (b, a)] {
+            let through = distance[from].map(|d| d + weight);
+            if through.is_some() && through == distance[to] {
+                steps.push(Step { from, edge, to });
             }
         }
-        paths[v] = here.min(2);
     }
-    paths
+    steps
+}
+
+/// For each vertex, whether it can be come to from some vertices by pairs of a vertex and the next one.
+fn spread(n: usize, pairs: impl Iterator<Item = (usize, usize)>, from: &[usize]) -> Vec<bool> {
+    let mut next = vec![Vec::new(); n];
+    pairs.for_each(|(one, other)| next[one].push(other));
+    let mut reached = vec![false; n];
+    let mut open = from.to_vec();
+    while let Some(vertex) = open.pop() {
+        if !std::mem::replace(&mut reached[vertex], true) {
+            open.extend(&next[vertex]);
+        }
+    }
+    reached
 }
 
 /// How many parts there may be for every set of them to be looked at.

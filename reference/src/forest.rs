@@ -37,6 +37,11 @@ pub fn thin(graph: &Graph, edges: &[usize]) -> Vec<usize> {
     grow(graph, edges, 0).kept
 }
 
+/// For each vertex, the lowest vertex that edges of a set join it to.
+pub fn sides(graph: &Graph, edges: &[usize]) -> Vec<usize> {
+    grow(graph, edges, 0).label
+}
+
 /// Takes the given edges in order and keeps each that joins two sides, vertices below k being one side.
 fn grow(graph: &Graph, edges: &[usize], k: usize) -> Forest {
     let mut label: Vec<usize> = (0..graph.n).collect();

@@ -2,7 +2,7 @@
 
 use crate::bytes::{four, put_four, put_two, two};
 
-/// One edge ("line"): its two ends and its weight.
+/// One edge ("line"): its two ends and its weight, which may be 0.
 #[derive(Clone, Copy, Debug, PartialEq, Eq)]
 pub struct Edge {
     pub a: usize,
@@ -47,7 +47,7 @@ fn read_edge(sheet: &[u8], n: usize, m: usize, number: usize) -> Result<Edge, u1
     if a == b {
         return Err(15);
     }
-    if weight == 0 || weight > 1_000_000 {
+    if weight > 1_000_000 {
         return Err(16);
     }
     Ok(Edge { a, b, weight })

@@ -3,79 +3,54 @@
 //! Thinning by weight, then number, leaves the minimum spanning tree of a union, and there is only
 //! one. So a tree is the thinned union exactly when the union holds all its edges, and every other
 //! edge of the union closes a loop in the tree on which that edge comes last. Both can be asked of
-//! each edge by itself, and one walk outward by distance then looks at all shortest paths at once.
+//! each edge by itself. What is left to ask is whether a shortest path by edges that fit holds those
+//! edges of the tree that neither the part nor the leftover has.
 
 use crate::cover::Tree;
 use crate::distance::closest;
 use crate::forest::thin;
 use crate::graph::Graph;
+use crate::judge_path::Paths;
 
 /// A filed tree of a root, with what is needed to compare it with unions.
 pub struct FiledTree<'a> {
     graph: &'a Graph,
     /// The distances from its root.
     distance: &'a [Option<u64>],
-    edges: &'a [usize],
-    /// For each edge, whether a union with this thinned tree may hold it.
-    fits: Vec<bool>,
+    tree: &'a Tree,
+    /// The edges that a union with this thinned tree may hold, rising.
+    fitting: Vec<usize>,
 }
 
 impl<'a> FiledTree<'a> {
     /// Prepares a filed tree, which must be a tree by the rules.
     pub fn new(graph: &'a Graph, distance: &'a [Option<u64>], tree: &'a Tree) -> FiledTree<'a> {
         let above = edges_above(graph, tree);
-        let fits = |e: usize| tree.edges.contains(&e) || comes_last(graph, &above, e);
-        FiledTree {
-            graph,
-            distance,
-            edges: &tree.edges,
-            fits: (0..graph.edges.len()).map(fits).collect(),
-        }
+        let fits = |&e: &usize| tree.edges.contains(&e) || comes_last(graph, &above, e);
+        let fitting = (0..graph.edges.len()).filter(fits).collect();
+        FiledTree { graph, distance, tree, fitting }
     }
 
     /// Whether the tree is the thinned union of a part, some shortest path to it and a leftover.
     pub fn has_part(&self, part: &Tree, left: &Tree) -> bool {
         let held = [&part.edges[..], &left.edges[..]].concat();
-        if !held.iter().all(|&e| self.fits[e]) {
+        if !held.iter().all(|e| self.fitting.binary_search(e).is_ok()) {
             return false;
         }
-        let mut on_path = vec![false; self.graph.edges.len()];
-        let other = self.edges.iter().filter(|e| !held.contains(e));
-        other.for_each(|&e| on_path[e] = true);
-        let wanted = on_path.iter().filter(|&&is| is).count();
-        let most = self.most_on_shortest_paths(&on_path);
         let ends = self.graph.ends(&part.edges);
         let Some((nearest, _)) = closest(self.distance, &ends) else {
             return false;
         };
-        let is_nearest = |v: &&usize| self.distance[**v] == Some(nearest);
-        let mut targets = ends.iter().filter(is_nearest);
-        targets.any(|&v| most[v] == Some(wanted))
+        let wanted: Vec<usize> =
+            self.tree.edges.iter().copied().filter(|e| !held.contains(e)).collect();
+        let (graph, root) = (self.graph, self.tree.start);
+        let mut paths = Paths::new(graph, root, self.distance, &self.fitting, &wanted);
+        ends.iter().any(|&v| self.distance[v] == Some(nearest) && paths.lead_to(v))
     }
 
     /// Whether the tree is a thinned leftover alone.
     pub fn has_no_part(&self, left: &Tree) -> bool {
-        thin(self.graph, &left.edges) == self.edges
-    }
-
-    /// For each vertex, the most counted edges on a shortest path to it that uses only fitting edges.
-    fn most_on_shortest_paths(&self, counted: &[bool]) -> Vec<Option<usize>> {
-        let numbers: Vec<usize> = (0..counted.len()).filter(|&e| self.fits[e]).collect();
-        let around = self.graph.around(&numbers);
-        let reached = |v: usize| self.distance[v].map(|d| (d, v));
-        let mut outward: Vec<_> = (0..self.graph.n).filter_map(reached).collect();
-        outward.sort_unstable();
-        let mut most: Vec<Option<usize>> = vec![None; self.graph.n];
-        for (far, vertex) in outward {
-            let through = |&(e, before): &(usize, usize)| {
-                let step = self.distance[before]? + self.graph.edges[e].weight;
-                let count = most[before]? + usize::from(counted[e]);
-                (step == far).then_some(count)
-            };
-            let from_before = around[vertex].iter().filter_map(through).max();
-            most[vertex] = if far == 0 { Some(0) } else { from_before };
-        }
-        most
+        thin(self.graph, &left.edges) == self.tree.edges
     }
 }
 

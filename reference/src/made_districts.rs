@@ -1,13 +1,16 @@
 //! The records of the program `districts`: every row of document 01's list of small districts, made sheets of each kind, the
-//! deepest trees, the made trials and the made filings; and behind them those that bring a list of classes.
+//! deepest trees, the made trials and the made filings, those about weightless edges; and behind them those that bring a list
+//! of classes.
 
 use crate::cover::{encode as cover_bytes, Tree};
 use crate::districts::{Asked, Record};
 use crate::graph::{sheet, Graph};
 use crate::made_filings::filings;
+use crate::made_gates::gates;
 use crate::made_records::{around_best, around_best_for_few_and_many, at, best_of, check_of};
 use crate::made_records::{deepest, full_size, BOTH};
-use crate::made_shapes::{damaged_sheets, graph, Shape, SEARCHED, SHAPES, WEIGHTS};
+use crate::made_shapes::{any_weights, damaged_sheets, graph, Shape, Weights};
+use crate::made_shapes::{POSITIVE, SEARCHED, SHAPES};
 use crate::made_surfaces::surfaced;
 use crate::made_trials::trials;
 use crate::question::{Kind, LIMIT};
@@ -26,16 +29,17 @@ pub fn records() -> Vec<Record> {
         SHAPES.iter().for_each(|&shape| all.extend(made(&mut random, shape, turn)));
     }
     for shape in [Shape::Grid, Shape::Path, Shape::Far] {
-        let weights = WEIGHTS[random.between(2, 6)];
+        let weights = POSITIVE[random.between(2, 6)];
         let sheet = full_size(&mut random, shape, weights).to_sheet();
         all.extend(BOTH.map(|kind| best_of(kind, 32, &sheet)));
     }
     for shape in [Shape::Path, Shape::Star, Shape::Caterpillar, Shape::Tree] {
-        let graph = deepest(&mut random, shape);
+        let graph = deepest(&mut random, shape, Weights::Between(1, 9));
         all.extend(around_best_for_few_and_many(&mut random, &graph));
     }
     all.extend(trials().iter().map(|trial| at(trial.kind, trial.k, trial.limit, &trial.sheet)));
     all.extend(filings().into_iter().map(|f| check_of(f.kind, f.k, &f.sheet, f.cover)));
+    all.extend(gates());
     all.extend(surfaced());
     all
 }
@@ -110,7 +114,7 @@ fn made(random: &mut Random, shape: Shape, turn: usize) -> Vec<Record> {
     let most = if turn % 4 == 3 { 40 } else { 10 };
     let n = random.between(1, most);
     let k = random.between(1, n.min(6));
-    let weights = WEIGHTS[random.below(WEIGHTS.len())];
+    let weights = any_weights(random, &POSITIVE);
     let graph = graph(random, shape, n, k, weights);
     BOTH.iter().flat_map(|&kind| around_best(random, kind, &graph, k)).collect()
 }

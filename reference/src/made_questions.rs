@@ -4,7 +4,9 @@ use crate::best;
 use crate::bytes::{put_four, put_two};
 use crate::graph::{sheet, Graph};
 use crate::made_filings::{changed_fields, changed_lengths};
-use crate::made_shapes::{damaged_sheets, graph, shuffled, Shape, SEARCHED, SHAPES, WEIGHTS};
+use crate::made_gates::FOOTBRIDGE;
+use crate::made_shapes::{any_weights, damaged_sheets, graph, pairs, shuffled, weighed};
+use crate::made_shapes::{Shape, POSITIVE, SEARCHED, SHAPES};
 use crate::question::{Kind, LIMIT};
 use crate::random::Random;
 
@@ -27,9 +29,10 @@ pub fn inputs(round: u64) -> Vec<Vec<u8>> {
         all.extend(on_a_shape(&mut random, shape, most));
     }
     all.extend(full_size(&mut random, SHAPES[round as usize % SHAPES.len()]));
-    all.extend(damaged(&mut random));
+    all.extend(damaged(&mut random, 1 + round as usize % 4));
     all.extend(of_any_length(&mut random));
-    for (n, k, edges) in SEARCHED {
+    let (n, edges) = FOOTBRIDGE;
+    for (n, k, edges) in SEARCHED.into_iter().chain([(n, 1, edges), (n, 3, edges)]) {
         let graph = Graph::new(n, edges);
         all.extend(around_best(&mut random, Kind::Rooted, &graph, k));
         all.extend(around_best(&mut random, Kind::Unrooted, &graph, k));
@@ -41,7 +44,7 @@ pub fn inputs(round: u64) -> Vec<Vec<u8>> {
 fn on_a_shape(random: &mut Random, shape: Shape, most: usize) -> Vec<Vec<u8>> {
     let n = random.between(1, most);
     let k = random.between(1, n.min(5));
-    let weights = WEIGHTS[random.below(WEIGHTS.len())];
+    let weights = any_weights(random, &POSITIVE);
     let graph = graph(random, shape, n, k, weights);
     let mut all = around_best(random, Kind::Rooted, &graph, k);
     let k = random.between(1, 5);
@@ -68,12 +71,12 @@ fn around_best(random: &mut Random, kind: Kind, graph: &Graph, k: usize) -> Vec<
 
 /// Questions on a graph of 256 vertices and 2,048 edges, the shape's own first, for 32 trees and for fewer.
 fn full_size(random: &mut Random, shape: Shape) -> Vec<Vec<u8>> {
-    let weights = WEIGHTS[random.below(WEIGHTS.len())];
+    let weights = any_weights(random, &POSITIVE);
     let mut graph = graph(random, shape, 256, 32, weights);
-    let most = graph.edges.iter().map(|edge| edge.weight).max().unwrap_or(1);
     let room = 2_048 - graph.edges.len();
     if random.below(2) == 0 {
-        graph.edges.extend(random.graph(256, room, most as usize).edges);
+        let more = pairs(random, 256, room);
+        graph.edges.extend(Graph::new(256, &weighed(random, more, weights)).edges);
     } else {
         let own = graph.edges.clone();
         graph.edges.extend(own.into_iter().cycle().take(room));
@@ -88,11 +91,10 @@ fn full_size(random: &mut Random, shape: Shape) -> Vec<Vec<u8>> {
 }
 
 /// One question with damage at each field and of each length, refused graphs, and k and limits at their ends.
-fn damaged(random: &mut Random) -> Vec<Vec<u8>> {
+fn damaged(random: &mut Random, question: usize) -> Vec<Vec<u8>> {
     let n = random.between(2, 5);
     let m = random.between(1, 4);
-    let good = random.graph(n, m, 9).to_sheet();
-    let question = random.between(1, 4);
+    let good = random.any_graph(n, m, 9).to_sheet();
     let (k, limit) = (random.between(1, 2), random.between(0, 12) as u64);
     let whole = input(question, k, limit, &good);
     let mut all = changed_fields(random, &whole);

@@ -58,7 +58,7 @@ pub fn full_size(random: &mut Random, shape: Shape, weights: Weights) -> Graph {
 }
 
 /// A tree of 256 vertices, numbered from its root on: with one root a path is as deep as a tree can be.
-pub fn deepest(random: &mut Random, shape: Shape) -> Graph {
+pub fn deepest(random: &mut Random, shape: Shape, weights: Weights) -> Graph {
     let ends = ends(random, shape, 256, 0);
-    Graph::new(256, &weighed(random, ends, Weights::Between(1, 9)))
+    Graph::new(256, &weighed(random, ends, weights))
 }

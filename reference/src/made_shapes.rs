@@ -52,7 +52,8 @@ pub enum Weights {
     Either(usize, usize),
 }
 
-pub const WEIGHTS: [Weights; 8] = [
+/// Weights that leave no edge weightless.
+pub const POSITIVE: [Weights; 8] = [
     Weights::Between(1, 1),
     Weights::Between(1, 3),
     Weights::Between(1, 9),
@@ -62,6 +63,21 @@ pub const WEIGHTS: [Weights; 8] = [
     Weights::Between(1, 1_000_000),
     Weights::Either(1, 1_000_000),
 ];
+
+/// Weights that make some edges weightless, or all.
+pub const GATED: [Weights; 5] = [
+    Weights::Between(0, 0),
+    Weights::Between(0, 1),
+    Weights::Between(0, 3),
+    Weights::Either(0, 5),
+    Weights::Either(0, 1_000_000),
+];
+
+/// One of the given weights, or, every fourth time, one of those that make edges weightless.
+pub fn any_weights(random: &mut Random, positive: &[Weights]) -> Weights {
+    let list = if random.below(4) == 0 { &GATED[..] } else { positive };
+    list[random.below(list.len())]
+}
 
 /// Two paths from root 0, of which root 1 is near the far end of the second edge only.
 pub const CHAIN: &[(usize, usize, u64)] = &[(0, 2, 5), (2, 3, 5), (1, 3, 5)];
@@ -136,7 +152,7 @@ pub fn ends(random: &mut Random, shape: Shape, n: usize, k: usize) -> Ends {
 }
 
 /// So many pairs of different vertices; none if there is one vertex only.
-fn pairs(random: &mut Random, n: usize, m: usize) -> Ends {
+pub fn pairs(random: &mut Random, n: usize, m: usize) -> Ends {
     random.graph(n, m, 1).edges.iter().map(|edge| (edge.a, edge.b)).collect()
 }
 
@@ -195,7 +211,8 @@ pub fn damaged_sheets() -> Vec<Vec<u8>> {
     sheets.push(sheet(0, &[]));
     sheets.push(sheet(257, &[]));
     sheets.push(sheet(2, &vec![(0, 1, 1); 2_049]));
-    for bad in [(2, 1, 1), (0, 2, 1), (1, 1, 1), (0, 1, 0), (0, 1, 1_000_001)] {
+    let too_heavy = [(0, 1, 1_000_001), (0, 1, u64::from(u32::MAX))];
+    for bad in [(2, 1, 1), (0, 2, 1), (1, 1, 1)].into_iter().chain(too_heavy) {
         sheets.push(sheet(2, &[bad]));
         sheets.push(sheet(2, &[(0, 1, 1), bad]));
     }

@@ -5,9 +5,10 @@ use crate::cover::{encode as cover_bytes, Tree};
 use crate::districts::Record;
 use crate::graph::{read, sheet, Edge, Graph};
 use crate::made_filings::{around_a_cover, asked, full_size as full_size_filings};
+use crate::made_gates::{at_the_brink, BY_HAND};
 use crate::made_records::{around_best, around_best_for_few_and_many, at, best_of, check_of};
 use crate::made_records::{deepest, full_size, BOTH};
-use crate::made_shapes::{graph, Shape, Weights, SEARCHED, SHAPES};
+use crate::made_shapes::{any_weights, graph, Shape, Weights, SEARCHED, SHAPES};
 use crate::made_trials::at_turns;
 use crate::made_wrong_lists::wrong_lists;
 use crate::question::Kind;
@@ -17,7 +18,7 @@ use crate::surface::{adjust, adjusted};
 /// The lowest and the highest class of each range.
 pub const BORDERS: [u8; 10] = [0, 9, 10, 19, 20, 39, 40, 59, 60, 255];
 
-/// What the edges weigh before they are adjusted.
+/// What the edges weigh before they are adjusted, where none is weightless.
 const WEIGHTS: [Weights; 8] = [
     Weights::Between(1, 1),
     Weights::Between(1, 3),
@@ -34,6 +35,7 @@ pub fn surfaced() -> Vec<Record> {
     let mut random = Random::new(53);
     let mut all = single_edges();
     all.extend(on_sheet_n());
+    all.extend(on_gates());
     all.extend(wrong_lists());
     for (n, k, edges) in SEARCHED {
         all.extend(Listed::new(&mut random, &Graph::new(n, edges)).around_best(&mut random, k));
@@ -109,9 +111,9 @@ fn right_list(random: &mut Random, graph: &Graph) -> Vec<u8> {
     graph.edges.iter().map(class_of).collect()
 }
 
-/// One edge: of every class, and of the classes at the borders with weights where rounding or 54 would show.
+/// One edge: of every class, and of the classes at the borders with weight 0 and weights where rounding or 54 would show.
 fn single_edges() -> Vec<Record> {
-    let weights = [1, 2, 3, 4, 5, 99, 100, 101, 1_000_000];
+    let weights = [0, 1, 2, 3, 4, 5, 99, 100, 101, 1_000_000];
     let near_the_most = [500_000, 500_001, 666_666, 666_667, 833_333, 833_334];
     let mut all = Vec::new();
     for class in 0..=255 {
@@ -159,11 +161,21 @@ fn on_sheet_n() -> Vec<Record> {
     all
 }
 
+/// Weightless edges by hand, at and below the number of trees that a limit of 0 needs.
+fn on_gates() -> Vec<Record> {
+    let mut random = Random::new(54);
+    let listed = BY_HAND.map(|(n, edges)| Listed::new(&mut random, &Graph::new(n, edges)));
+    let around = |listed: &Listed| {
+        BOTH.map(|kind| listed.put(at_the_brink(kind, &listed.adjusted))).concat()
+    };
+    listed.iter().flat_map(around).collect()
+}
+
 /// Both kinds around the best limit of a made graph.
 fn made(random: &mut Random, shape: Shape, turn: usize) -> Vec<Record> {
     let n = random.between(1, if turn % 4 == 3 { 40 } else { 10 });
     let k = random.between(1, n.min(6));
-    let weights = WEIGHTS[random.below(WEIGHTS.len())];
+    let weights = any_weights(random, &WEIGHTS);
     let graph = graph(random, shape, n, k, weights);
     Listed::new(random, &graph).around_best(random, k)
 }
@@ -172,7 +184,7 @@ fn made(random: &mut Random, shape: Shape, turn: usize) -> Vec<Record> {
 fn next_to_changes(random: &mut Random, shape: Shape, turn: usize) -> Vec<Record> {
     let n = random.between(4, 9);
     let k = random.between(1, 3);
-    let weights = WEIGHTS[random.below(WEIGHTS.len())];
+    let weights = any_weights(random, &WEIGHTS);
     let graph = graph(random, shape, n, k, weights);
     Listed::new(random, &graph).at_turns(BOTH[turn % 2], k)
 }
@@ -180,7 +192,7 @@ fn next_to_changes(random: &mut Random, shape: Shape, turn: usize) -> Vec<Record
 /// Filed covers with each kind of damage, and those of full size, each weight of which is doubled to 1,000,000.
 fn filed(random: &mut Random) -> Vec<Record> {
     let mut all = Vec::new();
-    while all.len() < 450 {
+    while all.len() < 500 {
         let (graph, kind, k) = asked(random);
         let listed = Listed::new(random, &graph);
         let filings = around_a_cover(random, &listed.adjusted, kind, k);
@@ -200,7 +212,7 @@ fn filed(random: &mut Random) -> Vec<Record> {
 fn largest(random: &mut Random) -> Vec<Record> {
     let mut all = Vec::new();
     for shape in [Shape::Path, Shape::Star] {
-        let graph = deepest(random, shape);
+        let graph = deepest(random, shape, Weights::Between(1, 9));
         let listed = Listed::new(random, &graph);
         all.extend(listed.put(around_best_for_few_and_many(random, &listed.adjusted)));
     }

@@ -5,10 +5,9 @@ use std::collections::BTreeSet;
 use crate::best;
 use crate::distance::from_roots;
 use crate::graph::{sheet, Graph};
-use crate::made_shapes::{damaged_sheets, ends, graph, mixed, mixed_from, shuffled, weighed};
-use crate::made_shapes::{
-    Edges, Ends, Shape, Weights, CHAIN, CROWD, HALVES, LOOP, SHAPES, WEIGHTS,
-};
+use crate::made_shapes::{any_weights, damaged_sheets, ends, graph, mixed, mixed_from, pairs};
+use crate::made_shapes::{shuffled, weighed, Edges, Ends, Shape, Weights};
+use crate::made_shapes::{CHAIN, CROWD, HALVES, LOOP, POSITIVE, SHAPES};
 use crate::question::{Kind, LIMIT};
 use crate::random::Random;
 use crate::trial::run;
@@ -28,7 +27,7 @@ pub fn trials() -> Vec<Trial> {
     let mut all = smallest();
     all.extend(refused());
     all.extend(tempting(&mut random));
-    for turn in 0..18 {
+    for turn in 0..24 {
         SHAPES.iter().for_each(|&shape| all.extend(small(&mut random, shape, turn)));
     }
     for turn in 0..2 {
@@ -105,7 +104,7 @@ fn small(random: &mut Random, shape: Shape, turn: usize) -> Vec<Trial> {
     let n = random.between(if turn == 0 { 1 } else { 4 }, 10);
     let kind = if turn % 4 < 3 { Kind::Rooted } else { Kind::Unrooted };
     let k = random.between(1, n.min(3));
-    let weights = WEIGHTS[random.below(WEIGHTS.len())];
+    let weights = any_weights(random, &POSITIVE);
     let graph = graph(random, shape, n, k, weights);
     at_turns(kind, &graph, k)
 }
@@ -115,7 +114,7 @@ fn middling(random: &mut Random, shape: Shape, turn: usize) -> Vec<Trial> {
     let n = random.between(12, 40);
     let kind = if turn % 2 == 0 { Kind::Rooted } else { Kind::Unrooted };
     let k = random.between(2, 9);
-    let weights = WEIGHTS[random.below(WEIGHTS.len())];
+    let weights = any_weights(random, &POSITIVE);
     let graph = graph(random, shape, n, k, weights);
     at_turns(kind, &graph, k)
 }
@@ -184,13 +183,15 @@ fn around_best(kind: Kind, graph: &Graph, k: usize) -> Vec<Trial> {
     at_limits(kind, graph, k, limits.into_iter().filter(|&limit| limit <= sum))
 }
 
-/// A path, a star, a caterpillar and a random tree of 256 vertices, both as numbered and with vertices mixed.
+/// A path, a star, a caterpillar and a random tree of 256 vertices, both as numbered and with vertices mixed; mixed ones but
+/// the last have weightless edges.
 fn trees(random: &mut Random) -> Vec<Trial> {
     let mut all = Vec::new();
     for shape in [Shape::Path, Shape::Star, Shape::Caterpillar, Shape::Tree] {
         for (is_mixed, k) in [(false, 7), (true, 32)] {
             let ends = ends(random, shape, 256, k);
-            let graph = made(random, ends, Weights::Between(1, 9), is_mixed);
+            let least = usize::from(!is_mixed || shape == Shape::Tree);
+            let graph = made(random, ends, Weights::Between(least, 9), is_mixed);
             for kind in [Kind::Rooted, Kind::Unrooted] {
                 all.extend(around_best(kind, &graph, k));
             }
@@ -204,13 +205,13 @@ fn full_size(random: &mut Random) -> Vec<Trial> {
     let rows = [
         (Shape::Grid, Weights::Between(1_000_000, 1_000_000), false),
         (Shape::Far, Weights::Between(1, 9), false),
-        (Shape::Path, Weights::Between(1, 1_000_000), true),
+        (Shape::Path, Weights::Between(0, 9), true),
         (Shape::Scattered, Weights::Between(1, 1_000_000), true),
     ];
     let mut all = Vec::new();
     for (shape, weights, is_mixed) in rows {
         let ends = match shape {
-            Shape::Scattered => pairs_of_all(random),
+            Shape::Scattered => pairs(random, 256, 2_048),
             _ => ends(random, shape, 256, 32).into_iter().cycle().take(2_048).collect(),
         };
         let graph = made(random, ends, weights, is_mixed);
@@ -219,11 +220,6 @@ fn full_size(random: &mut Random) -> Vec<Trial> {
         }
     }
     all
-}
-
-/// 2,048 pairs of 256 vertices.
-fn pairs_of_all(random: &mut Random) -> Ends {
-    random.graph(256, 2_048, 1).edges.iter().map(|edge| (edge.a, edge.b)).collect()
 }
 
 /// A graph of 256 vertices with its edges in a random order, its vertices as numbered or mixed.

@@ -20,7 +20,7 @@ pub fn wrong_lists() -> Vec<Record> {
 /// The weights of the three edges of a sheet, and a list of classes.
 type Row = ([u64; 3], &'static [u8]);
 
-const ROWS: [Row; 14] = [
+const ROWS: [Row; 18] = [
     ([3, 3, 5], &[0, 10, 20]),
     ([3, 3, 5], &[]),
     ([3, 3, 5], &[0, 10]),
@@ -36,7 +36,12 @@ const ROWS: [Row; 14] = [
     ([1_000_000, 3, 5], &[40, 0, 0, 40]),
     // Weights that are refused as given.
     ([1_000_001, 3, 5], &[0, 0]),
-    ([3, 3, 0], &[10, 10, 10]),
+    ([3, 3, 1_000_001], &[10, 10, 10]),
+    ([1_000_000, 3, 1_000_001], &[40, 0, 0]),
+    // Weightless edges: any class does, and none makes a wrong list right.
+    ([0, 0, 0], &[19, 39, 59]),
+    ([3, 0, 0], &[10, 20, 255]),
+    ([0, 0, 0], &[40, 40]),
     ([1_000_000, 3, 0], &[40, 0, 0]),
 ];
 

@@ -31,16 +31,31 @@ impl Random {
 
     /// A graph with n vertices, m edges (none if n is 1) and weights from 1 to a most.
     pub fn graph(&mut self, n: usize, m: usize, most: usize) -> Graph {
-        let m = if n == 1 { 0 } else { m };
-        let edges = (0..m).map(|_| self.edge(n, most)).collect();
-        Graph { n, edges }
+        self.graph_of(n, m, |random| random.between(1, most))
     }
 
-    /// An edge between two different vertices.
-    fn edge(&mut self, n: usize, most: usize) -> Edge {
-        let a = self.below(n);
-        let b = (a + 1 + self.below(n - 1)) % n;
-        let weight = self.between(1, most) as u64;
-        Edge { a, b, weight }
+    /// The same, but about half of the edges are weightless.
+    pub fn gated_graph(&mut self, n: usize, m: usize, most: usize) -> Graph {
+        self.graph_of(n, m, |random| random.below(2) * random.between(1, most))
+    }
+
+    /// One of the two: about every fourth has weightless edges.
+    pub fn any_graph(&mut self, n: usize, m: usize, most: usize) -> Graph {
+        if self.below(4) == 0 {
+            self.gated_graph(n, m, most)
+        } else {
+            self.graph(n, m, most)
+        }
+    }
+
+    /// A graph with n vertices and m edges (none if n is 1), each of which joins two different vertices.
+    fn graph_of(&mut self, n: usize, m: usize, weight: impl Fn(&mut Random) -> usize) -> Graph {
+        let m = if n == 1 { 0 } else { m };
+        let edge = |_| {
+            let a = self.below(n);
+            let b = (a + 1 + self.below(n - 1)) % n;
+            Edge { a, b, weight: weight(self) as u64 }
+        };
+        Graph { n, edges: (0..m).map(edge).collect() }
     }
 }

@@ -6,7 +6,7 @@ use crate::distance::{closest, from_roots, path};
 use crate::forest::{lowest_unjoined, thin};
 use crate::graph::Graph;
 use crate::question::Kind;
-use crate::split::at_limit;
+use crate::split::{at_limit, Split};
 use crate::trial::Outcome;
 
 /// Everything a rooted trial fixes before the parts are assigned.
@@ -25,11 +25,15 @@ pub struct Plan {
 /// Plans a rooted trial, or gives the lowest vertex joined to no root.
 pub fn plan(graph: &Graph, k: usize, limit: u64) -> Result<Plan, usize> {
     let (forest, split) = at_limit(Kind::Rooted, graph, k, limit);
-    if let Some(vertex) = lowest_unjoined(&forest, k) {
-        return Err(vertex);
+    match lowest_unjoined(&forest, k) {
+        Some(vertex) => Err(vertex),
+        None => Ok(plan_of(graph, limit, split, from_roots(graph, k))),
     }
-    let distance = from_roots(graph, k);
-    let mut allowed = Vec::with_capacity(split.parts.len() * k);
+}
+
+/// The plan of parts and leftovers with the distances from the roots.
+pub fn plan_of(graph: &Graph, limit: u64, split: Split, distance: Vec<Vec<Option<u64>>>) -> Plan {
+    let mut allowed = Vec::with_capacity(split.parts.len() * distance.len());
     for part in &split.parts {
         let ends = graph.ends(&part.edges);
         for from_root in &distance {
@@ -37,29 +41,29 @@ pub fn plan(graph: &Graph, k: usize, limit: u64) -> Result<Plan, usize> {
             allowed.push(u8::from(near));
         }
     }
-    Ok(Plan { parts: split.parts, left: split.left, distance, allowed })
+    Plan { parts: split.parts, left: split.left, distance, allowed }
 }
 
 /// Runs a rooted trial at a limit.
 pub fn run(graph: &Graph, k: usize, limit: u64) -> Outcome {
-    let plan = match plan(graph, k, limit) {
-        Ok(plan) => plan,
-        Err(vertex) => return Outcome::Stop(vertex),
-    };
-    let p = plan.parts.len();
-    let mut bytes = vec![0; p];
-    match assign(p, k, &plan.allowed, &mut bytes) {
-        Assigned::Roots => Outcome::Cover(trees(graph, k, &plan, &bytes)),
-        Assigned::Deficient => deficient(k, &plan, &bytes),
-        Assigned::Refused(_) => unreachable!("at most 255 parts and 32 roots"),
+    match plan(graph, k, limit) {
+        Ok(plan) => carry_out(k, &plan, |root, part| tree(graph, &plan, root, part)),
+        Err(vertex) => Outcome::Stop(vertex),
     }
 }
 
-/// The tree of every root, given the root of every part.
-fn trees(graph: &Graph, k: usize, plan: &Plan, root_of: &[u8]) -> Vec<Tree> {
-    let part_of = |root: usize| root_of.iter().position(|&r| usize::from(r) == root);
-    let tree = |root: usize| tree(graph, plan, root, part_of(root));
-    (0..k).map(tree).collect()
+/// Assigns the parts of a plan; the trees are those given for each root and its part if any.
+pub fn carry_out(k: usize, plan: &Plan, tree: impl Fn(usize, Option<usize>) -> Tree) -> Outcome {
+    let p = plan.parts.len();
+    let mut bytes = vec![0; p];
+    match assign(p, k, &plan.allowed, &mut bytes) {
+        Assigned::Roots => {
+            let part_of = |root: usize| bytes.iter().position(|&r| usize::from(r) == root);
+            Outcome::Cover((0..k).map(|root| tree(root, part_of(root))).collect())
+        }
+        Assigned::Deficient => deficient(k, plan, &bytes),
+        Assigned::Refused(_) => unreachable!("at most 255 parts and 32 roots"),
+    }
 }
 
 /// The tree of one root: its part if any, one shortest path to it and its leftover, thinned.
@@ -71,7 +75,7 @@ pub fn tree(graph: &Graph, plan: &Plan, root: usize, part: Option<usize>) -> Tre
         let nearest = closest(distance, &graph.ends(edges));
         let (_, vertex) = nearest.expect("an assigned part is near its root");
         union.extend(edges);
-        union.extend(path(graph, distance, vertex));
+        union.extend(path(graph, root, vertex));
     }
     union.sort_unstable();
     union.dedup();

@@ -11,10 +11,15 @@ use crate::trial::Outcome;
 pub fn run(graph: &Graph, k: usize, limit: u64) -> Outcome {
     let (forest, split) = at_limit(Kind::Unrooted, graph, k, limit);
     let needed = needs(graph, &forest, limit);
+    carry_out(graph, k, &forest, split, needed)
+}
+
+/// The trees of parts and leftovers, unless more are needed than may be.
+pub fn carry_out(graph: &Graph, k: usize, forest: &Forest, split: Split, needed: u64) -> Outcome {
     if needed > k as u64 {
         return Outcome::Needs(needed);
     }
-    Outcome::Cover(trees(graph, &forest, split))
+    Outcome::Cover(trees(graph, forest, split))
 }
 
 /// The number of trees needed: for each component 1 plus its weight over twice the limit, rounded down.

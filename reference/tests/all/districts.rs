@@ -209,11 +209,11 @@ fn what_is_printed_whole_leaves_no_choice() {
     let mut random = Random::new(45);
     // Covers and "too low parts", printed whole or not; and how often "not" was right.
     let (mut fixed, mut free, mut many) = ([0; 2], [0; 2], [0; 2]);
-    for _ in 0..4_000 {
+    for _ in 0..6_000 {
         let n = random.between(2, 6);
         let k = random.between(1, n.min(3));
         let m = random.between(n - 1, 8);
-        let graph = random.graph(n, m, 9);
+        let graph = random.any_graph(n, m, 9);
         let limit = random.between(1, 14) as u64;
         let all = all_replies(&graph, k, limit);
         let which = match all[0].0 {

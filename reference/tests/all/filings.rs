@@ -95,7 +95,7 @@ fn filings_are_answered_as_by_the_second_reading() {
     let mut met = [0; 6];
     for _ in 0..200_000 {
         let (n, m) = (random.between(1, 5), random.between(0, 6));
-        let graph = random.graph(n, m, 9);
+        let graph = random.any_graph(n, m, 9);
         let kind = BOTH[random.below(2)];
         let k = random.between(1, n.min(3));
         let (starts, entries) = random_filing(&mut random, &graph, k);

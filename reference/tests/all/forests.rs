@@ -4,7 +4,7 @@ use reference::cover::Tree;
 use reference::distance;
 use reference::forest::{by_weight, components, lowest_unjoined, rooted, thin, tops, unrooted};
 use reference::graph::Graph;
-use reference::made_shapes::{graph, SHAPES, WEIGHTS};
+use reference::made_shapes::{any_weights, graph, POSITIVE, SHAPES};
 use reference::random::Random;
 use reference::split::split;
 
@@ -188,7 +188,7 @@ fn parts_lie_between_the_threshold_and_twice_it() {
     let mut random = Random::new(3);
     for _ in 0..2000 {
         let (n, m) = (random.between(2, 12), random.between(1, 20));
-        let graph = random.graph(n, m, 9);
+        let graph = random.any_graph(n, m, 9);
         let limit = random.between(1, 20) as u64;
         let forest = unrooted(&graph, limit);
         let threshold = limit * random.between(1, 2) as u64;
@@ -214,7 +214,7 @@ fn forests_are_lightest_among_all_that_join_as_much() {
     let mut random = Random::new(4);
     for _ in 0..500 {
         let (n, m) = (random.between(2, 6), random.between(1, 8));
-        let graph = random.graph(n, m, 4);
+        let graph = random.any_graph(n, m, 4);
         let forest = unrooted(&graph, 4);
         let pieces = components(&forest).len();
         for set in 0usize..1 << m {
@@ -234,7 +234,7 @@ fn distances_by_hand() {
     let from_0 = distance::from(&graph, 0);
     assert_eq!(distance::closest(&from_0, &[1, 3]), Some((5, 1)));
     assert_eq!(distance::closest(&from_0, &[4]), None);
-    assert_eq!(distance::path(&graph, &from_0, 3), [3, 2, 1]);
+    assert_eq!(distance::path(&graph, 0, 3), [3, 2, 1]);
 }
 
 #[test]
@@ -250,25 +250,44 @@ fn distances_from_roots_by_hand() {
     }
 }
 
+/// Asserts that edges walked back from a vertex lead to the root and come to no vertex twice.
+fn assert_leads_back(graph: &Graph, root: usize, vertex: usize, path: &[usize]) {
+    let mut stops = vec![vertex];
+    for &e in path {
+        let (edge, here) = (graph.edges[e], stops[stops.len() - 1]);
+        assert!(here == edge.a || here == edge.b, "from {root} to {vertex} of {graph:?}");
+        stops.push(edge.a + edge.b - here);
+    }
+    assert_eq!(stops.last(), Some(&root), "to {vertex} of {graph:?}");
+    stops.sort_unstable();
+    assert!(stops.windows(2).all(|pair| pair[0] < pair[1]), "from {root} to {vertex}: {path:?}");
+}
+
 #[test]
 fn paths_walked_back_weigh_the_distances() {
     let mut random = Random::new(61);
-    let mut unreached = 0;
+    let (mut unreached, mut as_near) = (0, 0);
     for turn in 0..20 {
         for shape in SHAPES {
             let n = random.between(1, if turn == 0 { 256 } else { 40 });
             let k = random.between(1, n.min(5));
-            let weights = WEIGHTS[random.below(WEIGHTS.len())];
+            let weights = any_weights(&mut random, &POSITIVE);
             let graph = graph(&mut random, shape, n, k, weights);
             for (root, from_root) in distance::from_roots(&graph, k).iter().enumerate() {
-                assert_eq!(from_root.iter().position(|&d| d == Some(0)), Some(root));
+                assert_eq!(from_root[root], Some(0));
                 for (v, due) in from_root.iter().enumerate() {
-                    let walked = due.map(|_| graph.weight(&distance::path(&graph, from_root, v)));
-                    assert_eq!(walked, *due, "{shape:?}: from {root} to {v} of {graph:?}");
-                    unreached += usize::from(due.is_none());
+                    let Some(due) = *due else {
+                        unreached += 1;
+                        continue;
+                    };
+                    let path = distance::path(&graph, root, v);
+                    assert_eq!(graph.weight(&path), due, "{shape:?}: {root} to {v} of {graph:?}");
+                    assert_leads_back(&graph, root, v, &path);
+                    as_near += usize::from(v != root && due == 0);
                 }
             }
         }
     }
     assert!(unreached > 1_000, "{unreached} vertices without a distance");
+    assert!(as_near > 1_000, "{as_near} vertices as near as the root itself");
 }

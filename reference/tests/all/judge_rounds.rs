@@ -11,7 +11,7 @@ use reference::graph::{read, Graph};
 use reference::judge_rounds::{judge_rounds, run_program, Judged};
 use reference::made_questions::inputs;
 use reference::question::Kind;
-use reference::rounds::{question, rounds};
+use reference::rounds::{question, rounds, Question};
 use reference::trial::{run, Outcome};
 
 /// The program `rounds` of this package.
@@ -110,6 +110,29 @@ fn wrong_programs_do_not_pass() {
     for (name, program) in rows {
         let said = judge_rounds(1, |input| Ok(program(input)));
         assert!(!said.wrong.is_empty(), "{name}: {} right", said.right);
+    }
+}
+
+#[test]
+fn programs_that_misread_weight_0_do_not_pass() {
+    type Program = fn(&[u8]) -> String;
+    let rows: [(&str, Program); 2] = [
+        ("refuses weight 0", |input| match question(input).map(|asked| read(asked.sheet)) {
+            Ok(Ok(graph)) if graph.edges.iter().any(|edge| edge.weight == 0) => {
+                "refused 16\n".to_string()
+            }
+            _ => rounds(input),
+        }),
+        ("takes limit 0 for 1", |input| match question(input) {
+            Ok(Question { limit: Some(0), .. }) => {
+                asked(input, |other| other[4] = 1).replacen("cover 1 ", "cover 0 ", 1)
+            }
+            _ => rounds(input),
+        }),
+    ];
+    for (name, program) in rows {
+        let said = judge_rounds(1, |input| Ok(program(input)));
+        assert!(said.wrong.len() > 3, "{name}: {} right, {} wrong", said.right, said.wrong.len());
     }
 }
 

@@ -11,8 +11,9 @@ use reference::random::Random;
 use reference::trial::trial;
 
 /// A connected graph: every vertex is joined to a lower one near it, and more edges are added.
-fn connected(random: &mut Random, n: usize, m: usize, near: usize, most: usize) -> Graph {
-    let weight = |random: &mut Random| random.between(1, most) as u64;
+fn connected(random: &mut Random, m: usize, near: usize, (least, most): (usize, usize)) -> Graph {
+    let n = 256;
+    let weight = |random: &mut Random| random.between(least, most) as u64;
     let mut edges: Vec<(usize, usize, u64)> =
         (1..n).map(|v| (v - 1 - random.below(v.min(near)), v, weight(random))).collect();
     while edges.len() < m {
@@ -22,11 +23,19 @@ fn connected(random: &mut Random, n: usize, m: usize, near: usize, most: usize) 
     Graph::new(n, &edges)
 }
 
-/// Long and short graphs of 256 vertices with few and many edges.
+/// Long and short graphs of 256 vertices with few and many edges, none of them weightless, or some.
 fn large_graphs() -> Vec<Graph> {
     let mut random = Random::new(51);
-    let shapes = [(255, 1, 9), (255, 256, 1_000_000), (600, 4, 50), (2048, 30, 1_000_000)];
-    shapes.map(|(m, near, most)| connected(&mut random, 256, m, near, most)).to_vec()
+    let shapes = [
+        (255, 1, (1, 9)),
+        (255, 256, (1, 1_000_000)),
+        (600, 4, (1, 50)),
+        (2048, 30, (1, 1_000_000)),
+        (255, 1, (0, 3)),
+        (600, 4, (0, 2)),
+        (2048, 3, (0, 9)),
+    ];
+    shapes.map(|(m, near, weights)| connected(&mut random, m, near, weights)).to_vec()
 }
 
 /// Judges an answer, checks its cover and gives the heaviest weight if there is one.

@@ -1,7 +1,7 @@
 //! The made questions to programs `rounds`: what every round meets, and what three thousand of them meet.
 
 use reference::bytes::two;
-use reference::forest::{components, unrooted};
+use reference::forest::{components, thin, unrooted};
 use reference::graph::{read, Graph};
 use reference::made_questions::inputs;
 use reference::rounds::{question, rounds};
@@ -112,4 +112,30 @@ fn three_thousand_questions_meet_every_kind_of_graph() {
     }
     let malformed = all.iter().filter(|input| question(input).is_err()).count();
     assert!(malformed > 200, "{malformed} malformed");
+}
+
+/// The weightless edges.
+fn weightless(graph: &Graph) -> Vec<usize> {
+    (0..graph.edges.len()).filter(|&e| graph.edges[e].weight == 0).collect()
+}
+
+#[test]
+fn three_thousand_questions_meet_weightless_edges() {
+    let graphs = three_thousand().1;
+    let rows: [(&str, fn(&Graph) -> bool); 3] = [
+        ("weightless edges beside others", |graph| {
+            (1..graph.edges.len()).contains(&weightless(graph).len())
+        }),
+        ("a loop of weightless edges", |graph| {
+            let edges = weightless(graph);
+            thin(graph, &edges).len() < edges.len()
+        }),
+        ("weightless edges at full size", |graph| {
+            graph.edges.len() == 2_048 && !weightless(graph).is_empty()
+        }),
+    ];
+    for (name, property) in rows {
+        let count = graphs.iter().filter(|graph| property(graph)).count();
+        assert!(count >= 10, "{name}: {count} of {}", graphs.len());
+    }
 }

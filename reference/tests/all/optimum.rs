@@ -11,13 +11,16 @@ use reference::question::{Answer, Kind};
 use reference::random::Random;
 use reference::trial::trial;
 
-const GRAPHS: usize = 2000;
+const GRAPHS: usize = 2_700;
+
+/// A way to draw a graph with so many vertices and edges, and weights up to a most.
+type Draw = fn(&mut Random, usize, usize, usize) -> Graph;
 
 /// A small graph: up to 6 vertices, up to 8 edges, light or mixed weights.
-fn small_graph(random: &mut Random) -> Graph {
+fn small_graph(random: &mut Random, draw: Draw) -> Graph {
     let (n, m) = (random.between(1, 6), random.between(0, 8));
     let most = [1, 3, 9][random.below(3)];
-    random.graph(n, m, most)
+    draw(random, n, m, most)
 }
 
 /// How often each answer was met, so that no test passes on nothing.
@@ -43,11 +46,14 @@ impl Met {
     }
 }
 
-/// Runs one test on every small graph, kind and tree count, with the optimum.
-fn on_small_graphs(seed: u64, mut test: impl FnMut(Kind, &Graph, u64, Option<u64>)) {
+/// Runs one test on so many small graphs, each kind and tree count, with the optimum.
+fn on_small_graphs(
+    (seed, graphs, draw): (u64, usize, Draw),
+    mut test: impl FnMut(Kind, &Graph, u64, Option<u64>),
+) {
     let mut random = Random::new(seed);
-    for _ in 0..GRAPHS {
-        let graph = small_graph(&mut random);
+    for _ in 0..graphs {
+        let graph = small_graph(&mut random, draw);
         for kind in BOTH {
             let most = if kind == Kind::Rooted { graph.n.min(3) } else { 3 };
             for k in 1..=most {
@@ -63,12 +69,12 @@ fn assert_cover(kind: Kind, sheet: &[u8], k: u64, lent: &[u8], heaviest: u64) {
     assert_eq!(check(kind, sheet, k, &lent[..length]), Ok(heaviest), "{sheet:?}");
 }
 
-#[test]
-fn trials_at_every_limit() {
+/// Asks for a trial at every limit of drawn graphs, and gives how often each answer was met.
+fn at_every_limit(drawn: (u64, usize, Draw)) -> Met {
     let mut met = Met::default();
     let before = buffer();
     let mut lent = before.clone();
-    on_small_graphs(21, |kind, graph, k, least| {
+    on_small_graphs(drawn, |kind, graph, k, least| {
         let sheet = graph.to_sheet();
         for limit in 0..=graph.total() + 1 {
             lent[..600].copy_from_slice(&before[..600]);
@@ -88,16 +94,29 @@ fn trials_at_every_limit() {
             assert_eq!(judged, Ok(()), "{kind:?} k {k} {limit} {graph:?}");
         }
     });
+    met
+}
+
+#[test]
+fn trials_at_every_limit() {
+    let met = at_every_limit((21, GRAPHS, Random::any_graph));
     let enough = met.cover.min(met.stop).min(met.parts).min(met.needs);
     assert!(enough > 900 && met.no_cover == 0, "{met:?}");
 }
 
 #[test]
-fn best_limits() {
+fn trials_with_weightless_edges() {
+    let met = at_every_limit((24, 2_000, Random::gated_graph));
+    let enough = met.cover.min(met.stop).min(met.parts).min(met.needs);
+    assert!(enough > 100 && met.no_cover == 0, "{met:?}");
+}
+
+/// Asks for the best limits of drawn graphs, and gives how often each answer was met.
+fn at_best_limits(drawn: (u64, usize, Draw)) -> Met {
     let mut met = Met::default();
     let before = buffer();
     let mut lent = before.clone();
-    on_small_graphs(22, |kind, graph, k, least| {
+    on_small_graphs(drawn, |kind, graph, k, least| {
         let sheet = graph.to_sheet();
         lent[..600].copy_from_slice(&before[..600]);
         let answer = best(kind, &sheet, k, &mut lent);
@@ -115,6 +134,18 @@ fn best_limits() {
         let reply = Reply { answer: &answer, before: &before, after: &lent };
         assert_eq!(judge::best(kind, &sheet, k, reply), Ok(()), "{kind:?} k {k} {graph:?}");
     });
+    met
+}
+
+#[test]
+fn best_limits() {
+    let met = at_best_limits((22, GRAPHS, Random::any_graph));
+    assert!(met.cover > 2000 && met.no_cover > 2000, "{met:?}");
+}
+
+#[test]
+fn best_limits_with_weightless_edges() {
+    let met = at_best_limits((25, 3_000, Random::gated_graph));
     assert!(met.cover > 2000 && met.no_cover > 2000, "{met:?}");
 }
 
@@ -154,7 +185,7 @@ fn the_optimum_is_the_least_of_all_filed_covers() {
     let mut random = Random::new(23);
     for _ in 0..120 {
         let (n, m) = (random.between(1, 4), random.between(0, 4));
-        let graph = random.graph(n, m, 5);
+        let graph = random.any_graph(n, m, 5);
         for kind in BOTH {
             for k in 1..=n.min(2) {
                 let least = least_by_filing(kind, &graph, k);

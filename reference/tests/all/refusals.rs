@@ -17,42 +17,58 @@ fn bad_sheets() -> Vec<(&'static str, Vec<u8>, u16)> {
         bytes
     };
     let shorter = |bytes: Vec<u8>| bytes[..bytes.len() - 1].to_vec();
-    let many = |n| sheet(n, &vec![(9, 9, 0); 2049]);
+    let many = |n| sheet(n, &vec![(9, 9, 1_000_001); 2049]);
     vec![
         ("empty", vec![], 11),
         ("three bytes", vec![0, 0, 0], 11),
         ("one byte more", longer(sheet_n()), 11),
         ("one byte less", shorter(sheet_n()), 11),
-        ("one byte more, n 0", longer(sheet(0, &[(9, 9, 0)])), 11),
+        ("one byte more, n 0", longer(sheet(0, &[(9, 9, 1_000_001)])), 11),
         ("too long, m above", longer(many(0)), 11),
         ("length of no edge, m 1", vec![2, 0, 1, 0], 11),
         ("n 0", sheet(0, &[]), 12),
         ("n 257", sheet(257, &[]), 12),
         ("n 65535", sheet(65_535, &[]), 12),
         ("n 0, m above", many(0), 12),
-        ("n 257, bad edge", sheet(257, &[(9, 9, 0)]), 12),
+        ("n 257, bad edge", sheet(257, &[(9, 9, 1_000_001)]), 12),
         ("m 2049", sheet(4, &vec![(0, 1, 1); 2049]), 13),
         ("m 2049, bad edges", many(4), 13),
         ("first end n", sheet(4, &[(4, 1, 1)]), 14),
         ("second end n", sheet(4, &[(1, 4, 1)]), 14),
         ("end 65535", sheet(256, &[(1, 65_535, 1)]), 14),
-        ("ends n, equal, weight 0", sheet(4, &[(4, 4, 0)]), 14),
+        ("ends n, equal, weight 1,000,001", sheet(4, &[(4, 4, 1_000_001)]), 14),
         ("equal ends", sheet(4, &[(3, 3, 1)]), 15),
-        ("equal ends, weight 0", sheet(4, &[(3, 3, 0)]), 15),
-        ("weight 0", sheet(4, &[(0, 1, 0)]), 16),
+        ("equal ends, weight 1,000,001", sheet(4, &[(3, 3, 1_000_001)]), 15),
         ("weight 1,000,001", sheet(4, &[(0, 1, 1_000_001)]), 16),
+        ("weight 16,777,216", sheet(4, &[(0, 1, 1 << 24)]), 16),
         ("weight all ones", sheet(4, &[(0, 1, 4_294_967_295)]), 16),
-        ("16 before a later 14", sheet(4, &[(0, 1, 0), (4, 1, 1)]), 16),
+        ("16 before a later 14", sheet(4, &[(0, 1, 1_000_001), (4, 1, 1)]), 16),
         ("15 before a later 14", sheet(4, &[(1, 1, 1), (4, 1, 1)]), 15),
-        ("16 before a later 15", sheet(4, &[(0, 1, 0), (1, 1, 1)]), 16),
+        ("16 before a later 15", sheet(4, &[(0, 1, 1_000_001), (1, 1, 1)]), 16),
         ("14 of a later edge", sheet(4, &[(0, 1, 1), (4, 1, 1)]), 14),
-        ("16 of the last edge", sheet(4, &[(0, 1, 1), (0, 1, 0)]), 16),
+        ("16 of the last edge", sheet(4, &[(0, 1, 1), (0, 1, 1_000_001)]), 16),
+    ]
+}
+
+/// Bad sheets in which weight 0 stands beside the fault: it is none itself, and hides none.
+fn bad_beside_weight_0() -> Vec<(&'static str, Vec<u8>, u16)> {
+    vec![
+        ("one byte more, weight 0", [sheet(2, &[(0, 1, 0)]), vec![0]].concat(), 11),
+        ("n 257, weight 0", sheet(257, &[(0, 1, 0)]), 12),
+        ("m 2049, weights 0", sheet(4, &vec![(0, 1, 0); 2049]), 13),
+        ("end n, weight 0", sheet(4, &[(4, 1, 0)]), 14),
+        ("ends n, equal, weight 0", sheet(4, &[(4, 4, 0)]), 14),
+        ("equal ends, weight 0", sheet(4, &[(3, 3, 0)]), 15),
+        ("14 behind a weight 0", sheet(4, &[(0, 1, 0), (4, 1, 1)]), 14),
+        ("15 behind a weight 0", sheet(4, &[(0, 1, 0), (1, 1, 1)]), 15),
+        ("16 behind a weight 0", sheet(4, &[(0, 1, 0), (0, 1, 1_000_001)]), 16),
+        ("16 before a weight 0", sheet(4, &[(0, 1, 1_000_001), (0, 1, 0)]), 16),
     ]
 }
 
 #[test]
 fn sheets_are_refused_before_everything_else() {
-    for (name, bytes, number) in bad_sheets() {
+    for (name, bytes, number) in bad_sheets().into_iter().chain(bad_beside_weight_0()) {
         assert_eq!(read(&bytes), Err(number), "{name}");
         for kind in BOTH {
             for (k, limit, room) in [(1, 1, BUFFER), (0, LIMIT + 1, 0), (99, 0, 5)] {
@@ -76,6 +92,11 @@ fn good_sheets_at_the_edges_of_the_ranges_are_read() {
         sheet(1, &[]),
         sheet(256, &[(255, 0, 1), (0, 255, 1_000_000)]),
         sheet(2, &vec![(0, 1, 1_000_000); 2048]),
+        sheet(2, &[(0, 1, 0)]),
+        sheet(4, &[(0, 1, 1_000_000), (3, 2, 0)]),
+        sheet(4, &[(3, 2, 0), (0, 1, 1), (3, 2, 0)]),
+        sheet(2, &vec![(0, 1, 0); 2048]),
+        sheet(256, &[vec![(0, 255, 1_000_000); 2047], vec![(255, 0, 0)]].concat()),
     ];
     for bytes in rows {
         assert_eq!(read(&bytes).map(|graph| graph.to_sheet()), Ok(bytes));

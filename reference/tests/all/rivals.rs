@@ -8,7 +8,7 @@ use reference::best::best;
 use reference::bytes::two;
 use reference::cover::filed_length;
 use reference::graph::Graph;
-use reference::made_shapes::{graph, SHAPES, WEIGHTS};
+use reference::made_shapes::{graph, Weights, GATED, POSITIVE, SHAPES};
 use reference::optimum::Shape;
 use reference::question::{Answer, Kind};
 use reference::random::Random;
@@ -43,24 +43,40 @@ fn worse(one: (u64, u64), other: (u64, u64)) -> (u64, u64) {
     }
 }
 
-/// The worst ratio met of each kind is 34 : 12 with roots and 10 : 3 without.
-#[test]
-fn our_longest_walk_is_within_eight_times() {
+/// Compares on made graphs with these weights: the worst ratio met of each kind, and how often nobody's walks need be longer
+/// than 0, nor are ours.
+fn on_made_graphs(turns: usize, weights: &[Weights]) -> ([(u64, u64); 2], [usize; 2]) {
     let mut random = Random::new(71);
-    let mut worst = [(1, 1); 2];
-    for turn in 0..400 {
+    let (mut worst, mut of_no_length) = ([(1, 1); 2], [0; 2]);
+    for turn in 0..turns {
         for shape in SHAPES {
             let n = random.between(2, if turn % 4 == 0 { 8 } else { 6 });
             let most = random.between(1, n.min(4));
-            let weights = WEIGHTS[random.below(WEIGHTS.len())];
+            let weights = weights[random.below(weights.len())];
             let graph = graph(&mut random, shape, n, most, weights);
             for (kind, k) in BOTH.into_iter().flat_map(|kind| (1..=most).map(move |k| (kind, k))) {
                 let pair = compared(kind, &graph, k).unwrap_or((1, 1));
                 worst[kind as usize] = worse(worst[kind as usize], pair);
+                of_no_length[kind as usize] += usize::from(pair == (0, 0));
             }
         }
     }
-    assert_eq!(worst, [(34, 12), (10, 3)]);
+    (worst, of_no_length)
+}
+
+/// The worst ratio met of each kind is 34 : 12 with roots and 10 : 3 without.
+#[test]
+fn our_longest_walk_is_within_eight_times() {
+    assert_eq!(on_made_graphs(400, &POSITIVE).0, [(34, 12), (10, 3)]);
+}
+
+/// The worst ratio met with weightless edges is 10 : 4 with roots and 16 : 6 without. Where the rivals' longest walk can have
+/// length 0, ours has.
+#[test]
+fn our_longest_walk_is_within_eight_times_with_weightless_edges() {
+    let (worst, of_no_length) = on_made_graphs(200, &GATED);
+    assert_eq!(worst, [(10, 4), (16, 6)]);
+    assert!(of_no_length.iter().all(|&count| count > 1_000), "{of_no_length:?}");
 }
 
 /// The least length of a listed closed walk from each start for each set of vertices, as bits, that it comes to.
@@ -104,7 +120,7 @@ fn the_least_longest_is_that_of_all_listed_walks() {
     let mut met = [0; 2];
     for _ in 0..300 {
         let (n, m) = (random.between(1, 4), random.between(0, 5));
-        let graph = random.graph(n, m, 5);
+        let graph = random.any_graph(n, m, 5);
         let from = listed(&graph);
         for (start, shapes) in from.iter().enumerate() {
             let mut found = closed_walks(&graph, start);

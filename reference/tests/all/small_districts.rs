@@ -121,6 +121,8 @@ fn edges_of_the_allowed_ranges() {
         assert!(matches!(passes, Answer::Cover { limit, heaviest } if (limit, heaviest) == cover));
         let refused = trial(kind, &heavy(1_000_001), 1, 1_000_000, &mut lent);
         assert_eq!(refused, Answer::Refused(16));
+        let weightless = Answer::Cover { limit: 0, heaviest: 0 };
+        assert_eq!(trial(kind, &heavy(0), 1, 0, &mut lent), weightless);
         assert_eq!(trial(kind, &sheet(4, N), 2, 3, &mut short), Answer::Refused(23));
         assert_eq!(best(kind, &sheet(4, N), 2, &mut short), Answer::Refused(23));
     }

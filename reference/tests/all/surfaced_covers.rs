@@ -30,7 +30,7 @@ impl Listed {
     fn new(random: &mut Random, mosts: &[usize]) -> Listed {
         let (n, m) = (random.between(1, 6), random.between(0, 8));
         let most = mosts[random.below(mosts.len())];
-        let graph = random.graph(n, m, most);
+        let graph = random.any_graph(n, m, most);
         let class = |_| BORDERS[random.below(BORDERS.len())];
         let classes: Vec<u8> = graph.edges.iter().map(class).collect();
         let due = graph_due(&graph, &classes);
@@ -164,7 +164,7 @@ fn best_limits() {
 fn other_covers_are_checked_by_the_weights_due() {
     let mut random = Random::new(95);
     let (mut differing, mut of_another_tree) = (0, 0);
-    for _ in 0..2_000 {
+    for _ in 0..3_000 {
         let listed = Listed::new(&mut random, &[3, 9, 400_000]);
         let graph = read(&listed.sheet).expect("a right sheet");
         for (kind, k) in listed.crews() {
@@ -189,7 +189,7 @@ fn other_covers_are_checked_by_the_weights_due() {
 fn walks_go_by_the_weights_due() {
     let mut random = Random::new(96);
     let (mut longer, mut compared) = (0, 0);
-    for _ in 0..700 {
+    for _ in 0..1_000 {
         let listed = Listed::new(&mut random, &[1, 9, 400_000]);
         for (kind, k) in listed.crews() {
             let (asked, mut lent) = (k as u64, buffer());

@@ -57,6 +57,7 @@ fn weights_are_rounded_up() {
     for (weight, class, due) in rows {
         assert_eq!(adjusted(weight, class), due, "{weight} of class {class}");
     }
+    (0..=255).for_each(|class| assert_eq!(adjusted(0, class), 0, "class {class}"));
 }
 
 /// A question of every kind: what is brought, k, the limit, the lent buffer's length, a filed cover and one of its trees.
@@ -117,7 +118,7 @@ fn good() -> Vec<u8> {
 fn lists_are_right_or_refused() {
     // Name, the weights of sheet N, the list of classes and the number due, 0 where the list is right.
     type Row = (&'static str, [u64; 3], Option<&'static [u8]>, u16);
-    let rows: [Row; 25] = [
+    let rows: [Row; 26] = [
         ("no list", [3, 3, 5], None, 0),
         ("m bytes", [3, 3, 5], Some(&[0, 10, 255]), 0),
         ("a list of no bytes", [3, 3, 5], Some(&[]), 53),
@@ -140,9 +141,10 @@ fn lists_are_right_or_refused() {
         ("53 before 54, too long", [1_000_000, 3, 5], Some(&[40, 0, 0, 0]), 53),
         ("16 before 53", [1_000_001, 3, 5], Some(&[]), 16),
         ("16 of the weight as given", [1_000_001, 3, 5], Some(&[40, 0, 0]), 16),
-        ("16 before an earlier 54", [1_000_000, 3, 0], Some(&[40, 0, 0]), 16),
-        ("16 before 53 and 54", [1_000_000, 0, 5], Some(&[40; 4]), 16),
-        ("weight 0 stays 0", [3, 0, 5], Some(&[40; 3]), 16),
+        ("16 before an earlier 54", [1_000_000, 3, 1_000_001], Some(&[40, 0, 0]), 16),
+        ("16 before 53 and 54", [1_000_000, 1_000_001, 5], Some(&[40; 4]), 16),
+        ("weight 0 stays 0", [3, 0, 5], Some(&[40; 3]), 0),
+        ("weight 0 of every class", [0, 0, 0], Some(&[10, 20, 255]), 0),
     ];
     for (name, weights, classes, due) in rows {
         let brought = Brought { sheet: &weighed(weights), classes };
@@ -217,7 +219,7 @@ fn a_list_of_no_bytes_is_right_beside_no_lines_only() {
 fn random_question(random: &mut Random, kind: Kind) -> (Vec<u8>, u64, u64, Vec<u8>, usize) {
     let (n, m) = (random.between(1, 7), random.between(0, 11));
     let most = [3, 9, 833_333][random.below(3)];
-    let graph = random.graph(n, m, most);
+    let graph = random.any_graph(n, m, most);
     let k = random.between(1, n.min(3)) as u64;
     let limit = random.below(2 * graph.total() as usize + 1) as u64 / k;
     let mut lent = vec![0; BUFFER];

@@ -8,7 +8,7 @@ use reference::check::check;
 use reference::cover::{decode, encode, gather, Tree};
 use reference::graph::{read, sheet, Graph};
 use reference::made_filings::filings;
-use reference::made_shapes::{graph, SHAPES, WEIGHTS};
+use reference::made_shapes::{any_weights, graph, POSITIVE, SHAPES};
 use reference::question::Kind;
 use reference::random::Random;
 use reference::walk::{walk, WALK_BUFFER};
@@ -51,7 +51,7 @@ fn walks_are_refused_in_order() {
     let apart = filing(&[0, 1], &[(0, 0), (1, 1)]);
     let fallen = filing(&[0, 1], &[(0, 1), (0, 0)]);
     let alone = filing(&[0], &[(0, 0), (0, 1)]);
-    let bad = sheet(4, &[(0, 1, 0)]);
+    let bad = sheet(4, &[(0, 1, 1_000_001)]);
     let n = sheet_n();
     // Name, sheet, k, filed cover, tree, buffer length and the number due (0: a walk).
     type Row<'a> = (&'static str, &'a [u8], u64, &'a [u8], usize, usize, u16);
@@ -189,7 +189,7 @@ fn every_tree_of_made_covers_is_walked() {
         for shape in SHAPES.iter().cycle().take(turns * SHAPES.len()) {
             let n = random.between(least, most);
             let k = random.between(1, n.min(8));
-            let weights = WEIGHTS[random.below(WEIGHTS.len())];
+            let weights = any_weights(&mut random, &POSITIVE);
             let graph: Graph = graph(&mut random, *shape, n, k, weights);
             for kind in BOTH {
                 if let Some((_, trees)) = best::search(kind, &graph, k) {

@@ -66,7 +66,7 @@ fn every_tree_of_some_larger_graphs_has_one_walk() {
     let mut full = 0;
     for _ in 0..40 {
         let m = random.between(4, 7);
-        let graph = random.graph(5, m, 9);
+        let graph = random.any_graph(5, m, 9);
         for tree in every_tree(&graph) {
             assert_only(&graph, &tree);
             full += usize::from(tree.edges.len() == 4);

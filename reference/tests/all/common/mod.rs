@@ -3,8 +3,10 @@
 
 pub mod crossings;
 pub mod other;
+pub mod readings;
 pub mod replies;
 pub mod surfaces;
+pub mod wrong_gates;
 
 use std::sync::OnceLock;
 

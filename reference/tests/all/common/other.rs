@@ -63,29 +63,48 @@ fn other_tree(graph: &Graph, plan: &Plan, root: usize, part: Option<usize>) -> T
         let near = closest(distance, &ends).map(|(near, _)| near);
         let target = ends.iter().rev().find(|&&v| distance[v] == near).expect("a nearest vertex");
         union.extend(edges);
-        union.extend(other_path(graph, distance, *target));
+        union.extend(other_path(graph, distance, root, *target));
     }
     union.sort_unstable();
     union.dedup();
     Tree::new(root, thin(graph, &union))
 }
 
-/// A shortest path, each time by the highest last edge.
-fn other_path(graph: &Graph, distance: &[Option<u64>], target: usize) -> Vec<usize> {
+/// A shortest path from a root, each time by the highest last edge that leads back to the root without coming to a vertex
+/// twice; by weightless edges it may go a long way round.
+fn other_path(graph: &Graph, distance: &[Option<u64>], root: usize, target: usize) -> Vec<usize> {
     let mut path = Vec::new();
-    let mut vertex = target;
-    while distance[vertex] != Some(0) {
-        let last = |&e: &usize| {
-            let edge = graph.edges[e];
-            let before = if edge.a == vertex { edge.b } else { edge.a };
-            let ends_here = edge.a == vertex || edge.b == vertex;
-            ends_here && distance[before].map(|d| d + edge.weight) == distance[vertex]
-        };
-        let e = (0..graph.edges.len()).rev().find(last).expect("a last edge");
-        path.push(e);
-        vertex = graph.edges[e].a + graph.edges[e].b - vertex;
-    }
+    let mut seen = vec![false; graph.n];
+    assert!(is_led_back(graph, distance, root, target, &mut seen, &mut path));
     path
+}
+
+/// Whether the root is come to from a vertex by vertices not seen before; the edges on the way are put behind the path's.
+fn is_led_back(
+    graph: &Graph,
+    distance: &[Option<u64>],
+    root: usize,
+    vertex: usize,
+    seen: &mut Vec<bool>,
+    path: &mut Vec<usize>,
+) -> bool {
+    seen[vertex] = true;
+    if vertex == root {
+        return true;
+    }
+    for (e, edge) in graph.edges.iter().enumerate().rev() {
+        let before = if edge.a == vertex { edge.b } else { edge.a };
+        let is_last = (edge.a == vertex || edge.b == vertex)
+            && distance[before].map(|d| d + edge.weight) == distance[vertex];
+        if is_last && !seen[before] {
+            path.push(e);
+            if is_led_back(graph, distance, root, before, seen, path) {
+                return true;
+            }
+            path.pop();
+        }
+    }
+    false
 }
 
 /// The text of another program `rounds`, which makes these choices.

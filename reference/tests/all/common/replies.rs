@@ -10,10 +10,10 @@ use reference::split::{split, Split};
 pub type Written = (Answer, Vec<u8>);
 
 /// A simple path: its weight, its last vertex and its edges.
-type Path = (u64, usize, Vec<usize>);
+pub type Path = (u64, usize, Vec<usize>);
 
 /// Every simple path from a vertex, the empty one too.
-fn all_paths(graph: &Graph, from: usize) -> Vec<Path> {
+pub fn all_paths(graph: &Graph, from: usize) -> Vec<Path> {
     let mut paths: Vec<(Path, Vec<usize>)> = vec![((0, from, vec![]), vec![from])];
     let mut done = 0;
     while done < paths.len() {
