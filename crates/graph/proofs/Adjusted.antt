@@ -3,6 +3,7 @@
 use Prim.Native.Nat.{ℕ, _*_, _≤_}
 use mathlib.Core.Path.{_≡_}
 use mathlib.Core.Bool.{Bool, true, false, cond}
+use mathlib.Core.Logic.{_↔_}
 use native.Mathlib.Nat.{mul-le-mul}
 use native.Mathlib.Omega.{arith}
 use lib.Dec.{leb}
@@ -41,6 +42,10 @@ module _ (weight class : ℕ) where
 
   pub adjusted-most : adjusted weight class ≤ 2 * weight
   adjusted-most = adjusted-least (2 * weight) (omega (arith, share-range))
+
+  -- so that it is 0 where the weight is 0, whatever the class, and nowhere else (document 02, A.4);
+  pub adjusted-zero : (adjusted weight class ≡ 0) ↔ (weight ≡ 0)
+  adjusted-zero = (λ q. omega (arith, adjusted-no-less), λ q. omega (arith, adjusted-most))
 
   -- at 100 percent it is the weight.
   pub adjusted-same : percentOf class ≡ 100 → adjusted weight class ≡ weight

@@ -13,7 +13,7 @@ use Rattle.graph.specs.Surface.{percentOf, adjusted, classAt, withClass,
 use Rattle.graph.specs.Bytes.{sheetGraph, graphOf}
 use Rattle.graph.specs.Valid.{Valid}
 use Rattle.graph.specs.View.{CountsOf}
-use Rattle.graph.proofs.Adjusted.{adjusted-no-less, adjusted-most, adjusted-same}
+use Rattle.graph.proofs.Adjusted.{adjusted-most, adjusted-same}
 use Rattle.graph.proofs.Decoded.{edge-past}
 
 -- Past the list's end a class counts 100 percent, so that the weight stays.
@@ -72,7 +72,6 @@ module _ (g : Graph) (classes : List ℕ) where
               one-end = rw (vertices-same, one-end-same e) (x .one-end);
               other-end = rw (vertices-same, other-end-same e) (x .other-end);
               no-loop = rw (one-end-same e, other-end-same e) (x .no-loop);
-              weight-some = omega (arith, weight-adjusted e, adjusted-no-less (weightOf g e) (classAt classes e), x .weight-some);
               weight-most = most e h;
             };
       }

@@ -7,12 +7,11 @@ use lib.ListN.{length}
 use Rattle.graph.specs.Graph.{Edge, Graph, edgeCount, edgeAt}
 use Rattle.graph.specs.Bytes.{edgesIn, lengthFor, sheetGraph}
 
--- An edge ("line") within document 01's ranges: it joins two different vertices of n, and weighs 1 to 1,000,000.
+-- An edge ("line") within document 01's ranges: it joins two different vertices of n, and weighs at most 1,000,000.
 pub record ValidEdge (n : ℕ) (x : Edge) : Type 0 where
   pub one-end : x .one < n
   pub other-end : x .other < n
   pub no-loop : x .one ≡ x .other → ⊥
-  pub weight-some : 1 ≤ x .weight
   pub weight-most : x .weight ≤ 1000000
 
 -- A graph within document 01's ranges: 1 to 256 vertices ("stops"), at most 2,048 edges, each of them valid.

@@ -33,13 +33,12 @@ unfolding edgeFault
 edge-valid n x q =
     let ends = quiet-both (leb n (x .one)) (leb n (x .other)) 14 (quiet-each _ q (List·Memᴰ·head refl)) in
     let loop = quiet-if (eqb (x .one) (x .other)) 15 (quiet-each _ q (List·Memᴰ·tail (List·Memᴰ·head refl))) in
-    let range = quiet-both (eqb (x .weight) 0) (ltb 1000000 (x .weight)) 16 (quiet-each _ q (List·Memᴰ·tail (List·Memᴰ·tail (List·Memᴰ·head refl)))) in
+    let range = quiet-if (ltb 1000000 (x .weight)) 16 (quiet-each _ q (List·Memᴰ·tail (List·Memᴰ·tail (List·Memᴰ·head refl)))) in
     record {
       one-end = leb-false n (x .one) (ends .0);
       other-end = leb-false n (x .other) (ends .1);
       no-loop = eqb-false (x .one) (x .other) loop;
-      weight-some = omega (arith, eqb-false (x .weight) 0 (range .0));
-      weight-most = ltb-false 1000000 (x .weight) (range .1);
+      weight-most = ltb-false 1000000 (x .weight) range;
     }
 
 -- The edges of a graph have no fault exactly where each is valid.

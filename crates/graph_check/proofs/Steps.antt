@@ -34,11 +34,6 @@ module _ (n : ℕ) (x : Edge) where
     loop-refused q = simp (lt-leb n (x .one) h, lt-leb n (x .other) k, eq-eqb (x .one) (x .other) q)
 
     module _ (d : x .one ≡ x .other → ⊥) where
-      pub weight-none-refused : x .weight ≡ 0 → edgeFault n x ≡ some 16
-      unfolding edgeFault faultIf firstFault
-      weight-none-refused q =
-          simp (lt-leb n (x .one) h, lt-leb n (x .other) k, ne-eqb (x .one) (x .other) d, eq-eqb (x .weight) 0 q)
-
       pub weight-over-refused : 1000000 < x .weight → edgeFault n x ≡ some 16
       unfolding edgeFault faultIf firstFault
       weight-over-refused q =
@@ -47,7 +42,6 @@ module _ (n : ℕ) (x : Edge) where
             lt-leb n (x .other) k,
             ne-eqb (x .one) (x .other) d,
             lt-ltb 1000000 (x .weight) q,
-            or-true,
           )
 
   pub edge-passed : ValidEdge n x → edgeFault n x ≡ none
@@ -57,7 +51,6 @@ module _ (n : ℕ) (x : Edge) where
         lt-leb n (x .one) (v .one-end),
         lt-leb n (x .other) (v .other-end),
         ne-eqb (x .one) (x .other) (v .no-loop),
-        ne-eqb (x .weight) 0 (omega arith),
         le-ltb 1000000 (x .weight) (v .weight-most),
       )
 

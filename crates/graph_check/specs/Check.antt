@@ -32,13 +32,13 @@ abbrev pub says : Checked → Answer
 says (Counts n m) = yes n m
 says (Refused f) = number (numberOf f)
 
--- One edge ("line") among n vertices: 14 an end not below n, 15 equal ends, 16 weight 0 or above 1,000,000.
+-- One edge ("line") among n vertices: 14 an end not below n, 15 equal ends, 16 weight above 1,000,000.
 unfoldable pub edgeFault : ℕ → Edge → Fault
 edgeFault n e =
     firstFault
     (faultIf (leb n (e .one) || leb n (e .other)) 14
     ∷ faultIf (eqb (e .one) (e .other)) 15
-    ∷ faultIf (eqb (e .weight) 0 || ltb 1000000 (e .weight)) 16
+    ∷ faultIf (ltb 1000000 (e .weight)) 16
     ∷ [])
 
 -- Edge by edge.

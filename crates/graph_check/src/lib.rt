@@ -17,7 +17,7 @@ pub enum Cause {
     End,
     // An edge joins a vertex to itself.
     Loop,
-    // An edge's weight is 0 or too large.
+    // An edge's weight is too large.
     Weight,
 }
 
@@ -60,9 +60,6 @@ fn check_edges(b: &[u8]) -> Checked
         }
         if one == other {
             return Checked::Refused(Cause::Loop);
-        }
-        if w == 0 {
-            return Checked::Refused(Cause::Weight);
         }
         if 1000000 < w {
             return Checked::Refused(Cause::Weight);

@@ -23,12 +23,12 @@ rounded = refl
 unfoldable pub listing : Kind → ℕ → List ℕ → List ℕ → Question
 listing kind k sheet classes = record { kind = kind; k = k; sheet = sheet; classes = some classes }
 
--- Two vertices and an edge: of weight 833,334, and of weight 0.
+-- Two vertices and an edge: of weight 833,334, and of weight 1,000,001.
 unfoldable pub long : List ℕ
 long = 2 ∷ 0 ∷ 1 ∷ 0 ∷ 0 ∷ 0 ∷ 1 ∷ 0 ∷ 54 ∷ 183 ∷ 12 ∷ 0 ∷ []
 
-unfoldable pub weightless : List ℕ
-weightless = 2 ∷ 0 ∷ 1 ∷ 0 ∷ 0 ∷ 0 ∷ 1 ∷ 0 ∷ 0 ∷ 0 ∷ 0 ∷ 0 ∷ []
+unfoldable pub too-long : List ℕ
+too-long = 2 ∷ 0 ∷ 1 ∷ 0 ∷ 0 ∷ 0 ∷ 1 ∷ 0 ∷ 65 ∷ 66 ∷ 15 ∷ 0 ∷ []
 
 -- The cover of sheet N by trees 0 and 1 with edges 0 and 1 in tree 0.
 unfoldable pub filed : List ℕ
@@ -46,9 +46,9 @@ rows =
     ∷ row (check (listing yards 0 long (10 ∷ [])) []) (verdict (number 54))
     ∷ row (check (listing yards 0 long (9 ∷ [])) []) (verdict (number 21))
     ∷ row (check (listing yards 0 long (10 ∷ 10 ∷ [])) []) (verdict (number 53))
-    ∷ row (check (listing yards 0 weightless []) []) (verdict (number 16))
+    ∷ row (check (listing yards 0 too-long []) []) (verdict (number 16))
     ∷ []
 
 pub surfaced-rows : map (λ (r : Row). answer (r .asked)) rows ≡ map (λ (r : Row). r .expected) rows
-unfolding N tree nothing answer row listing long weightless filed rows
+unfolding N tree nothing answer row listing long too-long filed rows
 surfaced-rows = refl

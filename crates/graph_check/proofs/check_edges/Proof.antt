@@ -10,7 +10,7 @@ use Rattle.graph.specs.Bytes.{sheetGraph}
 use Rattle.graph.specs.Fault.{refusedOr}
 use Rattle.graph.specs.Valid.{ValidEdge}
 use Rattle.graph_check.specs.Check.{number, edgeFault, answerTo, checkAll}
-use Rattle.graph_check.proofs.Steps.{faultFrom, fault-here, fault-later, fault-done, one-end-refused, other-end-refused, loop-refused, weight-none-refused, weight-over-refused, edge-passed}
+use Rattle.graph_check.proofs.Steps.{faultFrom, fault-here, fault-later, fault-done, one-end-refused, other-end-refused, loop-refused, weight-over-refused, edge-passed}
 use Rattle.graph_check.proofs.check_edges.Statement.{statement}
 use Rattle.graph_check.proofs.check_edges.Tie as tie
 
@@ -84,11 +84,6 @@ returns-3 c =
 returns-4 : tie.Need-returns-4 Inv-loop μ-loop
 returns-4 c =
     let t = read (c .before) in
-    refused t (weight-none-refused (n t) (x t) (omega arith) (omega arith) (omega arith) (omega arith))
-
-returns-5 : tie.Need-returns-5 Inv-loop μ-loop
-returns-5 c =
-    let t = read (c .before .before) in
     refused t (weight-over-refused (n t) (x t) (omega arith) (omega arith) (omega arith) (omega arith))
 
 add-e : tie.Need-add-e Inv-loop μ-loop
@@ -99,13 +94,13 @@ loop-less c = omega arith
 
 loop-again : tie.Need-loop-again Inv-loop μ-loop
 loop-again c =
-    let t = read (c .before .before) in
+    let t = read (c .before) in
     let v : ValidEdge (n t) (x t) = omega arith in
     passed t (edge-passed (n t) (x t) v)
 
-returns-6 : tie.Need-returns-6 Inv-loop μ-loop
+returns-5 : tie.Need-returns-5 Inv-loop μ-loop
 unfolding refusedOr
-returns-6 c =
+returns-5 c =
     let t = c .before in
     let all = ap (answerTo (g t)) (t .loop .inv ∙ fault-done (g t) (t .loop .e) (omega arith)) in
     cc
@@ -126,8 +121,7 @@ check-edges-spec =
     returns-2
     returns-3
     returns-4
-    returns-5
     add-e
     loop-less
     loop-again
-    returns-6)
+    returns-5)
