@@ -1,8 +1,8 @@
 -- Once the search is over, the arrays say the distances and the shortest paths of the graph whose arcs they are.
 -- Assumes nothing.
-use Prim.Native.Nat.{ℕ, _+_, _≤_, _<_}
+use Prim.Native.Nat.{ℕ, suc, _+_, _≤_, _<_}
 use mathlib.Core.Path.{_≡_, refl, sym, ap, _∙_}
-use mathlib.Core.List.{List, [], _∷_, List·Memᴰ·head, List·Memᴰ·tail, List·Memᴰ·not-nil}
+use mathlib.Core.List.{List, [], _∷_, List·Memᴰ·head, List·Memᴰ·tail, List·Memᴰ·not-nil, List·Memᴰ·eq-of-singleton}
 use mathlib.Core.Logic.{dite}
 use mathlib.Core.Option.{some, none, Option·none-ne-some}
 use native.Mathlib.Decide.{ℕ-discrete}
@@ -11,10 +11,13 @@ use lib.ListN.{length, getD}
 use Rattle.lists.specs.Count.{below}
 use Rattle.lists.specs.Lists.{sumOf}
 use Rattle.lists.specs.Member.{_∈_}
+use Rattle.lists.specs.InOrder as order
 use Rattle.graph.specs.Graph.{Graph, edgeCount, weightOf}
-use Rattle.rules.specs.Walk.{Walk, stay, step, totalWeight}
+use Rattle.rules.specs.Walk.{Joins, Walk, stay, step, totalWeight}
+use Rattle.rules.specs.ClosedWalk.{stopsFrom}
 use Rattle.rules.specs.Distance.{Distance}
 use Rattle.rules.proofs.Linked.{joins-back, walk-back}
+use Rattle.rules.proofs.FarEnd.{far-end}
 use Rattle.distance_laws.proofs.Nearer.{AtMost}
 use Rattle.distance_laws.proofs.Shortening.{shortened}
 use Rattle.distance_laws.proofs.Bounding.{joins-inside}
@@ -24,7 +27,7 @@ use Rattle.edges.specs.Around.{arcEdge, arcHead, arcWeight, Around}
 use Rattle.waiting.specs.Last.{lastOf, lastEdge, vertexBefore}
 use Rattle.distance.specs.Trail.{IsTrail, home, over}
 use Rattle.distance.specs.Shortest.{unreached, SaysDistance, nowhere, there, IsPathBack, Shortest}
-use Rattle.distance.proofs.Trails.{trail-of}
+use Rattle.distance.proofs.Trails.{trail-of, one-trail}
 use Rattle.distance.proofs.ArcEdges.{IsEdge, arc-edges, edge-arcs}
 use Rattle.distance.proofs.SettledInvariant as settling
 
@@ -37,24 +40,37 @@ vertex-before : (a u : ℕ) → vertexBefore (lastOf (arcEdge a) u) ≡ u
 unfolding lastOf vertexBefore arcEdge
 vertex-before a u = omega arith
 
--- A trail of at most that many edges, which is a path back of that weight.
+-- A vertex has a trail of at most that many edges.
+record Trailed (last : List ℕ) (root v most : ℕ) : Type 0 where
+  edges : List ℕ
+  is : IsTrail last root edges v
+  few : length edges ≤ most
+
+-- A trail of at most that many edges, which is a path back of that weight. The vertices on it have no longer trails, so that none stands on it twice.
 record Traced (g : Graph) (last : List ℕ) (root v most weight : ℕ) : Type 0 where
   edges : List ℕ
   is : IsTrail last root edges v
   few : length edges ≤ most
   path : IsPathBack g root v edges weight
+  passed : (x : ℕ) → x ∈ stopsFrom g v edges → Trailed last root x (length edges)
 
 module _ {g : Graph} {bounds arcs : List ℕ} (around : Around g (below (edgeCount g)) bounds arcs) {root : ℕ} {dist last : List ℕ}
     (room : g .vertices ≤ length last) (s : settling.Settled (g .vertices) bounds arcs root dist last)
   where
     -- The root has the trail of no edge.
     traced-home : {v most : ℕ} → v ≡ root → Traced g last root v most (getD dist v 0)
-    unfolding totalWeight sumOf
+    unfolding totalWeight sumOf stopsFrom
     traced-home q = record {
       edges = [];
       is = home q;
       few = omega arith;
-      path = record { inside = λ e m. absurd (List·Memᴰ·not-nil m); leads = stay q; weighs = rw q (sym (s .root-zero)) };
+      path = record {
+        inside = λ e m. absurd (List·Memᴰ·not-nil m);
+        leads = stay q;
+        once = order.next (λ x m. absurd (List·Memᴰ·not-nil m)) order.none;
+        weighs = rw q (sym (s .root-zero));
+      };
+      passed = λ x m. record { edges = []; is = home (List·Memᴰ·eq-of-singleton m ∙ q); few = omega arith };
     }
 
     -- A vertex has the trail of the vertex before it, with its last edge.
@@ -66,17 +82,36 @@ module _ {g : Graph} {bounds arcs : List ℕ} (around : Around g (below (edgeCou
         edges-inside e (List·Memᴰ·head q) = omega (arith, edge .inside)
         edges-inside e (List·Memᴰ·tail m) = t .path .inside e m
 
+        joins : Joins g (arcEdge a) v u
+        joins = joins-back (rw (sym head) at (edge .joins))
+
+        own : IsTrail last root (arcEdge a ∷ t .edges) v
+        own = over {edges = t .edges} away (omega arith) (sym (ap lastEdge is-last ∙ last-edge a u)) (rw (ap vertexBefore is-last ∙ vertex-before a u) (t .is))
+
+        -- It does not stand on that trail, its own being longer.
+        not-passed : (x : ℕ) → x ∈ stopsFrom g u (t .edges) → v ≡ x → ⊥
+        not-passed x m q = longer (t .passed x m)
+          where
+            longer : Trailed last root x (length (t .edges)) → ⊥
+            longer p = omega (arith, p .few, ap length (one-trail own (rw (sym q) at (p .is))))
+
+        passed-over : (x : ℕ) → x ∈ (v ∷ stopsFrom g u (t .edges)) → Trailed last root x (suc (length (t .edges)))
+        passed-over x (List·Memᴰ·head q) = record { edges = arcEdge a ∷ t .edges; is = rw q own; few = omega arith }
+        passed-over x (List·Memᴰ·tail m) = let p = t .passed x m in record { edges = p .edges; is = p .is; few = omega (arith, p .few) }
+
         traced-over : Traced g last root v most (getD dist v 0)
-        unfolding totalWeight sumOf
+        unfolding totalWeight sumOf stopsFrom
         traced-over = record {
           edges = arcEdge a ∷ t .edges;
-          is = over {edges = t .edges} away (omega arith) (sym (ap lastEdge is-last ∙ last-edge a u)) (rw (ap vertexBefore is-last ∙ vertex-before a u) (t .is));
+          is = own;
           few = omega (arith, t .few);
           path = record {
             inside = edges-inside;
-            leads = step (joins-back (rw (sym head) at (edge .joins))) (t .path .leads);
+            leads = step joins (t .path .leads);
+            once = rw (far-end joins) (order.next not-passed (t .path .once));
             weighs = omega (arith, edge .weighs, t .path .weighs);
           };
+          passed = rw (far-end joins) passed-over;
         }
 
     -- So has each vertex from which the last edges lead back.

@@ -11,7 +11,8 @@ use Rattle.graph.specs.Graph.{Graph}
 use Rattle.graph.specs.Valid.{Valid}
 use Rattle.rules.specs.Cover.{Tree}
 use Rattle.rules.specs.Distance.{Distance, treeVertices, IsShortestPath}
-use Rattle.rules.proofs.Linked.{turned, of-turned, walk-back}
+use Rattle.rules.proofs.Linked.{turned, of-turned, turned-once, walk-back}
+use Rattle.rules.proofs.WalkStops.{stops-turned}
 use Rattle.distance_laws.proofs.PathWeights.{turned-weight}
 use Rattle.distance_laws.proofs.NearestVertex.{nearest-shortest}
 use Rattle.distance.specs.Trail.{trailOf, CanGoBack}
@@ -37,4 +38,5 @@ module _ {g : Graph} {root : ℕ} {dist last : List ℕ} (s : Shortest g root di
       let path = s .path v (least v m .0) low in
       let trail = trailOf last root v in
       nearest-shortest valid start m (λ e k. path .inside e (of-turned trail k)) (walk-back (path .leads))
+      (rw (stops-turned (path .leads)) (turned-once (path .once)))
       (λ u d k q. omega (arith, turned-weight g trail, path .weighs, least u k, says-some (s .distance u (least u k .0)) q))

@@ -23,6 +23,11 @@ pub trail-of : {last : List ℕ} {root v : ℕ} {edges : List ℕ} → IsTrail l
 unfolding trailOf
 trail-of {last} t h = trail-in (length last) t h
 
+-- So a vertex has one trail alone.
+pub one-trail : {last : List ℕ} {root v : ℕ} {edges others : List ℕ} → IsTrail last root edges v → IsTrail last root others v → edges ≡ others
+one-trail {edges = edges} {others = others} t u =
+    sym (trail-in (length edges + length others) t (omega arith)) ∙ trail-in (length edges + length others) u (omega arith)
+
 -- The trail from v is written up to the vertex `at`.
 pub record Following (last : List ℕ) (root v : ℕ) (out₀ out : List ℕ) (at r : ℕ) : Type 0 where
   pub passed : List ℕ

@@ -7,9 +7,11 @@ use mathlib.Core.Option.{some, none}
 use lib.ListN.{length, getD}
 use Rattle.lists.specs.Count.{below}
 use Rattle.lists.specs.Member.{_∈_}
+use Rattle.lists.specs.InOrder.{Once}
 use Rattle.lists.specs.Put.{OnlyFirst}
 use Rattle.graph.specs.Graph.{Graph, edgeCount}
 use Rattle.rules.specs.Walk.{Walk, totalWeight}
+use Rattle.rules.specs.ClosedWalk.{stopsFrom}
 use Rattle.rules.specs.Distance.{Distance, distances}
 use Rattle.edges.specs.Around.{Arcs, Around}
 use Rattle.distance.specs.Trail.{HasTrail, trailOf}
@@ -23,10 +25,11 @@ pub data SaysDistance (x : ℕ) (d : Distance) : Type 0 where
   nowhere : x ≡ unreached → d ≡ none → SaysDistance x d
   there : x < unreached → d ≡ some x → SaysDistance x d
 
--- The edges are those of a path from v back to the root, of that weight.
+-- The edges are those of a path from v back to the root, of that weight, which comes to no vertex twice.
 pub record IsPathBack (g : Graph) (root v : ℕ) (edges : List ℕ) (weight : ℕ) : Type 0 where
   pub inside : (e : ℕ) → e ∈ edges → e < edgeCount g
   pub leads : Walk g edges v root
+  pub once : Once (stopsFrom g v edges)
   pub weighs : totalWeight g edges ≡ weight
 
 -- The arrays say the distance of each vertex from the root, and for each vertex that has one the trail is a path of that weight.

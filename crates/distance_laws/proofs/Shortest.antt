@@ -34,6 +34,7 @@ module _ {g : Graph} (valid : Valid g) {r : ℕ} (start : r < g .vertices) (part
         end = n .end;
         in-part = n .in-part;
         leads = s .leads;
+        once = s .once;
         shortest = λ v other m walk. omega (arith, light, least v other m walk);
       } in
       (s .path, is, light)

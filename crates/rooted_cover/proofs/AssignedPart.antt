@@ -59,6 +59,7 @@ path-risen {g} {r} {t} p =
       end = p .end;
       in-part = vertices-risen g t (p .in-part);
       leads = p .leads;
+      once = p .once;
       shortest = λ v other m w. p .shortest v other (risen-vertices g t m) w;
     }
 

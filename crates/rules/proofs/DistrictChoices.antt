@@ -8,8 +8,10 @@ use mathlib.Core.List.{[], _∷_, List·Memᴰ·not-nil, List·Memᴰ·head}
 use native.Mathlib.Omega.{arith}
 use lib.ListN.{getD}
 use lib.Dec.{lit<}
+use Rattle.lists.specs.InOrder.{none, next}
 use Rattle.graph.specs.Bytes.{graphOf}
 use Rattle.rules.specs.Walk.{stay}
+use Rattle.rules.specs.ClosedWalk.{stopsFrom}
 use Rattle.rules.specs.Distance.{IsShortestPath}
 use Rattle.rules.specs.RootedTrial.{GoodChoices, partOf, rootedParts, mayGo}
 use Rattle.rules.specs.Districts.{N, answer, set, assigned}
@@ -31,7 +33,7 @@ set-is-good =
 
 -- Limit 4: the one part starts at root 0, so that the path to it has no edge.
 pub assignment-is-good : GoodChoices (graphOf N []) (0 ∷ 1 ∷ []) 4 (assigned (0 ∷ []))
-unfolding answer N assigned
+unfolding answer N assigned stopsFrom
 assignment-is-good =
     record {
       assigned = λ t. record { each = refl; is-root = is-root; may = may; apart = λ i j p q e. omega arith };
@@ -54,6 +56,7 @@ assignment-is-good =
           end = 0;
           in-part = List·Memᴰ·head refl;
           leads = stay refl;
+          once = next (λ v m. absurd (List·Memᴰ·not-nil m)) none;
           shortest = λ v other m w. omega arith;
         }
     shortest (suc i) h = absurd (omega arith)

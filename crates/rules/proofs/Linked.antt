@@ -5,6 +5,7 @@ use mathlib.Core.Path.{_≡_, refl, sym, _∙_}
 use mathlib.Core.List.{List, [], _∷_, _++_, List·Memᴰ·head, List·Memᴰ·tail, List·Memᴰ·not-nil, List·Memᴰ·append-cases, List·Memᴰ·eq-of-singleton, Memᴰ·cast}
 use mathlib.Core.Logic.{_⊎_, inl, inr}
 use Rattle.lists.specs.Member.{_∈_}
+use Rattle.lists.proofs.InOrder.{none, next, Once, append-in-order}
 use Rattle.graph.specs.Graph.{Graph, oneEnd, otherEnd}
 use Rattle.rules.specs.Walk.{Joins, onward, back, Walk, stay, step, Linked}
 
@@ -21,6 +22,14 @@ of-turned {x} (e ∷ p) m = go (List·Memᴰ·append-cases (turned p) m) (λ r. 
     go : (x ∈ turned p) ⊎ (x ∈ (e ∷ [])) → (x ∈ turned p → x ∈ p) → x ∈ (e ∷ p)
     go (inl r) ih = List·Memᴰ·tail (ih r)
     go (inr r) ih = List·Memᴰ·head (List·Memᴰ·eq-of-singleton r)
+
+-- each element stands once in it where it does in the list
+pub turned-once : {p : List ℕ} → Once p → Once (turned p)
+unfolding turned
+turned-once none = none
+turned-once (next {xs = xs} h r) =
+    append-in-order (turned-once r) (next (λ y m. absurd (List·Memᴰ·not-nil m)) none)
+    (λ x y m n q. h x (of-turned xs m) (sym (q ∙ List·Memᴰ·eq-of-singleton n)))
 
 module _ {g : Graph} where
   -- an edge joins both ways

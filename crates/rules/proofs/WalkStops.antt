@@ -1,5 +1,5 @@
--- The stops of a walk: how many there are, the last, one more with each crossing, and that it passes the ends of its edges and nothing that these do
--- not link to its start.
+-- The stops of a walk: how many there are, the last, one more with each crossing, the same ones the other way round, and that it passes the ends of
+-- its edges and nothing that these do not link to its start.
 -- Assumes nothing.
 use Prim.Native.Nat.{ℕ, suc}
 use mathlib.Core.Path.{_≡_, refl, sym, ap, _∙_}
@@ -12,7 +12,7 @@ use Rattle.rules.specs.Walk.{Joins, Walk, stay, step, Linked}
 use Rattle.rules.specs.Grow.{farEnd}
 use Rattle.rules.specs.ClosedWalk.{stopsFrom}
 use Rattle.rules.specs.WalkRule.{lastStop}
-use Rattle.rules.proofs.Linked.{linked-same, linked-on, linked-edge, linked-more}
+use Rattle.rules.proofs.Linked.{turned, joins-back, walk-back, linked-same, linked-on, linked-edge, linked-more}
 use Rattle.rules.proofs.Joined.{joins-same}
 use Rattle.rules.proofs.FarEnd.{far-end}
 
@@ -41,6 +41,14 @@ module _ {g : Graph} where
   unfolding lastStop
   walk-last (stay q) = q
   walk-last (step {path = path} j w) = ap (λ x. lastStop g x path) (far-end j) ∙ walk-last w
+
+  -- turned round it has the same stops, the last first
+  pub stops-turned : {path : List ℕ} {u v : ℕ} → Walk g path u v → stopsFrom g v (turned path) ≡ turned (stopsFrom g u path)
+  unfolding stopsFrom turned
+  stops-turned (stay q) = ap (λ x. x ∷ []) (sym q)
+  stops-turned {v = v} (step {e = e} {path = path} {u = u} j w) =
+      rw (stops-more g v (turned path) e, walk-last (walk-back w), far-end (joins-back j), far-end j)
+      (ap (λ l. l ++ (u ∷ [])) (stops-turned w))
 
   -- what is passed from where an edge leads is passed from its far end
   pub further : {e u w b : ℕ} (path : List ℕ) → Joins g e u w → b ∈ stopsFrom g w path → b ∈ stopsFrom g (farEnd g e u) path

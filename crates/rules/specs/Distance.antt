@@ -9,9 +9,11 @@ use lib.Dec.{leb, eqb}
 use Rattle.lists.specs.Count.{below}
 use Rattle.lists.specs.Lists.{any, flat}
 use Rattle.lists.specs.Member.{_∈_}
+use Rattle.lists.specs.InOrder.{Once}
 use Rattle.graph.specs.Graph.{Graph, edgeCount, oneEnd, otherEnd, weightOf}
 use Rattle.rules.specs.Walk.{Walk, totalWeight}
 use Rattle.rules.specs.Cover.{Tree}
+use Rattle.rules.specs.ClosedWalk.{stopsFrom}
 
 -- A distance; none where no walk leads there.
 abbrev pub Distance : Type 0
@@ -64,10 +66,12 @@ reachesPart g limit r part =
     let from-r = distances g r in
     any (λ v. isWithin limit (getD from-r v none)) (treeVertices g part)
 
--- "A shortest path to it": a walk from r to a vertex of the part that weighs no more than any other such walk.
+-- "A shortest path to it": a walk from r to a vertex of the part that weighs no more than any other such walk, and comes to no vertex twice, as it
+-- could over weightless edges.
 pub record IsShortestPath (g : Graph) (r : ℕ) (part : Tree) (path : List ℕ) : Type 0 where
   pub inside : (e : ℕ) → e ∈ path → e < edgeCount g
   pub end : ℕ
   pub in-part : end ∈ treeVertices g part
   pub leads : Walk g path r end
+  pub once : Once (stopsFrom g r path)
   pub shortest : (v : ℕ) (other : List ℕ) → v ∈ treeVertices g part → Walk g other r v → totalWeight g path ≤ totalWeight g other
