@@ -150,7 +150,7 @@ trial-promised {q} {limit} {before} p =
       choices = p .choices;
       rule = p .rule;
       good = p .good;
-      means = λ e. let a = question-quiet (At limit) q (length before) e in trial-means (crewsIn q) (trial-bounds (a .valid) (crewsIn q) (a .fit)) limit (p .choices) (p .good e);
+      means = λ e. let a = question-quiet (At limit) q (length before) e in trial-means (crewsIn q) (a .fit) (trial-bounds (a .valid) (crewsIn q) (a .fit)) limit (p .choices) (p .good e);
     }
 
 best-promised : {q : Question} {before after : List ℕ} {r : Reply} → QuestionPromise Best q before after r → BestPromise q before after r

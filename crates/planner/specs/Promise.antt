@@ -28,6 +28,7 @@ pub record Refuses (fault : Fault) (before after : List ℕ) (r : Reply) : Type 
 
 -- The trial at limit B. Refused exactly where document 01 says so, with its number. Otherwise the reply and the buffer are what the rules make of
 -- free choices that are good, and the reply means what it says: a cover by these crews within four times B, or that every cover by them is above B.
+-- Where B is 0 it is a cover exactly where weightless edges join every vertex to a root, or into at most k components (`at-zero` of `TrialMeans`).
 pub record TrialPromise (q : Question) (limit : ℕ) (before after : List ℕ) (r : Reply) : Type 0 where
   pub refuses : Refuses (trialFault q limit (length before)) before after r
   pub choices : Choices
@@ -36,7 +37,8 @@ pub record TrialPromise (q : Question) (limit : ℕ) (before after : List ℕ) (
   pub means : trialFault q limit (length before) ≡ none → TrialMeans (graphIn q) (crewsIn q) limit (trial (graphIn q) (crewsIn q) limit choices)
 
 -- The best limit. Refused exactly where document 01 says so. Otherwise "no cover" exactly where none exists; or the limit where the search ends, with
--- the cover of the trial there, whose heaviest is at most four times that of every cover by the same crews.
+-- the cover of the trial there, whose heaviest is at most four times that of every cover by the same crews. That limit is 0 exactly where weightless
+-- edges join every vertex to a root, or into at most k components (`at-zero` of `BestMeans`).
 pub record BestPromise (q : Question) (before after : List ℕ) (r : Reply) : Type 0 where
   pub refuses : Refuses (bestFault q (length before)) before after r
   pub choices : Choices

@@ -75,6 +75,11 @@ best-limit-steps g crews fuel enough =
 pub best-limit-31 : {g : Graph} → Valid g → (crews : Crews) → bestLimit g crews ≡ cond (accepts g crews 0) 0 (searched (accepts g crews) 31 (firstBounds g) .high)
 best-limit-31 {g} valid crews = best-limit-steps g crews 31 (omega (arith, sum-bounded valid))
 
+-- Where limit 0 is accepted it is the best.
+pub zero-is-best : (g : Graph) (crews : Crews) → accepts g crews 0 ≡ true → bestLimit g crews ≡ 0
+unfolding bestLimit
+zero-is-best g crews t = rw t refl
+
 module _ {g : Graph} {crews : Crews} (bounds : TrialBounds g crews) {some-trees : List Tree} (some-cover : IsCover g crews some-trees) where
   -- The sum of all weights is accepted.
   pub sum-accepted : accepts g crews (allWeights g) ≡ true

@@ -63,6 +63,8 @@ pub mod SearchSteps
 pub mod BestLimit
 -- it is within document 01's range
 pub mod BestRange
+-- limit 0 is accepted exactly where weightless edges join every vertex to a root, or into at most k components (document 02, A.4)
+pub mod ZeroLimit
 -- a limit above the sum of all weights is accepted where "no cover" is not said
 pub mod AboveSum
 -- "no cover" is said exactly where none exists

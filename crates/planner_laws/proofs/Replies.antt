@@ -1,7 +1,7 @@
 -- What the replies mean: that of a trial, with good choices at its limit, and that of the best-limit question, with good choices at the best limit.
 -- Assumes nothing.
 use Prim.Native.Nat.{ℕ, _*_, _≤_, _<_}
-use mathlib.Core.Path.{_≡_, refl}
+use mathlib.Core.Path.{_≡_, refl, sym, ap, _∙_, subst}
 use mathlib.Core.Logic.{_↔_}
 use mathlib.Core.Bool.{Bool, true, false, cond, _&&_, false≢true}
 use mathlib.Core.List.{List}
@@ -15,13 +15,16 @@ use Rattle.rules.specs.Reply.{Reply, covered, too-low-parts, too-low-needs, no-
 use Rattle.rules.specs.RootedTrial.{Choices, stopOr, unjoinedAt, isAssignable, rootedTrial}
 use Rattle.rules.specs.UnrootedTrial.{needed, unrootedTrial}
 use Rattle.rules.specs.Search.{noVertex, accepts, trial, noCover, bestLimit, best}
+use Rattle.rules.specs.Weightless.{WeightlessJoined}
 use Rattle.rules.specs.Fit.{GoodFor, CrewsFit}
-use Rattle.planner_laws.specs.Meaning.{NoneWithin, TrialMeans, BestMeans}
+use Rattle.planner_laws.specs.Meaning.{NoneWithin, NoneAtAll, AtZero, TrialSays, TrialMeans, BestSays, BestMeans}
 use Rattle.planner_laws.proofs.AboveSum.{some-cover}
 use Rattle.planner_laws.proofs.NoCover.{no-cover-none}
 use Rattle.planner_laws.proofs.TrialBounds.{trialTrees, CoverWithin, TrialBounds}
-use Rattle.planner_laws.proofs.BestLimit.{best-accepted, best-cover, best-factor}
+use Rattle.planner_laws.proofs.BestLimit.{zero-is-best, best-accepted, best-cover, best-factor}
 use Rattle.planner_laws.proofs.Eightfold.{eightfold}
+use Rattle.planner_laws.proofs.SomeChoices.{good-choices}
+use Rattle.planner_laws.proofs.ZeroLimit.{zero-accepts}
 
 -- TRIALS
 
@@ -59,31 +62,71 @@ pub accepts-is-covered : (g : Graph) (crews : Crews) (limit : ℕ) (c : Choices)
 accepts-is-covered g crews limit c = (accepted-covered g crews limit c, λ q. covered-accepted g crews limit c q)
 
 -- An accepted trial's reply is a cover within four times the limit.
-accepted-means : {g : Graph} {crews : Crews} {limit : ℕ} {trees : List Tree} → CoverWithin g crews limit trees → TrialMeans g crews limit (covered limit (heaviest g trees) trees)
-accepted-means w = record { at-limit = refl; carries = record { cover = w .cover; carried = refl }; factor-four = omega (arith, w .light) }
+accepted-says : {g : Graph} {crews : Crews} {limit : ℕ} {trees : List Tree} → CoverWithin g crews limit trees → TrialSays g crews limit (covered limit (heaviest g trees) trees)
+accepted-says w = record { at-limit = refl; carries = record { cover = w .cover; carried = refl }; factor-four = omega (arith, w .light) }
 
--- A trial's reply means what document 01 says of it.
-pub trial-means : {g : Graph} (crews : Crews) → TrialBounds g crews → (limit : ℕ) (c : Choices) → GoodFor g crews limit c → TrialMeans g crews limit (trial g crews limit c)
+-- A trial's reply says what document 01 has it say.
+trial-says : {g : Graph} (crews : Crews) → TrialBounds g crews → (limit : ℕ) (c : Choices) → GoodFor g crews limit c → TrialSays g crews limit (trial g crews limit c)
 unfolding accepts trial rootedTrial unrootedTrial stopOr noVertex
-trial-means {g} (rooted roots) bounds limit c good =
+trial-says {g} (rooted roots) bounds limit c good =
     go (unjoinedAt g roots limit) (isAssignable g roots limit) _ _ _ _ (λ t. bounds .accepted-covers limit c t good) (bounds .refused-below limit) (λ t. good .deficient t .fewer)
   where
     go : (o : Option ℕ) (a : Bool) (trees : List Tree) (T D : ℕ) (parts : List Tree) → ((noVertex o && a) ≡ true → CoverWithin g (rooted roots) limit trees)
         → ((noVertex o && a) ≡ false → NoneWithin g (rooted roots) limit) → (a ≡ false → D < T)
-        → TrialMeans g (rooted roots) limit (stopOr o (cond a (covered limit (heaviest g trees) trees) (too-low-parts T D parts)))
+        → TrialSays g (rooted roots) limit (stopOr o (cond a (covered limit (heaviest g trees) trees) (too-low-parts T D parts)))
     go (some v) a trees T D parts covers below fewer = below refl
-    go none true trees T D parts covers below fewer = accepted-means (covers refl)
+    go none true trees T D parts covers below fewer = accepted-says (covers refl)
     go none false trees T D parts covers below fewer = record { none-within = below refl; fewer = fewer refl }
-trial-means {g} (unrooted k) bounds limit c good = go (leb (needed g limit) k) _ _ (λ t. bounds .accepted-covers limit c t good) (bounds .refused-below limit)
+trial-says {g} (unrooted k) bounds limit c good = go (leb (needed g limit) k) _ _ (λ t. bounds .accepted-covers limit c t good) (bounds .refused-below limit)
   where
     go : (a : Bool) (trees : List Tree) (C : ℕ) → (a ≡ true → CoverWithin g (unrooted k) limit trees) → (a ≡ false → NoneWithin g (unrooted k) limit)
-        → TrialMeans g (unrooted k) limit (cond a (covered limit (heaviest g trees) trees) (too-low-needs C))
-    go true trees C covers below = accepted-means (covers refl)
+        → TrialSays g (unrooted k) limit (cond a (covered limit (heaviest g trees) trees) (too-low-needs C))
+    go true trees C covers below = accepted-says (covers refl)
     go false trees C covers below = below refl
+
+-- What is replied at limit 0.
+module _ {g : Graph} {crews : Crews} (fit : CrewsFit g crews) (bounds : TrialBounds g crews) (limit : ℕ) (c : Choices) (good : GoodFor g crews limit c) where
+  abbrev ours : List Tree
+  ours = trialTrees g crews limit c
+
+  -- A cover at limit 0 is our trees, at that limit, which is accepted.
+  same : {h : ℕ} {trees : List Tree} → trial g crews limit c ≡ covered 0 h trees → covered limit (heaviest g ours) ours ≡ covered 0 h trees
+  same q = sym (accepted-covered g crews limit c (covered-accepted g crews limit c q)) ∙ q
+
+  zero-joined : {h : ℕ} {trees : List Tree} → trial g crews limit c ≡ covered 0 h trees → WeightlessJoined g crews
+  zero-joined q =
+      let r = same q in
+      let z : limit ≡ 0 = cc in
+      zero-accepts g crews fit .0 (subst (λ l. accepts g crews l ≡ true) z (covered-accepted g crews limit c q))
+
+  zero-weighs : {h : ℕ} {trees : List Tree} → trial g crews limit c ≡ covered 0 h trees → h ≡ 0
+  zero-weighs {h} q =
+      let r = same q in
+      let z : limit ≡ 0 = cc in
+      let carried : heaviest g ours ≡ h = cc in
+      omega (arith, bounds .accepted-covers limit c (covered-accepted g crews limit c q) good .light)
+
+  -- It is such a cover wherever weightless edges join what they should, if the limit is 0 and accepted there.
+  trial-zero : (WeightlessJoined g crews → (limit ≡ 0) × (accepts g crews limit ≡ true)) → AtZero g crews (trial g crews limit c)
+  trial-zero accepted = record {
+    exactly = (λ r. let (h, trees, q) = r in zero-joined q, λ w. replied (accepted w));
+    weighs-nothing = λ h trees q. zero-weighs q;
+  }
+    where
+      replied : (limit ≡ 0) × (accepts g crews limit ≡ true) → (h : ℕ) × (trees : List Tree) × (trial g crews limit c ≡ covered 0 h trees)
+      replied (z, a) = (heaviest g ours, ours, accepted-covered g crews limit c a ∙ ap (λ l. covered l (heaviest g ours) ours) z)
+
+-- A trial's reply means what the documents say of it.
+pub trial-means : {g : Graph} (crews : Crews) → CrewsFit g crews → TrialBounds g crews → (limit : ℕ) (c : Choices) → GoodFor g crews limit c
+    → TrialMeans g crews limit (trial g crews limit c)
+trial-means {g} crews fit bounds limit c good = record {
+  says = trial-says crews bounds limit c good;
+  at-zero = λ z. trial-zero fit bounds limit c good (λ w. (z, subst (λ l. accepts g crews l ≡ true) (sym z) (zero-accepts g crews fit .1 w)));
+}
 
 -- THE BEST LIMIT
 
--- The reply of the best-limit question means what document 01 says of it.
+-- The reply of the best-limit question means what the documents say of it.
 pub best-means : {g : Graph} → Valid g → (crews : Crews) → CrewsFit g crews → TrialBounds g crews → (c : Choices) → GoodFor g crews (bestLimit g crews) c → BestMeans g crews (best g crews c)
 unfolding best
 best-means {g} valid crews fit bounds c good = go (noCover g crews) refl
@@ -95,9 +138,30 @@ best-means {g} valid crews fit bounds c good = go (noCover g crews) refl
     found : (trees : List Tree) → IsCover g crews trees → BestMeans g crews (trial g crews (bestLimit g crews) c)
     found trees cover =
         let ours = best-cover bounds cover c good .cover in
-        rw (accepted-covered g crews (bestLimit g crews) c (best-accepted bounds cover))
-        (record { carries = record { cover = ours; carried = refl }; factor-four = four cover; within-eight = eightfold valid ours (four cover) })
+        let accepted = best-accepted bounds cover in
+        record {
+          says = rw (accepted-covered g crews (bestLimit g crews) c accepted)
+              (record { carries = record { cover = ours; carried = refl }; factor-four = four cover; within-eight = eightfold valid ours (four cover) });
+          at-zero = trial-zero fit bounds (bestLimit g crews) c good (λ w. (zero-is-best g crews (zero-accepts g crews fit .1 w), accepted));
+        }
+
+    -- Where there is no cover, none is at limit 0.
+    missing : NoneAtAll g crews → WeightlessJoined g crews → ⊥
+    missing never w =
+        let (d, chosen) = good-choices valid crews fit 0 in
+        never _ (bounds .accepted-covers 0 d (zero-accepts g crews fit .1 w) chosen .cover)
+
+    uncovered : (h : ℕ) (trees : List Tree) → no-cover ≡ covered 0 h trees → ⊥
+    uncovered h trees q = let z : _≡_ {A = ℕ} 0 1 = cc in omega arith
 
     go : (t : Bool) → noCover g crews ≡ t → BestMeans g crews (cond t no-cover (trial g crews (bestLimit g crews) c))
-    go true e = no-cover-none g crews e
+    go true e =
+        let never : NoneAtAll g crews = no-cover-none g crews e in
+        record {
+          says = never;
+          at-zero = record {
+            exactly = (λ r. let (h, trees, q) = r in absurd (uncovered h trees q), λ w. absurd (missing never w));
+            weighs-nothing = λ h trees q. absurd (uncovered h trees q);
+          };
+        }
     go false e = let (trees, cover) = some-cover valid crews fit e in found trees cover

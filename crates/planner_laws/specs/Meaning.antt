@@ -4,11 +4,13 @@
 use Prim.Native.Nat.{ℕ, _*_, _≤_, _<_}
 use mathlib.Core.Path.{_≡_}
 use mathlib.Core.List.{List}
+use mathlib.Core.Logic.{_↔_}
 use Rattle.graph.specs.Graph.{Graph}
 use Rattle.rules.specs.Cover.{Tree, heaviest, Crews, IsCover}
 use Rattle.rules.specs.Reply.{Reply, refused, covered, too-low-stop, too-low-parts, too-low-needs, no-cover}
 use Rattle.rules.specs.ClosedWalk.{Route}
 use Rattle.rules.specs.RivalWalks.{ClosedWalks, longest, walksAlong}
+use Rattle.rules.specs.Weightless.{WeightlessJoined}
 
 -- No cover by the crews is within the limit: the heaviest of each is above it.
 abbrev pub NoneWithin : Graph → Crews → ℕ → Type 0
@@ -41,20 +43,36 @@ pub record CoveredBest (g : Graph) (crews : Crews) (h : ℕ) (trees : List Tree)
   pub factor-four : (others : List Tree) → IsCover g crews others → h ≤ 4 * heaviest g others
   pub within-eight : (walks : List Route) → ClosedWalks g crews walks → longest g (walksAlong g trees) ≤ 8 * longest g walks
 
--- What the reply of "a trial at limit B" means, by its case. Each "too low" says that no cover is within B.
-abbrev pub TrialMeans : Graph → Crews → ℕ → Reply → Type 0
-TrialMeans g crews limit (refused k) = ⊥
-TrialMeans g crews limit (covered replied h trees) = CoveredWithin g crews limit replied h trees
-TrialMeans g crews limit (too-low-stop v) = NoneWithin g crews limit
-TrialMeans g crews limit (too-low-parts T D parts) = TooFewRoots g crews limit T D
-TrialMeans g crews limit (too-low-needs C) = NoneWithin g crews limit
-TrialMeans g crews limit no-cover = ⊥
+-- "A limit of 0 accepts exactly when weightless lines join every stop to a yard, or into at most k components" (document 02, A.4): the reply is a cover
+-- at limit 0 exactly then. The cover weighs nothing.
+pub record AtZero (g : Graph) (crews : Crews) (reply : Reply) : Type 0 where
+  pub exactly : ((h : ℕ) × (trees : List Tree) × (reply ≡ covered 0 h trees)) ↔ WeightlessJoined g crews
+  pub weighs-nothing : (h : ℕ) (trees : List Tree) → reply ≡ covered 0 h trees → h ≡ 0
 
--- What the reply of "the best limit" means, by its case. "No cover" says that none exists at all.
-abbrev pub BestMeans : Graph → Crews → Reply → Type 0
-BestMeans g crews (refused k) = ⊥
-BestMeans g crews (covered limit h trees) = CoveredBest g crews h trees
-BestMeans g crews (too-low-stop v) = ⊥
-BestMeans g crews (too-low-parts T D parts) = ⊥
-BestMeans g crews (too-low-needs C) = ⊥
-BestMeans g crews no-cover = NoneAtAll g crews
+-- What the reply of "a trial at limit B" says, by its case. Each "too low" says that no cover is within B.
+abbrev pub TrialSays : Graph → Crews → ℕ → Reply → Type 0
+TrialSays g crews limit (refused k) = ⊥
+TrialSays g crews limit (covered replied h trees) = CoveredWithin g crews limit replied h trees
+TrialSays g crews limit (too-low-stop v) = NoneWithin g crews limit
+TrialSays g crews limit (too-low-parts T D parts) = TooFewRoots g crews limit T D
+TrialSays g crews limit (too-low-needs C) = NoneWithin g crews limit
+TrialSays g crews limit no-cover = ⊥
+
+-- What it means: that, and where limit 0 is tried, when it is accepted.
+pub record TrialMeans (g : Graph) (crews : Crews) (limit : ℕ) (reply : Reply) : Type 0 where
+  pub says : TrialSays g crews limit reply
+  pub at-zero : limit ≡ 0 → AtZero g crews reply
+
+-- What the reply of "the best limit" says, by its case. "No cover" says that none exists at all.
+abbrev pub BestSays : Graph → Crews → Reply → Type 0
+BestSays g crews (refused k) = ⊥
+BestSays g crews (covered limit h trees) = CoveredBest g crews h trees
+BestSays g crews (too-low-stop v) = ⊥
+BestSays g crews (too-low-parts T D parts) = ⊥
+BestSays g crews (too-low-needs C) = ⊥
+BestSays g crews no-cover = NoneAtAll g crews
+
+-- What it means: that, and when the limit replied is 0.
+pub record BestMeans (g : Graph) (crews : Crews) (reply : Reply) : Type 0 where
+  pub says : BestSays g crews reply
+  pub at-zero : AtZero g crews reply

@@ -15,7 +15,7 @@ use Rattle.rules.specs.Search.{trial, best}
 use Rattle.rules.specs.Questions.{Question, graphIn, crewsIn, limitFault, roomFault, trialFault, askTrial, bestFault, askBest}
 use Rattle.rules.proofs.Admitted.{Admitted, admitted}
 use Rattle.rules.proofs.FaultNumbers.{Numbered, if-numbered, first-none, first-next, question-numbered}
-use Rattle.planner_laws.specs.Meaning.{TrialMeans, BestMeans}
+use Rattle.planner_laws.specs.Meaning.{TrialSays, TrialMeans, BestSays, BestMeans}
 use Rattle.reply_text.specs.Replies.{CoverOf, Printable}
 
 -- The numbers of what is refused of a trial and of the best limit.
@@ -44,15 +44,15 @@ module _ {q : Question} (a : Admitted q) (ruled : Reply) where
   trial-printable : (limit : ℕ) → TrialMeans (graphIn q) (crewsIn q) limit ruled → Printable (graphIn q) ruled
   trial-printable limit means =
       record {
-        refusal = λ n e. absurd (subst (TrialMeans (graphIn q) (crewsIn q) limit) e means);
-        cover = λ l h trees e. of-cover (subst (TrialMeans (graphIn q) (crewsIn q) limit) e means .carries .cover);
+        refusal = λ n e. absurd (subst (TrialSays (graphIn q) (crewsIn q) limit) e (means .says));
+        cover = λ l h trees e. of-cover (subst (TrialSays (graphIn q) (crewsIn q) limit) e (means .says) .carries .cover);
       }
 
   best-printable : BestMeans (graphIn q) (crewsIn q) ruled → Printable (graphIn q) ruled
   best-printable means =
       record {
-        refusal = λ n e. absurd (subst (BestMeans (graphIn q) (crewsIn q)) e means);
-        cover = λ l h trees e. of-cover (subst (BestMeans (graphIn q) (crewsIn q)) e means .carries .cover);
+        refusal = λ n e. absurd (subst (BestSays (graphIn q) (crewsIn q)) e (means .says));
+        cover = λ l h trees e. of-cover (subst (BestSays (graphIn q) (crewsIn q)) e (means .says) .carries .cover);
       }
 
 -- So can the answers of the questions, refused or not.

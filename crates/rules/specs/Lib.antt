@@ -50,6 +50,11 @@ pub mod WalkExamples
 -- Document 02, "A.3 Surfaces" (the weight by class stands in the crate `graph`):
 -- small sheets with class lists
 pub mod SurfaceExamples
+-- Document 02, "A.4 Gates of no length":
+-- what weightless edges join
+pub mod Weightless
+-- small sheets with weightless edges
+pub mod GateExamples
 -- Besides the documents, what promises cite:
 -- trees as arrays hold them
 pub mod Held
