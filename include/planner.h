@@ -37,7 +37,7 @@ extern "C" {
  * The bytes. All fields are unsigned, lowest byte first; vertices, edges and trees are numbered from 0.
  *
  * A graph: n, the number of vertices (2 bytes, 1 to 256); m, the number of edges (2 bytes, 0 to 2,048); m pairs of ends
- * (2 bytes each end); m weights (4 bytes each, 1 to 1,000,000). 4 + 8m bytes.
+ * (2 bytes each end); m weights (4 bytes each, 0 to 1,000,000). 4 + 8m bytes.
  * A cover: t, the number of trees (2 bytes); q, the number of entries (2 bytes); t starts (2 bytes each); q tree numbers,
  * then q edge numbers (2 bytes each), rising strictly by tree, then by edge. 4 + 2t + 4q bytes.
  *
@@ -46,8 +46,8 @@ extern "C" {
  *
  * Classes, a list that a question may bring beside its graph: the class of each edge in a byte, m bytes. Classes 0 to 9
  * count 100 percent of the edge's weight, 10 to 19 count 120, 20 to 39 count 150, 40 to 59 count 200, and all others 100.
- * The weight used is weight times percent over 100, rounded up, and whatever is said of weights below is said of the weights
- * used. Where no list is brought every edge is of class 60.
+ * The weight used is weight times percent over 100, rounded up, so that of weight 0 it is 0, and whatever is said of weights
+ * below is said of the weights used. Where no list is brought every edge is of class 60.
  *
  * For the seven functions of the library: any input is answered. Each pointer is to as many bytes as its length says,
  * `values` to exactly three numbers, those of planner_walk and planner_route to exactly two; no pointer is null even where a
@@ -67,16 +67,21 @@ extern "C" {
  * A trial at a limit (0 to 2,048,000,000). Accepted: a cover whose heaviest tree weighs at most four times the limit.
  * Too low: every cover of the kind for k has a tree heavier than the limit.
  *
+ * "A limit of 0 accepts exactly when weightless lines join every stop to a yard, or into at most k components": walks along
+ * edges of weight 0 lead to every vertex from a root, or, unrooted, from some at most k vertices, one for each component; a
+ * vertex without such an edge is a component by itself. The heaviest weight is then 0.
+ *
  * Refused, tried in this order: 11 graph_length is below 4 or not 4 + 8m. 12 n is 0 or above 256. 13 m is above 2,048. Then
- * edge by edge 14 an end is not below n, 15 the ends are equal, 16 the weight is 0 or above 1,000,000. 21 k is outside 1 to
- * 32, or above n in a rooted question. 22 the limit is above 2,048,000,000. 23 buffer_length is below PLANNER_BUFFER.
+ * edge by edge 14 an end is not below n, 15 the ends are equal, 16 the weight is above 1,000,000. 21 k is outside 1 to 32, or
+ * above n in a rooted question. 22 the limit is above 2,048,000,000. 23 buffer_length is below PLANNER_BUFFER.
  */
 uint32_t planner_trial(uint32_t kind, size_t k, uint64_t limit, const uint8_t *graph, size_t graph_length,
                        uint64_t *values, uint8_t *buffer, size_t buffer_length);
 
 /*
  * The best limit: PLANNER_COVER, whose heaviest tree weighs at most four times that of any cover of the kind for k;
- * PLANNER_NO_COVER, exactly where none exists; or a refusal as of a trial, without 22.
+ * PLANNER_NO_COVER, exactly where none exists; or a refusal as of a trial, without 22. The limit is 0 exactly where a trial
+ * accepts 0.
  *
  * The longest walk (planner_walk) of its trees is at most eight times as long as the longest of any closed walks that
  * together come to every vertex: rooted, one from each root; unrooted, at most k, from anywhere. These may cross any edge

@@ -19,8 +19,9 @@ pub fn best(question: Question, values: &mut [u64; 3], buffer: &mut [u8]) -> u32
         let Ok(mut prepared) = rooted::prepare(&graph, k, u64::MAX) else {
             return NO_COVER;
         };
-        // At 0 no edge is left, so that every vertex must be a root.
-        let limit = search(graph.n == k, graph.total(), |limit| prepared.accepts(limit));
+        // At 0 nothing is split, so that all vertices must be joined to roots by weightless edges, and that is all.
+        let at_zero = prepared.heaviest_edge == 0;
+        let limit = search(at_zero, graph.total(), |limit| prepared.accepts(limit));
         let Placed { parts, left, assigned, .. } = prepared.place(limit);
         let Assigned::Roots(roots) = assigned else {
             unreachable!("the limit found is accepted");
@@ -31,7 +32,8 @@ pub fn best(question: Question, values: &mut [u64; 3], buffer: &mut [u8]) -> u32
         if prepared.components > k {
             return NO_COVER;
         }
-        let limit = search(graph.n <= k, graph.total(), |limit| prepared.needs(limit) <= k as u64);
+        let accepts = |limit| prepared.needs(limit) <= k as u64;
+        let limit = search(accepts(0), graph.total(), accepts);
         (limit, prepared.trees(limit))
     };
     answer_cover(&graph, limit, &trees, values, buffer)

@@ -39,16 +39,37 @@ impl Distances {
     pub fn path_to(&self, root: usize, vertices: impl Iterator<Item = u16>, path: &mut Vec<u16>) {
         let distance = &self.from[root];
         let nearest = vertices.min_by_key(|&v| distance[v as usize]);
-        let mut at = nearest.expect("a part has vertices");
-        while distance[at as usize] > 0 {
-            let here = distance[at as usize];
-            let is_last = |arc: &&crate::graph::Arc| {
-                distance[arc.to as usize].checked_add(arc.weight) == Some(here)
-            };
-            let last = self.around.of(at).iter().find(is_last).expect("a vertex reached");
-            path.push(last.edge);
-            at = last.to;
+        let end = nearest.expect("a part has vertices");
+        let led_back = self.back(distance, root as u16, end, &mut [false; 256], path);
+        assert!(led_back, "a vertex reached");
+    }
+
+    /// Adds the edges of a shortest path from a vertex back to the root, depth first over the arcs that such paths may take.
+    /// Weightless ones may lead in a circle, or nowhere new: no vertex is entered twice. Whether the root was reached.
+    fn back(
+        &self,
+        distance: &[u32],
+        root: u16,
+        at: u16,
+        entered: &mut [bool; 256],
+        path: &mut Vec<u16>,
+    ) -> bool {
+        if at == root {
+            return true;
         }
+        entered[at as usize] = true;
+        for arc in self.around.of(at) {
+            let through = distance[arc.to as usize].checked_add(arc.weight);
+            if entered[arc.to as usize] || through != Some(distance[at as usize]) {
+                continue;
+            }
+            path.push(arc.edge);
+            if self.back(distance, root, arc.to, entered, path) {
+                return true;
+            }
+            path.pop();
+        }
+        false
     }
 }
 

@@ -67,20 +67,32 @@ impl Made {
 
 /// The sheet bytes of a shape at a size: always the same, connected, its vertices and edges numbered at random.
 pub fn sheet(shape: Shape, size: &Size) -> Vec<u8> {
-    weighed(&mut Made(shape as u64), shape, size, 1_000_000)
+    weighed(&mut Made(shape as u64), shape, size, |made| 1 + made.below(1_000_000) as u32)
+}
+
+/// Such bytes with a weightless edge among every sixteen, give or take.
+pub fn gated(shape: Shape, size: &Size) -> Vec<u8> {
+    let weight =
+        |made: &mut Made| if made.below(16) == 0 { 0 } else { 1 + made.below(1_000_000) as u32 };
+    weighed(&mut Made(shape as u64), shape, size, weight)
 }
 
 /// Such bytes, and a class for each edge: one that counts 100, 120, 150 or 200 percent, each as often. The weights are up to
 /// 500,000, so that none is above 1,000,000 when it is adjusted.
 pub fn surfaced(shape: Shape, size: &Size) -> (Vec<u8>, Vec<u8>) {
     let mut made = Made(shape as u64);
-    let sheet = weighed(&mut made, shape, size, 500_000);
+    let sheet = weighed(&mut made, shape, size, |made| 1 + made.below(500_000) as u32);
     let class = |_| [0, 10, 20, 40][made.below(4)] + made.below(10) as u8;
     (sheet, (0..size.m).map(class).collect())
 }
 
-/// The sheet bytes of a shape at a size, with weights from 1 to a most.
-fn weighed(made: &mut Made, shape: Shape, size: &Size, most: usize) -> Vec<u8> {
+/// The sheet bytes of a shape at a size, with made weights.
+fn weighed(
+    made: &mut Made,
+    shape: Shape,
+    size: &Size,
+    weight: impl Fn(&mut Made) -> u32,
+) -> Vec<u8> {
     let mut pairs = pairs(made, shape, size.n);
     while pairs.len() < size.m {
         pairs.push(match shape {
@@ -102,7 +114,7 @@ fn weighed(made: &mut Made, shape: Shape, size: &Size, most: usize) -> Vec<u8> {
         out.extend(name[b].to_le_bytes());
     }
     for _ in 0..size.m {
-        out.extend((1 + made.below(most) as u32).to_le_bytes());
+        out.extend(weight(made).to_le_bytes());
     }
     out
 }

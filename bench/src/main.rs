@@ -1,7 +1,7 @@
 //! Measures the linked planner beside the plain Rust version and prints a table. The word behind the program's name is
 //! the number of rounds (101).
 
-use bench::made::{sheet, surfaced, Shape, Size, SHAPES, SIZES};
+use bench::made::{gated, sheet, surfaced, Shape, Size, SHAPES, SIZES};
 use bench::measure::{medians, Asked, Measured};
 use bench::planners::{linked, planners, Planner};
 use bench::question::{Question, ROOTED, UNROOTED};
@@ -49,7 +49,7 @@ const BY_WORDS: [Size; 4] = [
 const WHOLE_TREE: [Size; 1] = [Size { n: 256, m: 2_048, k: 1 }];
 
 /// A quarter of the full size, and the full size.
-const WITH_LISTS: [Size; 2] = [SIZES[2], SIZES[0]];
+const QUARTER_AND_FULL: [Size; 2] = [SIZES[2], SIZES[0]];
 
 /// The graphs of a row.
 #[derive(Clone, Copy)]
@@ -59,6 +59,8 @@ enum Graphs {
     Unlisted,
     /// The same, put with the list.
     Listed,
+    /// Random ones with weightless edges.
+    Gated,
 }
 
 impl Graphs {
@@ -67,6 +69,7 @@ impl Graphs {
             Graphs::Of(shape) => shape.name(),
             Graphs::Unlisted => "no list",
             Graphs::Listed => "classes",
+            Graphs::Gated => "gates",
         }
     }
 
@@ -74,6 +77,7 @@ impl Graphs {
     fn made(self, size: &Size) -> (Vec<u8>, Option<Vec<u8>>) {
         let (sheet, classes) = match self {
             Graphs::Of(shape) => return (sheet(shape, size), None),
+            Graphs::Gated => return (gated(Shape::Random, size), None),
             Graphs::Unlisted | Graphs::Listed => surfaced(Shape::Random, size),
         };
         (sheet, matches!(self, Graphs::Listed).then_some(classes))
@@ -90,6 +94,7 @@ fn main() {
     let mut ratios = all_shapes(rounds);
     single_sizes(rounds);
     ratios.extend(with_lists(rounds));
+    ratios.extend(with_gates(rounds));
     println!();
     for (name, _, _) in QUESTIONS {
         let ratios = ratios.iter().filter(|ratio| ratio.0 == name).map(|ratio| ratio.1);
@@ -134,8 +139,15 @@ fn single_sizes(rounds: usize) {
 fn with_lists(rounds: usize) -> Vec<Ratio> {
     heading("Random graphs, weights up to 500,000, without and with a list of classes; growth: from a quarter of the edges.");
     let of = |row| [Graphs::Unlisted, Graphs::Listed].map(|graphs| (row, graphs));
-    let put = |(row, graphs)| rows(row, graphs, &WITH_LISTS, rounds);
+    let put = |(row, graphs)| rows(row, graphs, &QUARTER_AND_FULL, rounds);
     QUESTIONS.into_iter().flat_map(of).filter_map(put).collect()
+}
+
+/// Every question on graphs with weightless edges; the ratios at full size.
+fn with_gates(rounds: usize) -> Vec<Ratio> {
+    heading("Random graphs, one edge of sixteen weightless; growth: from a quarter of the edges.");
+    let put = |row| rows(row, Graphs::Gated, &QUARTER_AND_FULL, rounds);
+    QUESTIONS.into_iter().filter_map(put).collect()
 }
 
 /// The rows that ask this, of both kinds.

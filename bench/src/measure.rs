@@ -52,9 +52,13 @@ impl Measured<'_> {
         }
     }
 
-    /// Whether a planner takes the question.
+    /// Whether a planner takes the question. The library of an earlier state may know no lists, or refuse weightless edges.
     pub fn is_for(&self, planner: &Planner) -> bool {
-        self.question.classes.is_none() || planner.takes_lists()
+        if self.question.classes.is_some() && !planner.takes_lists() {
+            return false;
+        }
+        let (mut values, mut buffer) = ([0; 3], vec![0; BUFFER]);
+        !planner.is_earlier() || self.put(planner, &mut values, &mut buffer) != 16
     }
 
     /// Fails unless a planner's answer is right: the case, what the rules fix of the values, and a cover that the plain

@@ -29,10 +29,13 @@ pub fn linked() -> Option<Planner> {
     None
 }
 
+/// The name of the library of an earlier state.
+const EARLIER: &str = "before";
+
 /// The library of an earlier state.
 fn earlier() -> Option<Planner> {
     #[cfg(earlier)]
-    return Some(Planner::Linked("before", library::before()));
+    return Some(Planner::Linked(EARLIER, library::before()));
     #[cfg(not(earlier))]
     None
 }
@@ -45,6 +48,11 @@ impl Planner {
             #[cfg(linked)]
             Planner::Linked(name, _) => name,
         }
+    }
+
+    /// Whether it is the library of an earlier state.
+    pub fn is_earlier(&self) -> bool {
+        self.name() == EARLIER
     }
 
     /// Whether it takes lists; the library of an earlier state may not.

@@ -37,7 +37,9 @@ impl Unrooted<'_> {
     /// The number of trees needed at a limit.
     pub fn needs(&self, limit: u64) -> u64 {
         if limit == 0 {
-            return self.graph.n as u64;
+            // One for each component of the weightless edges, which come first.
+            let weightless = |&&e: &&u16| self.graph.edges[e as usize].weight == 0;
+            return (self.graph.n - self.kept.iter().take_while(weightless).count()) as u64;
         }
         let mut weight = [0u64; 256];
         let mut needs = 0;

@@ -8,10 +8,11 @@ use bench::question::{Question, BUFFER, ROOTED, UNROOTED};
 use bench::trial::trial;
 use reference::brought::Brought;
 use reference::check::check_with;
-use reference::districts::Asked;
+use reference::districts::{Asked, Record};
 use reference::judge::{self, Reply};
 use reference::made_filings::filings;
-use reference::made_shapes::{graph, SEARCHED, SHAPES, WEIGHTS};
+use reference::made_gates::gates;
+use reference::made_shapes::{any_weights, graph, POSITIVE, SEARCHED, SHAPES};
 use reference::made_surfaces::surfaced;
 use reference::made_trials::trials;
 use reference::question::{Answer, Kind};
@@ -123,7 +124,7 @@ fn on_shapes(seed: u64, turns: usize, vertices: (usize, usize), trees: usize) {
         for shape in SHAPES {
             let n = random.between(vertices.0, vertices.1);
             let k = random.between(1, n.min(trees));
-            let weights = WEIGHTS[random.below(WEIGHTS.len())];
+            let weights = any_weights(&mut random, &POSITIVE);
             let graph = graph(&mut random, shape, n, k, weights);
             let sheet = graph.to_sheet();
             let sum = graph.total() as usize;
@@ -171,9 +172,11 @@ fn large_graphs() {
 fn measured_graphs() {
     for shape in bench::made::SHAPES {
         for size in &bench::made::SIZES[1..] {
-            let sheet = bench::made::sheet(shape, size);
-            for kind in [Kind::Rooted, Kind::Unrooted] {
-                assert_eq!(judged(kind, size.k, None, &sheet, BUFFER), Ok(0), "{shape:?} {size:?}");
+            for sheet in [bench::made::sheet(shape, size), bench::made::gated(shape, size)] {
+                for kind in [Kind::Rooted, Kind::Unrooted] {
+                    let said = judged(kind, size.k, None, &sheet, BUFFER);
+                    assert_eq!(said, Ok(0), "{shape:?} {size:?}");
+                }
             }
         }
     }
@@ -198,11 +201,10 @@ fn filed_covers_are_checked_as_the_reference_checks_them() {
     }
 }
 
-/// Trials, best limits and checks with lists of classes, right and wrong ones.
-#[test]
-fn records_with_lists_are_answered_as_the_reference_allows() {
+/// How often each case is met in trials and best limits, and in checks, each of which must be answered as the reference allows.
+fn met_in(records: &[Record]) -> [[usize; 64]; 2] {
     let mut met = [[0; 64]; 2];
-    for (i, record) in surfaced().iter().enumerate() {
+    for (i, record) in records.iter().enumerate() {
         let (kind, k, brought) = (record.kind, record.k, record.brought());
         let (which, said) = match &record.asked {
             Asked::Trial { limit, room } => (0, judged_with(kind, k, Some(*limit), brought, *room)),
@@ -212,6 +214,21 @@ fn records_with_lists_are_answered_as_the_reference_allows() {
         let case = said.unwrap_or_else(|why| panic!("record {i}: {why}"));
         met[which][case as usize] += 1;
     }
+    met
+}
+
+/// Trials, best limits and checks with weightless edges.
+#[test]
+fn weightless_edges_are_answered_as_the_reference_allows() {
+    let met = met_in(&gates());
+    assert!([0, 1, 2, 3].iter().all(|&case| met[0][case] > 0), "{met:?}");
+    assert!([0, 34].iter().all(|&case| met[1][case] > 0), "{met:?}");
+}
+
+/// Trials, best limits and checks with lists of classes, right and wrong ones.
+#[test]
+fn records_with_lists_are_answered_as_the_reference_allows() {
+    let met = met_in(&surfaced());
     for case in [0, 1, 2, 3, 4, 11, 12, 13, 14, 15, 16, 53, 54, 21, 22, 23] {
         assert!(met[0][case] > 0, "case {case} is not met");
     }

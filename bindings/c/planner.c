@@ -84,6 +84,26 @@ static void heaviest_line(void) {
     assert(planner_best_of(&q, values, buffer, sizeof buffer) == PLANNER_COVER && values[1] == 833334);
 }
 
+/* A footbridge 0-1 of weight 0, a line 1-2 of weight 5, and stop 3 alone: three components of weightless lines. */
+static void footbridge(void) {
+    static const uint8_t gated[] = {4, 0, 2, 0, 1, 0, 2, 0, 0, 0, 1, 0, 5, 0, 0, 0, 0, 0, 0, 0};
+    static const uint8_t three[] = {3, 0, 1, 0, 0, 0, 2, 0, 3, 0, 0, 0, 1, 0};
+    planner_question q = {0};
+    q.kind = PLANNER_UNROOTED;
+    q.k = 3;
+    q.graph = gated;
+    q.graph_length = sizeof gated;
+    assert(planner_trial_of(&q, 0, values, buffer, sizeof buffer) == PLANNER_COVER);
+    assert(memcmp(values, (uint64_t[]){0, 0, 3}, sizeof values) == 0 && memcmp(buffer, three, sizeof three) == 0);
+    assert(planner_best_of(&q, values, buffer, sizeof buffer) == PLANNER_COVER && values[0] == 0);
+    assert(planner_check_of(&q, three, sizeof three, values) == 0 && values[0] == 0);
+    q.k = 2;
+    assert(planner_trial_of(&q, 0, values, buffer, sizeof buffer) == PLANNER_TOO_LOW_NEEDS && values[0] == 3);
+    assert(planner_best_of(&q, values, buffer, sizeof buffer) == PLANNER_COVER && values[0] == 5);
+    q.kind = PLANNER_ROOTED;
+    assert(planner_trial_of(&q, 0, values, buffer, sizeof buffer) == PLANNER_TOO_LOW_STOP && values[0] == 2);
+}
+
 int main(void) {
     /* Yards: "B 4, heaviest 6". */
     assert(trial(PLANNER_ROOTED, 4) == PLANNER_COVER);
@@ -115,5 +135,6 @@ int main(void) {
 
     surfaces();
     heaviest_line();
+    footbridge();
     return 0;
 }

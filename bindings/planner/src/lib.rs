@@ -98,7 +98,7 @@ pub fn trial(kind: Kind, k: usize, limit: u64, graph: &[u8], buffer: &mut [u8]) 
 }
 
 /// The best limit for k trees on the bytes of a graph: a cover whose heaviest tree weighs at most four times that of any
-/// other of the kind for k. The longest [`walk`] of its trees is at most eight times as long as the longest of any closed
+/// other of the kind for k. The limit is 0 exactly where a [`trial`] accepts 0. The longest [`walk`] of its trees is at most eight times as long as the longest of any closed
 /// walks that together come to every vertex: one from each root, or, unrooted, at most k. Any input is answered; bytes of the
 /// buffer past the cover stay as they are.
 pub fn best(kind: Kind, k: usize, graph: &[u8], buffer: &mut [u8]) -> Reply {

@@ -169,9 +169,9 @@ fn lists_of_other_lengths() {
 #[test]
 fn numbers_in_their_order() {
     let mut random = Random::new(24);
-    let (good, heavy, weightless) = ([3, 3, 5], [1_000_000, 3, 5], [1_000_000, 3, 0]);
+    let (good, heavy, too_heavy) = ([3, 3, 5], [1_000_000, 3, 5], [1_000_000, 3, 1_000_001]);
     let before_the_cover: [([u64; 3], &[u8], u32); 4] = [
-        (weightless, &[40; 2], 16),
+        (too_heavy, &[40; 2], 16),
         (heavy, &[40; 2], 53),
         (heavy, &[40; 3], 54),
         (good, &[40; 3], 21),

@@ -11,7 +11,7 @@ use reference::cover::{encode, filed_length, Tree};
 use reference::districts::{Asked as Recorded, Record};
 use reference::graph::sheet;
 use reference::made_districts::records;
-use reference::made_shapes::{graph, SHAPES, WEIGHTS};
+use reference::made_shapes::{any_weights, graph, POSITIVE, SHAPES};
 use reference::question::{Answer, Kind as Crews};
 use reference::random::Random;
 use reference::rivals::least_longest;
@@ -141,7 +141,7 @@ fn the_longest_walk_is_within_eight_times() {
     for shape in SHAPES.iter().cycle().take(100 * SHAPES.len()) {
         let n = random.between(2, 6);
         let most = random.between(1, n.min(4));
-        let weights = WEIGHTS[random.below(WEIGHTS.len())];
+        let weights = any_weights(&mut random, &POSITIVE);
         let graph = graph(&mut random, *shape, n, most, weights);
         for k in 1..=most {
             for (crews, kind) in [(BOTH[0], Kind::Rooted), (BOTH[1], Kind::Unrooted)] {
