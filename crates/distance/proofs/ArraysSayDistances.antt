@@ -25,7 +25,7 @@ use Rattle.distance_laws.proofs.Least.{distanceTo, distance-reached, distance-m
 use Rattle.distance_laws.proofs.PathWeights.{turned-weight, weight-most}
 use Rattle.edges.specs.Around.{arcEdge, arcHead, arcWeight, Around}
 use Rattle.waiting.specs.Last.{lastOf, lastEdge, vertexBefore}
-use Rattle.distance.specs.Trail.{IsTrail, home, over}
+use Rattle.distance.specs.Trail.{IsTrail, home, over, HasTrail}
 use Rattle.distance.specs.Shortest.{unreached, SaysDistance, nowhere, there, IsPathBack, Shortest}
 use Rattle.distance.proofs.Trails.{trail-of, one-trail}
 use Rattle.distance.proofs.ArcEdges.{IsEdge, arc-edges, edge-arcs}
@@ -40,19 +40,13 @@ vertex-before : (a u : ℕ) → vertexBefore (lastOf (arcEdge a) u) ≡ u
 unfolding lastOf vertexBefore arcEdge
 vertex-before a u = omega arith
 
--- A vertex has a trail of at most that many edges.
-record Trailed (last : List ℕ) (root v most : ℕ) : Type 0 where
-  edges : List ℕ
-  is : IsTrail last root edges v
-  few : length edges ≤ most
-
 -- A trail of at most that many edges, which is a path back of that weight. The vertices on it have no longer trails, so that none stands on it twice.
 record Traced (g : Graph) (last : List ℕ) (root v most weight : ℕ) : Type 0 where
   edges : List ℕ
   is : IsTrail last root edges v
   few : length edges ≤ most
   path : IsPathBack g root v edges weight
-  passed : (x : ℕ) → x ∈ stopsFrom g v edges → Trailed last root x (length edges)
+  passed : (x : ℕ) → x ∈ stopsFrom g v edges → HasTrail (suc (length edges)) last root x
 
 module _ {g : Graph} {bounds arcs : List ℕ} (around : Around g (below (edgeCount g)) bounds arcs) {root : ℕ} {dist last : List ℕ}
     (room : g .vertices ≤ length last) (s : settling.Settled (g .vertices) bounds arcs root dist last)
@@ -92,10 +86,10 @@ module _ {g : Graph} {bounds arcs : List ℕ} (around : Around g (below (edgeCou
         not-passed : (x : ℕ) → x ∈ stopsFrom g u (t .edges) → v ≡ x → ⊥
         not-passed x m q = longer (t .passed x m)
           where
-            longer : Trailed last root x (length (t .edges)) → ⊥
+            longer : HasTrail (suc (length (t .edges))) last root x → ⊥
             longer p = omega (arith, p .few, ap length (one-trail own (rw (sym q) at (p .is))))
 
-        passed-over : (x : ℕ) → x ∈ (v ∷ stopsFrom g u (t .edges)) → Trailed last root x (suc (length (t .edges)))
+        passed-over : (x : ℕ) → x ∈ (v ∷ stopsFrom g u (t .edges)) → HasTrail (suc (suc (length (t .edges)))) last root x
         passed-over x (List·Memᴰ·head q) = record { edges = arcEdge a ∷ t .edges; is = rw q own; few = omega arith }
         passed-over x (List·Memᴰ·tail m) = let p = t .passed x m in record { edges = p .edges; is = p .is; few = omega (arith, p .few) }
 

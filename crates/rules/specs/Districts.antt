@@ -96,13 +96,17 @@ answer (trial q limit c) = reply (askTrial q limit leastRoom c)
 answer (best q c) = reply (askBest q leastRoom c)
 answer (check q cover) = verdict (askCheck q cover)
 
--- A row: what is asked, and the answer that document 01 gives.
+-- A row: what is asked, and the answer that the documents give.
 pub record Row : Type 0 where
   pub asked : Asked
   pub expected : Answer
 
 unfoldable pub row : Asked → Answer → Row
 row q a = record { asked = q; expected = a }
+
+-- Every row's question has the answer that is expected of it.
+abbrev pub AsExpected : List Row → Type 0
+AsExpected rows = map (λ (r : Row). answer (r .asked)) rows ≡ map (λ (r : Row). r .expected) rows
 
 -- The rows, in document 01's order.
 unfoldable pub rows : List Row
@@ -128,7 +132,6 @@ rows =
     ∷ row (check (question yards 2 N) (2 ∷ 0 ∷ 2 ∷ 0 ∷ 0 ∷ 0 ∷ 1 ∷ 0 ∷ 0 ∷ 0 ∷ 1 ∷ 0 ∷ 0 ∷ 0 ∷ 1 ∷ 0 ∷ [])) (verdict (number 34))
     ∷ []
 
--- Every row's question has the answer that document 01 gives.
-pub starred-rows : map (λ (r : Row). answer (r .asked)) rows ≡ map (λ (r : Row). r .expected) rows
+pub starred-rows : AsExpected rows
 unfolding N bare tree nothing assigned set answer row rows
 starred-rows = refl

@@ -1,12 +1,12 @@
 -- Weightless edges on small sheets, computed from the definitions (document 02, A.4).
 -- Assumes nothing.
 use Prim.Native.Nat.{ℕ}
-use mathlib.Core.Path.{_≡_, refl}
-use mathlib.Core.List.{List, [], _∷_, map}
+use mathlib.Core.Path.{refl}
+use mathlib.Core.List.{List, [], _∷_}
 use Rattle.rules.specs.RootedTrial.{Choices}
 use Rattle.rules.specs.Reply.{covered, too-low-stop, too-low-needs, yes, number}
 use Rattle.rules.specs.Questions.{yards, roving, question}
-use Rattle.rules.specs.Districts.{tree, nothing, assigned, trial, best, check, reply, verdict, answer, Row, row}
+use Rattle.rules.specs.Districts.{tree, nothing, assigned, trial, best, check, reply, verdict, answer, Row, row, AsExpected}
 use Rattle.rules.specs.SurfaceExamples.{listing}
 
 -- A footbridge 0-1 of weight 0 behind an edge 1-2 of weight 5, and vertex 3 alone: at limit 0 three components.
@@ -44,6 +44,6 @@ rows =
     ∷ row (check (question yards 0 ring) []) (verdict (number 21))
     ∷ []
 
-pub gate-rows : map (λ (r : Row). answer (r .asked)) rows ≡ map (λ (r : Row). r .expected) rows
+pub gate-rows : AsExpected rows
 unfolding tree nothing assigned answer row listing bridge ring gated over-the-gate rows
 gate-rows = refl

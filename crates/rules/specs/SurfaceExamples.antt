@@ -7,7 +7,7 @@ use mathlib.Core.Option.{some}
 use Rattle.graph.specs.Surface.{percentOf, adjusted}
 use Rattle.rules.specs.Reply.{covered, too-low-stop, yes, number}
 use Rattle.rules.specs.Questions.{Kind, yards, roving, Question, question}
-use Rattle.rules.specs.Districts.{N, tree, nothing, trial, best, check, reply, verdict, answer, Row, row}
+use Rattle.rules.specs.Districts.{N, tree, nothing, trial, best, check, reply, verdict, answer, Row, row, AsExpected}
 
 -- Each end of document 02's ranges of classes.
 pub borders : map percentOf (0 ∷ 9 ∷ 10 ∷ 19 ∷ 20 ∷ 39 ∷ 40 ∷ 59 ∷ 60 ∷ 255 ∷ []) ≡ 100 ∷ 100 ∷ 120 ∷ 120 ∷ 150 ∷ 150 ∷ 200 ∷ 200 ∷ 100 ∷ 100 ∷ []
@@ -49,6 +49,6 @@ rows =
     ∷ row (check (listing yards 0 too-long []) []) (verdict (number 16))
     ∷ []
 
-pub surfaced-rows : map (λ (r : Row). answer (r .asked)) rows ≡ map (λ (r : Row). r .expected) rows
+pub surfaced-rows : AsExpected rows
 unfolding N tree nothing answer row listing long too-long filed rows
 surfaced-rows = refl
