@@ -11,7 +11,7 @@ pub mod Reaching
 pub mod Bounding
 -- walks through vertices that pass a test, and the last visit of a vertex
 pub mod Touring
--- every walk can be shortened to fewer edges than there are vertices
+-- every walk can be shortened to a path, of fewer edges than there are vertices
 pub mod Shortening
 -- the distances are the least weights of walks
 pub mod Least
