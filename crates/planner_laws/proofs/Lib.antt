@@ -16,6 +16,8 @@ pub mod RootedAssigned
 pub mod RootedUnion
 -- an accepted limit: the trees are a cover, the heaviest at most 4 B - 2
 pub mod RootedCover
+-- of several roots at one vertex the first has what is left there (document 02, A.5)
+pub mod SharedVertex
 -- each leaf edge stands in exactly one tree of the answer
 pub mod RootedServed
 -- one forest serves all limits: where every vertex is joined, the forest is the whole one

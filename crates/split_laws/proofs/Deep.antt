@@ -2,9 +2,9 @@
 -- passed vertex has both ends passed at the end. Each child is one vertex fewer.
 -- Assumes nothing.
 use Prim.Native.Nat.{ℕ, zero, suc, _≤_, _<_}
-use mathlib.Core.Path.{_≡_, refl, sym, subst}
+use mathlib.Core.Path.{_≡_, refl, subst}
 use mathlib.Core.Bool.{Bool, true, false, cond, not}
-use mathlib.Core.List.{List, [], _∷_, List·Memᴰ·head, List·Memᴰ·tail, List·Memᴰ·not-nil, Memᴰ·cast}
+use mathlib.Core.List.{List, [], _∷_, List·Memᴰ·head, List·Memᴰ·tail}
 use mathlib.Core.Logic.{_⊎_, inl, inr}
 use native.Mathlib.Omega.{arith}
 use Rattle.lists.specs.Count.{count}
@@ -15,10 +15,10 @@ use Rattle.lists.proofs.Fewer.{count-no-more, count-fewer, count-bounded}
 use Rattle.graph.specs.Graph.{Graph, oneEnd, otherEnd}
 use Rattle.rules.specs.Walk.{Joins}
 use Rattle.rules.specs.Grow.{branch, Grown, farEnd, leadsOn, growChildren, growNode}
-use Rattle.rules.proofs.FarEnd.{far-end}
 use Rattle.rules.proofs.Joined.{joins-below}
-use Rattle.split_laws.proofs.Leads.{leads-on, leads-nowhere}
+use Rattle.split_laws.proofs.Leads.{leads-on}
 use Rattle.split_laws.proofs.Grown.{kept, node-grows, children-grow}
+use Rattle.split_laws.proofs.PassedAround.{node-met}
 
 -- How many vertices of the graph were not passed.
 unfoldable pub unpassed : Graph → List ℕ → ℕ
@@ -55,11 +55,6 @@ module _ (g : Graph) where
       let all : ℕ → Bool = λ _. true in
       omega (arith, count-bounded (g .vertices) all, count-fewer (g .vertices) test all (λ _ _ _. refl) c inside (rw (in-member {v = c} {xs = c ∷ passed} (List·Memᴰ·head refl))) refl)
 
--- The children of v among the edges es are grown: what is newly passed is finished, and so is v itself along es.
-record Done (g : Graph) (edges : List ℕ) (v : ℕ) (es before after : List ℕ) : Type 0 where
-  finished : Finished g edges before after
-  around : (e w : ℕ) → e ∈ es → Joins g e v w → w ∈ after
-
 module _ {g : Graph} where
   -- One growth after the other.
   finished-on : {edges before middle after : List ℕ} → ((x : ℕ) → x ∈ middle → x ∈ after)
@@ -74,12 +69,6 @@ module _ {g : Graph} where
       later (inl n) = earlier (a e u w m j n)
       later (inr n) = inr n
 
-  -- One more edge at v, all whose far ends are passed.
-  around-more : {v e : ℕ} {es after : List ℕ} → ((w : ℕ) → Joins g e v w → w ∈ after) → ((f w : ℕ) → f ∈ es → Joins g f v w → w ∈ after)
-      → (f w : ℕ) → f ∈ (e ∷ es) → Joins g f v w → w ∈ after
-  around-more {v} here there f w (List·Memᴰ·head q) j = here w (subst (λ (x : ℕ). Joins g x v w) q j)
-  around-more {v} here there f w (List·Memᴰ·tail m) j = there f w m j
-
 module _ (g : Graph) (edges : List ℕ) (inside : Inside g edges) where
   -- What an edge leads to is a vertex of the graph.
   far-inside : {e u w : ℕ} → e ∈ edges → Joins g e u w → w < g .vertices
@@ -89,12 +78,12 @@ module _ (g : Graph) (edges : List ℕ) (inside : Inside g edges) where
   abbrev NodesFinish : ℕ → Type 0
   NodesFinish depth = (c : ℕ) (passed : List ℕ) → c < g .vertices → unpassed g (c ∷ passed) < depth → Finished g edges passed (growNode depth g edges c passed .passed)
 
-  -- Then the children of a vertex are grown and the vertex is finished along the edges gone through.
+  -- Then so are the children of a vertex.
   children-finish : (depth : ℕ) → NodesFinish depth → (v : ℕ) (es : List ℕ) → ((e : ℕ) → e ∈ es → e ∈ edges)
       → (passed : List ℕ) → v ∈ passed → unpassed g passed ≤ depth
-      → Done g edges v es passed (growChildren (growNode depth g edges) g v es passed .passed)
+      → Finished g edges passed (growChildren (growNode depth g edges) g v es passed .passed)
   unfolding growChildren
-  children-finish depth nodes v [] known passed old enough = record { finished = λ e u w m j i. inl i; around = λ e w m j. absurd (List·Memᴰ·not-nil m) }
+  children-finish depth nodes v [] known passed old enough = λ e u w m j i. inl i
   children-finish depth nodes v (e ∷ es) known passed old enough =
       go (leadsOn g passed v e) refl (λ more i h. children-finish depth nodes v es later-known more i h)
     where
@@ -111,42 +100,32 @@ module _ (g : Graph) (edges : List ℕ) (inside : Inside g edges) where
       rest more = growChildren (growNode depth g edges) g v es more
 
       go : (b : Bool) → leadsOn g passed v e ≡ b
-          → ((more : List ℕ) → v ∈ more → unpassed g more ≤ depth → Done g edges v es more (rest more .passed))
-          → Done g edges v (e ∷ es) passed (cond b (record { branches = branch e c (child .branches) (rest (child .passed) .branches); passed = rest (child .passed) .passed }) (rest passed) .passed)
+          → ((more : List ℕ) → v ∈ more → unpassed g more ≤ depth → Finished g edges more (rest more .passed))
+          → Finished g edges passed (cond b (record { branches = branch e c (child .branches) (rest (child .passed) .branches); passed = rest (child .passed) .passed }) (rest passed) .passed)
       go true t later =
           let a = leads-on passed v e t in
           let c-inside = far-inside (known e (List·Memᴰ·head refl)) (a .0) in
           let deeper = nodes c passed c-inside (omega (arith, unpassed-fewer g c passed c-inside (a .1))) in
           let child-keeps = kept (node-grows g edges depth c passed) in
           let v-kept = child-keeps v (List·Memᴰ·tail old) in
-          let done = later (child .passed) v-kept (omega (arith, unpassed-more g passed (child .passed) (λ x m. child-keeps x (List·Memᴰ·tail m)))) in
-          let rest-keeps = kept (children-grow g edges depth v es later-known (child .passed) v-kept) in
-          record {
-            finished = finished-on rest-keeps deeper (done .finished);
-            around = around-more (λ w j. Memᴰ·cast (sym (far-end j)) (rest-keeps c (child-keeps c (List·Memᴰ·head refl)))) (done .around);
-          }
-      go false t later =
-          let done = later passed old enough in
-          record {
-            finished = done .finished;
-            around = around-more (λ w j. kept (children-grow g edges depth v es later-known passed old) w (leads-nowhere passed v e t j)) (done .around);
-          }
+          finished-on (kept (children-grow g edges depth v es later-known (child .passed) v-kept)) deeper
+          (later (child .passed) v-kept (omega (arith, unpassed-more g passed (child .passed) (λ x m. child-keeps x (List·Memᴰ·tail m)))))
+      go false t later = later passed old enough
 
   -- With depth above the number of vertices unpassed once v is passed, every edge at a newly passed vertex has both ends passed at the end.
   pub node-finishes : (depth v : ℕ) (passed : List ℕ) → v < g .vertices → unpassed g (v ∷ passed) < depth → Finished g edges passed (growNode depth g edges v passed .passed)
   unfolding growNode
   node-finishes zero v passed within enough e u w m j i = absurd (omega arith)
   node-finishes (suc depth) v passed within enough e u w m j i =
-      let done = children-finish depth (node-finishes depth) v edges (λ f n. n) (v ∷ passed) (List·Memᴰ·head refl) (omega arith) in
-      go done (done .finished e u w m j i)
+      go (children-finish depth (node-finishes depth) v edges (λ f n. n) (v ∷ passed) (List·Memᴰ·head refl) (omega arith) e u w m j i)
     where
       after : List ℕ
       after = growNode (suc depth) g edges v passed .passed
 
-      go : Done g edges v edges (v ∷ passed) after → (u ∈ (v ∷ passed)) ⊎ (w ∈ after) → (u ∈ passed) ⊎ (w ∈ after)
-      go done (inl (List·Memᴰ·head q)) = inr (done .around e w m (subst (λ (x : ℕ). Joins g e x w) q j))
-      go done (inl (List·Memᴰ·tail n)) = inl n
-      go done (inr n) = inr n
+      go : (u ∈ (v ∷ passed)) ⊎ (w ∈ after) → (u ∈ passed) ⊎ (w ∈ after)
+      go (inl (List·Memᴰ·head q)) = inr (node-met g edges (suc depth) v passed (omega arith) e w m (subst (λ (x : ℕ). Joins g e x w) q j))
+      go (inl (List·Memᴰ·tail n)) = inl n
+      go (inr n) = inr n
 
   -- As many levels as there are vertices are enough wherever it starts.
   pub vertices-deep : (v : ℕ) (passed : List ℕ) → v < g .vertices → Finished g edges passed (growNode (g .vertices) g edges v passed .passed)

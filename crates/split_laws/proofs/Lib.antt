@@ -18,10 +18,14 @@ pub mod Leads
 pub mod Filtered
 -- what is grown from a vertex
 pub mod Grown
+-- once a vertex is grown, all that its edges lead to is passed
+pub mod PassedAround
 -- depth enough to pass every vertex that can be reached
 pub mod Deep
 -- the trees grown from all roots
 pub mod Trees
+-- a vertex listed as a root again gets no branches
+pub mod Repeats
 -- every vertex linked to a root is a root or a child
 pub mod Reached
 -- every edge of a forest stands in its trees exactly once
