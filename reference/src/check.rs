@@ -3,7 +3,8 @@
 use crate::brought::Brought;
 use crate::cover::{decode, gather, heaviest, Filed, Tree};
 use crate::graph::Graph;
-use crate::question::{tree_count, Kind};
+use crate::question::Kind;
+use crate::vans::Crews;
 
 /// Checks cover bytes against sheet bytes without lists.
 pub fn check(kind: Kind, sheet: &[u8], k: u64, cover: &[u8]) -> Result<u64, u16> {
@@ -13,14 +14,14 @@ pub fn check(kind: Kind, sheet: &[u8], k: u64, cover: &[u8]) -> Result<u64, u16>
 /// Checks cover bytes against what is brought: yes with the heaviest weight, otherwise a number.
 pub fn check_with(kind: Kind, brought: Brought, k: u64, cover: &[u8]) -> Result<u64, u16> {
     let graph = brought.graph()?;
-    let k = tree_count(kind, graph.n, k)?;
-    check_on(kind, &graph, k, cover)
+    let roots = brought.crews(kind, graph.n, k)?;
+    check_on(kind, &graph, roots, cover)
 }
 
-/// Checks cover bytes against a graph and a tree count: yes with the heaviest weight, or 31 to 35.
-pub fn check_on(kind: Kind, graph: &Graph, k: usize, cover: &[u8]) -> Result<u64, u16> {
+/// Checks cover bytes against a graph and the trees asked for: yes with the heaviest weight, or 31 to 35.
+pub fn check_on(kind: Kind, graph: &Graph, crews: impl Crews, cover: &[u8]) -> Result<u64, u16> {
     let filed = decode(cover)?;
-    if !starts_fit(kind, graph.n, k, &filed.starts) {
+    if !starts_fit(kind, graph.n, &crews.roots(), &filed.starts) {
         return Err(32);
     }
     if !entries_fit(graph, &filed) {
@@ -37,10 +38,10 @@ pub fn check_on(kind: Kind, graph: &Graph, k: usize, cover: &[u8]) -> Result<u64
 }
 
 /// Whether the number of trees and their starts follow the rule of the kind.
-fn starts_fit(kind: Kind, n: usize, k: usize, starts: &[usize]) -> bool {
+fn starts_fit(kind: Kind, n: usize, roots: &[usize], starts: &[usize]) -> bool {
     let by_kind = match kind {
-        Kind::Rooted => starts.iter().copied().eq(0..k),
-        Kind::Unrooted => (1..=k).contains(&starts.len()),
+        Kind::Rooted => starts == roots,
+        Kind::Unrooted => (1..=roots.len()).contains(&starts.len()),
     };
     by_kind && starts.iter().all(|&start| start < n)
 }

@@ -1,6 +1,7 @@
 //! Distances from a vertex: the least weight of a path, or none where no path leads; and one path of that weight.
 
 use crate::graph::Graph;
+use crate::vans::Crews;
 
 /// What a search from a vertex finds of every vertex: its distance, and the last edge of a shortest path to it with the
 /// vertex before that edge.
@@ -43,9 +44,9 @@ pub fn from(graph: &Graph, source: usize) -> Vec<Option<u64>> {
     search(graph, source).distance
 }
 
-/// The distances from each of the roots 0 to k - 1.
-pub fn from_roots(graph: &Graph, k: usize) -> Vec<Vec<Option<u64>>> {
-    (0..k).map(|root| from(graph, root)).collect()
+/// The distances from each of the roots.
+pub fn from_roots(graph: &Graph, crews: impl Crews) -> Vec<Vec<Option<u64>>> {
+    crews.roots().into_iter().map(|root| from(graph, root)).collect()
 }
 
 /// The nearest of some vertices, the lowest among equals, with its distance.

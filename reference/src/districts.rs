@@ -10,15 +10,17 @@
 //! whole         2 bytes: 1 if the reply is printed whole, 0 if the rules leave a choice in it
 //! sheet length  2 bytes
 //! cover length  2 bytes, 0 in 1 to 4
-//! lists         2 bytes, a bit for each list that may be brought beside the sheet: 1 classes; every other bit is 0
+//! lists         2 bytes, a bit for each list that may be brought beside the sheet: 1 classes, 2 vans; every other bit is 0
 //! class length  2 bytes, 0 where no list of classes is brought
-//! kept free     4 bytes, 0: room for the lengths of two lists more
+//! van length    2 bytes, 0 where no list of vans is brought
+//! kept free     2 bytes, 0: room for the length of one list more
 //! sheet         the graph's bytes, right or wrong
 //! cover         the bytes of the filed cover, right or wrong
 //! classes       the bytes of the list of classes, right or wrong
+//! vans          the bytes of the list of vans, right or wrong
 //! ```
 //!
-//! A list of no bytes is not the same as no list: where the class length is 0, `lists` says which of the two is brought.
+//! A list of no bytes is not the same as no list: where the length of a list is 0, `lists` says which of the two is brought.
 //!
 //! The reply to 1 to 4 is printed as the program `rounds` prints it, rows of trees included, if the record says `whole`
 //! or the reply is neither a cover nor "too low parts". Otherwise it is one of
@@ -58,12 +60,14 @@ pub struct Record {
     pub sheet: Vec<u8>,
     /// The list of classes, if one is brought.
     pub classes: Option<Vec<u8>>,
+    /// The list of vans, if one is brought.
+    pub vans: Option<Vec<u8>>,
 }
 
 impl Record {
     /// A question without lists.
     pub fn plain(asked: Asked, kind: Kind, k: usize, sheet: &[u8]) -> Record {
-        Record { asked, kind, k, sheet: sheet.to_vec(), classes: None }
+        Record { asked, kind, k, sheet: sheet.to_vec(), classes: None, vans: None }
     }
 
     /// The same question with a list of classes.
@@ -71,9 +75,15 @@ impl Record {
         Record { classes: Some(classes.to_vec()), ..self }
     }
 
+    /// The same question with a list of vans, as bytes.
+    pub fn with_vans(self, vans: &[u8]) -> Record {
+        Record { vans: Some(vans.to_vec()), ..self }
+    }
+
     /// What the question brings.
     pub fn brought(&self) -> Brought<'_> {
-        Brought { sheet: &self.sheet, classes: self.classes.as_deref() }
+        let (classes, vans) = (self.classes.as_deref(), self.vans.as_deref());
+        Brought { sheet: &self.sheet, classes, vans }
     }
 
     /// The planner's answer, which is written to the buffer; nothing for a check.
@@ -102,7 +112,8 @@ impl Record {
             _ => return true,
         };
         let graph = self.brought().graph().expect("what is answered can be read");
-        is_fixed(self.kind, &graph, self.k, limit)
+        let crews = self.brought().crews(self.kind, graph.n, self.k as u64);
+        is_fixed(self.kind, &graph, crews.expect("what is answered has its roots"), limit)
     }
 }
 
@@ -122,15 +133,16 @@ pub fn encode(records: &[Record]) -> Vec<u8> {
         let answer = record.answer(&mut vec![0; record.room()]);
         let is_whole = answer.is_none_or(|answer| record.is_whole(&answer));
         put_two(&mut out, usize::from(is_whole));
-        let classes = record.classes.as_deref();
         put_two(&mut out, record.sheet.len());
         put_two(&mut out, cover.len());
-        put_two(&mut out, usize::from(classes.is_some()));
-        put_two(&mut out, classes.map_or(0, <[u8]>::len));
-        put_four(&mut out, 0);
+        let lists = [record.classes.as_deref(), record.vans.as_deref()];
+        let bits = lists.iter().zip([1, 2]).filter(|(list, _)| list.is_some());
+        put_two(&mut out, bits.map(|(_, bit)| bit).sum());
+        lists.iter().for_each(|list| put_two(&mut out, list.map_or(0, <[u8]>::len)));
+        put_two(&mut out, 0);
         out.extend_from_slice(&record.sheet);
         out.extend_from_slice(cover);
-        out.extend_from_slice(classes.unwrap_or(&[]));
+        lists.iter().for_each(|list| out.extend_from_slice(list.unwrap_or(&[])));
     }
     out
 }

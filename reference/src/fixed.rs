@@ -5,16 +5,17 @@ use crate::assignment::{assign, roots_near, Assigned};
 use crate::graph::{Edge, Graph};
 use crate::question::Kind;
 use crate::rooted::{plan, Plan};
+use crate::vans::Crews;
 
 /// Whether every reply to a trial that the rules allow is printed alike. Where that is hard to see the answer is no.
-pub fn is_fixed(kind: Kind, graph: &Graph, k: usize, limit: u64) -> bool {
+pub fn is_fixed(kind: Kind, graph: &Graph, crews: impl Crews, limit: u64) -> bool {
     if kind == Kind::Unrooted {
         return true;
     }
-    let Ok(plan) = plan(graph, k, limit) else {
+    let Ok(plan) = plan(graph, crews, limit) else {
         return true;
     };
-    let p = plan.parts.len();
+    let (p, k) = (plan.parts.len(), plan.roots.len());
     let mut roots = vec![0; p];
     match assign(p, k, &plan.allowed, &mut roots) {
         Assigned::Roots => {
@@ -39,7 +40,7 @@ fn is_only_assignment(k: usize, plan: &Plan, roots: &[u8]) -> bool {
 ///
 /// Each edge that one of them may bring must then be one that all of them need.
 fn is_only_union(graph: &Graph, plan: &Plan, part: usize, root: usize) -> bool {
-    let distance = &plan.distance[root];
+    let (distance, start) = (&plan.distance[root], plan.roots[root]);
     let held = [&plan.parts[part].edges[..], &plan.left[root].edges].concat();
     let ends = graph.ends(&plan.parts[part].edges);
     let least = ends.iter().filter_map(|&v| distance[v]).min();
@@ -49,8 +50,8 @@ fn is_only_union(graph: &Graph, plan: &Plan, part: usize, root: usize) -> bool {
     let mut brought = steps.iter().filter(|step| leads[step.to] && !held.contains(&step.edge));
     brought.all(|step| {
         let others = steps.iter().filter(|other| other.edge != step.edge);
-        let is_needed = !spread(graph.n, others.map(Step::back), &nearest)[root];
-        is_needed || !may_be_taken(graph.n, &steps, step, root, &nearest)
+        let is_needed = !spread(graph.n, others.map(Step::back), &nearest)[start];
+        is_needed || !may_be_taken(graph.n, &steps, step, start, &nearest)
     })
 }
 

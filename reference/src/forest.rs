@@ -1,6 +1,7 @@
 //! The forest at a limit: edges taken by weight, then number, and kept if their ends are not yet joined.
 
 use crate::graph::Graph;
+use crate::vans::Crews;
 
 /// A forest: its kept edges, rising by number, and for each vertex the lowest vertex of its tree.
 #[derive(Clone, Debug, PartialEq, Eq)]
@@ -22,30 +23,31 @@ pub fn within(graph: &Graph, limit: u64) -> Vec<usize> {
     (0..graph.edges.len()).filter(light).collect()
 }
 
-/// The forest at a limit with roots 0 to k - 1 counted as joined from the start.
-pub fn rooted(graph: &Graph, k: usize, limit: u64) -> Forest {
-    grow(graph, &within(graph, limit), k)
+/// The forest at a limit with the roots counted as joined from the start.
+pub fn rooted(graph: &Graph, crews: impl Crews, limit: u64) -> Forest {
+    grow(graph, &within(graph, limit), &crews.roots())
 }
 
 /// The forest at a limit without roots.
 pub fn unrooted(graph: &Graph, limit: u64) -> Forest {
-    grow(graph, &within(graph, limit), 0)
+    grow(graph, &within(graph, limit), &[])
 }
 
 /// The edges of a set that are kept when nothing is joined at first.
 pub fn thin(graph: &Graph, edges: &[usize]) -> Vec<usize> {
-    grow(graph, edges, 0).kept
+    grow(graph, edges, &[]).kept
 }
 
 /// For each vertex, the lowest vertex that edges of a set join it to.
 pub fn sides(graph: &Graph, edges: &[usize]) -> Vec<usize> {
-    grow(graph, edges, 0).label
+    grow(graph, edges, &[]).label
 }
 
-/// Takes the given edges in order and keeps each that joins two sides, vertices below k being one side.
-fn grow(graph: &Graph, edges: &[usize], k: usize) -> Forest {
+/// Takes the given edges in order and keeps each that joins two sides, the roots being one side.
+fn grow(graph: &Graph, edges: &[usize], roots: &[usize]) -> Forest {
     let mut label: Vec<usize> = (0..graph.n).collect();
-    let mut side: Vec<usize> = (0..graph.n).map(|v| if v < k { 0 } else { v }).collect();
+    let mut side: Vec<usize> = label.clone();
+    roots.iter().for_each(|&root| side[root] = roots[0]);
     let mut kept = Vec::new();
     for e in by_weight(graph, edges) {
         let edge = graph.edges[e];
@@ -68,12 +70,13 @@ fn join(label: &mut [usize], a: usize, b: usize) {
     }
 }
 
-/// The lowest vertex joined to none of the roots 0 to k - 1.
-pub fn lowest_unjoined(forest: &Forest, k: usize) -> Option<usize> {
-    (0..forest.label.len()).find(|&v| forest.label[v] >= k)
+/// The lowest vertex joined to none of the roots.
+pub fn lowest_unjoined(forest: &Forest, crews: impl Crews) -> Option<usize> {
+    let joined: Vec<usize> = crews.roots().iter().map(|&root| forest.label[root]).collect();
+    (0..forest.label.len()).find(|&v| !joined.contains(&forest.label[v]))
 }
 
-/// The lowest vertex of each tree, rising; in a rooted forest this is its root.
+/// The lowest vertex of each tree, rising.
 pub fn tops(forest: &Forest) -> Vec<usize> {
     let is_top = |&v: &usize| forest.label[v] == v;
     (0..forest.label.len()).filter(is_top).collect()

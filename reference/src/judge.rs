@@ -39,7 +39,7 @@ pub fn trial_with(
     same_length(reply)?;
     match at_limit::admit(kind, brought, k, limit, reply.before.len()) {
         Err(number) => exactly(&Answer::Refused(number), reply.before, reply),
-        Ok((graph, k)) => trial_on(kind, &graph, k, limit, reply),
+        Ok((graph, roots)) => trial_on(kind, &graph, &roots, limit, reply),
     }
 }
 
@@ -51,30 +51,36 @@ pub fn best(kind: Kind, sheet: &[u8], k: u64, reply: Reply) -> Result<(), String
 /// Judges a reply to a best-limit question; the error says what is wrong with it.
 pub fn best_with(kind: Kind, brought: Brought, k: u64, reply: Reply) -> Result<(), String> {
     same_length(reply)?;
-    let (graph, k) = match search::admit(kind, brought, k, reply.before.len()) {
+    let (graph, roots) = match search::admit(kind, brought, k, reply.before.len()) {
         Ok(admitted) => admitted,
         Err(number) => return exactly(&Answer::Refused(number), reply.before, reply),
     };
-    let Some((limit, _)) = search::search(kind, &graph, k) else {
+    let Some((limit, _)) = search::search(kind, &graph, &roots) else {
         return exactly(&Answer::NoCover, reply.before, reply);
     };
     match reply.answer {
-        Answer::Cover { .. } => trial_on(kind, &graph, k, limit, reply),
+        Answer::Cover { .. } => trial_on(kind, &graph, &roots, limit, reply),
         other => Err(format!("a cover at limit {limit} is due, not {other:?}")),
     }
 }
 
 /// Judges a reply to an admitted trial.
-fn trial_on(kind: Kind, graph: &Graph, k: usize, limit: u64, reply: Reply) -> Result<(), String> {
+fn trial_on(
+    kind: Kind,
+    graph: &Graph,
+    roots: &[usize],
+    limit: u64,
+    reply: Reply,
+) -> Result<(), String> {
     match (kind, reply.answer) {
         (Kind::Rooted, &Answer::Cover { limit: l, heaviest }) if l == limit => {
-            rooted_cover(graph, k, limit, heaviest, reply)
+            rooted_cover(graph, roots, limit, heaviest, reply)
         }
-        (Kind::Rooted, &Answer::Parts { parts, roots }) => {
-            rooted_parts(graph, k, limit, (parts, roots), reply)
+        (Kind::Rooted, &Answer::Parts { parts, roots: near }) => {
+            rooted_parts(graph, roots, limit, (parts, near), reply)
         }
         _ => {
-            let outcome = run(kind, graph, k, limit);
+            let outcome = run(kind, graph, roots, limit);
             exact_outcome(graph, limit, &outcome, reply)
         }
     }
@@ -109,20 +115,20 @@ fn same_length(reply: Reply) -> Result<(), String> {
 /// Judges an accepted rooted cover.
 fn rooted_cover(
     graph: &Graph,
-    k: usize,
+    roots: &[usize],
     limit: u64,
     heaviest: u64,
     reply: Reply,
 ) -> Result<(), String> {
-    let plan = plan(graph, k, limit).map_err(|v| format!("too low, stop {v} is due"))?;
+    let plan = plan(graph, roots, limit).map_err(|v| format!("too low, stop {v} is due"))?;
     let bytes = written(reply)?;
-    match check_on(Kind::Rooted, graph, k, bytes) {
+    match check_on(Kind::Rooted, graph, roots, bytes) {
         Ok(weight) if weight == heaviest => {}
         Ok(weight) => return Err(format!("the heaviest is {weight}, not {heaviest}")),
         Err(number) => return Err(format!("not a cover: {number}")),
     }
     let filed = decode(bytes).map_err(|number| format!("not a cover: {number}"))?;
-    if fits_some_assignment(graph, k, &plan, &gather(&filed)) {
+    if fits_some_assignment(graph, &plan, &gather(&filed)) {
         return Ok(());
     }
     Err("no assignment and shortest paths give these trees".into())
@@ -131,8 +137,8 @@ fn rooted_cover(
 /// Whether the trees of a rooted cover come from some assignment and some shortest paths.
 ///
 /// Every root is to be given one of its possible parts or "no part", every part going to one root.
-pub fn fits_some_assignment(graph: &Graph, k: usize, plan: &Plan, trees: &[Tree]) -> bool {
-    let p = plan.parts.len();
+pub fn fits_some_assignment(graph: &Graph, plan: &Plan, trees: &[Tree]) -> bool {
+    let (p, k) = (plan.parts.len(), plan.roots.len());
     if p > k {
         return false;
     }
@@ -155,12 +161,12 @@ pub fn fits_some_assignment(graph: &Graph, k: usize, plan: &Plan, trees: &[Tree]
 /// Judges a rooted "too low" that shows parts.
 fn rooted_parts(
     graph: &Graph,
-    k: usize,
+    roots: &[usize],
     limit: u64,
-    (parts, roots): (usize, usize),
+    (parts, near): (usize, usize),
     reply: Reply,
 ) -> Result<(), String> {
-    let plan = plan(graph, k, limit).map_err(|v| format!("too low, stop {v} is due"))?;
+    let plan = plan(graph, roots, limit).map_err(|v| format!("too low, stop {v} is due"))?;
     let filed = decode(written(reply)?).map_err(|number| format!("no cover bytes: {number}"))?;
     let below_t = |entry: &(usize, usize)| entry.0 < filed.starts.len();
     let rising = filed.entries.windows(2).all(|pair| pair[0] < pair[1]);
@@ -170,7 +176,7 @@ fn rooted_parts(
     if filed.starts.len() != parts {
         return Err(format!("{} parts are written", filed.starts.len()));
     }
-    judge_parts::judge(k, &plan, &gather(&filed), roots)
+    judge_parts::judge(&plan, &gather(&filed), near)
 }
 
 /// The written bytes, as long as they announce; the rest of the buffer must be untouched.

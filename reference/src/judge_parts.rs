@@ -7,7 +7,7 @@ use crate::cover::Tree;
 use crate::rooted::Plan;
 
 /// Judges written parts: some of the plan's, by smallest edge, with exactly so many roots near them.
-pub fn judge(k: usize, plan: &Plan, written: &[Tree], roots: usize) -> Result<(), String> {
+pub fn judge(plan: &Plan, written: &[Tree], roots: usize) -> Result<(), String> {
     let mut marked = vec![false; plan.parts.len()];
     for tree in written {
         let Some(place) = plan.parts.iter().position(|part| part == tree) else {
@@ -19,7 +19,7 @@ pub fn judge(k: usize, plan: &Plan, written: &[Tree], roots: usize) -> Result<()
     if !written.windows(2).all(rising) {
         return Err("the parts do not rise by smallest edge".into());
     }
-    let near = roots_near(k, &plan.allowed, &marked);
+    let near = roots_near(plan.roots.len(), &plan.allowed, &marked);
     if near != roots {
         return Err(format!("{near} roots are near the parts, not {roots}"));
     }
@@ -36,7 +36,8 @@ const MOST_SETS: usize = 200_000;
 ///
 /// Every union of the parts' root sets is noted with the fewest parts that reach it; more parts
 /// can be added as long as their roots lie inside that union.
-pub fn some_set_has(k: usize, plan: &Plan, parts: usize, roots: usize) -> Option<bool> {
+pub fn some_set_has(plan: &Plan, parts: usize, roots: usize) -> Option<bool> {
+    let k = plan.roots.len();
     let near = |row: &[u8]| (0..k).fold(0u64, |set, j| set | (u64::from(row[j]) << j));
     let sets: Vec<u64> = plan.allowed.chunks(k).map(near).collect();
     let mut fewest: HashMap<u64, usize> = HashMap::from([(0, 0)]);

@@ -87,7 +87,7 @@ fn judge_parts(asked: &Question, output: &str) -> Result<bool, String> {
     let Question { kind, k, sheet, .. } = *asked;
     let limit = asked.limit.ok_or("a best limit shows no parts")?;
     let admitted = admit(kind, Brought::plain(sheet), k, limit, BUFFER);
-    let (graph, k) = admitted.map_err(|n| format!("refused {n}"))?;
+    let (graph, crews) = admitted.map_err(|n| format!("refused {n}"))?;
     if kind == Kind::Unrooted {
         return Err("an unrooted trial shows no parts".into());
     }
@@ -95,8 +95,8 @@ fn judge_parts(asked: &Question, output: &str) -> Result<bool, String> {
     if text(&Answer::Parts { parts, roots }, None) != output {
         return Err("not the exact text of these counts".into());
     }
-    let plan = plan(&graph, k, limit).map_err(|v| format!("stop {v}"))?;
-    match some_set_has(k, &plan, parts, roots) {
+    let plan = plan(&graph, crews, limit).map_err(|v| format!("stop {v}"))?;
+    match some_set_has(&plan, parts, roots) {
         _ if roots >= parts => Err("the roots are not fewer than the parts".into()),
         Some(false) => Err("no such set of parts".into()),
         Some(true) => Ok(true),

@@ -41,5 +41,6 @@ pub mod split;
 pub mod surface;
 pub mod trial;
 pub mod unrooted;
+pub mod vans;
 pub mod walk;
 pub mod written;

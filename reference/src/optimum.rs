@@ -4,6 +4,7 @@ use crate::check::is_tree;
 use crate::cover::Tree;
 use crate::graph::Graph;
 use crate::question::Kind;
+use crate::vans::Crews;
 
 /// A tree, or a walk, as seen from outside: the set of vertices it covers, as bits, and its weight, or length.
 pub type Shape = (usize, u64);
@@ -24,11 +25,11 @@ pub fn all_trees(graph: &Graph) -> Vec<Shape> {
     shapes
 }
 
-/// The least heaviest weight of any cover of the kind with this k, or nothing where there is none.
-pub fn optimum(kind: Kind, graph: &Graph, k: usize) -> Option<u64> {
-    let shapes = all_trees(graph);
-    least_heaviest(kind, graph.n, k, |j| {
-        let fits = |shape: &&Shape| kind == Kind::Unrooted || shape.0 >> j & 1 == 1;
+/// The least heaviest weight of any cover of the kind by these trees, or nothing where there is none.
+pub fn optimum(kind: Kind, graph: &Graph, crews: impl Crews) -> Option<u64> {
+    let (shapes, roots) = (all_trees(graph), crews.roots());
+    least_heaviest(kind, graph.n, roots.len(), |j| {
+        let fits = |shape: &&Shape| kind == Kind::Unrooted || shape.0 >> roots[j] & 1 == 1;
         shapes.iter().filter(fits).copied().collect()
     })
 }

@@ -3,7 +3,7 @@
 /// The two kinds of question.
 #[derive(Clone, Copy, Debug, PartialEq, Eq)]
 pub enum Kind {
-    /// A "yard" question: the roots are vertices 0 to k - 1.
+    /// A "yard" question: the roots are the vertices of a list or, without one, 0 to k - 1.
     Rooted,
     /// A "roving" question: there are no roots.
     Unrooted,
@@ -32,10 +32,9 @@ pub const BUFFER: usize = 32_708;
 /// The largest limit that may be asked for.
 pub const LIMIT: u64 = 2_048_000_000;
 
-/// The tree count k of a question on n vertices, or refusal 21.
-pub fn tree_count(kind: Kind, n: usize, k: u64) -> Result<usize, u16> {
-    let above_n = kind == Kind::Rooted && k > n as u64;
-    if !(1..=32).contains(&k) || above_n {
+/// The tree count k of a question, or refusal 21.
+pub fn tree_count(k: u64) -> Result<usize, u16> {
+    if !(1..=32).contains(&k) {
         return Err(21);
     }
     Ok(k as usize)

@@ -10,6 +10,7 @@ use std::collections::{BTreeMap, BinaryHeap};
 use crate::graph::Graph;
 use crate::optimum::{least_heaviest, Shape};
 use crate::question::Kind;
+use crate::vans::Crews;
 
 /// The closed walks from a start: each set of vertices that one of them comes to, as bits, with the least length of those
 /// that come to just this set.
@@ -33,12 +34,13 @@ pub fn closed_walks(graph: &Graph, start: usize) -> Vec<Shape> {
     closed.map(|((_, set), length)| (set, length)).collect()
 }
 
-/// The least length that the longest of such walks can have: one walk from each of the roots 0 to k - 1, or, without
-/// roots, at most k walks from anywhere. Nothing where there are none.
-pub fn least_longest(kind: Kind, graph: &Graph, k: usize) -> Option<u64> {
+/// The least length that the longest of such walks can have: one walk from each of the roots, or, without roots, at
+/// most as many walks from anywhere. Nothing where there are none.
+pub fn least_longest(kind: Kind, graph: &Graph, crews: impl Crews) -> Option<u64> {
+    let roots = crews.roots();
     let from: Vec<Vec<Shape>> = (0..graph.n).map(|start| closed_walks(graph, start)).collect();
-    least_heaviest(kind, graph.n, k, |j| match kind {
-        Kind::Rooted => from[j].clone(),
+    least_heaviest(kind, graph.n, roots.len(), |j| match kind {
+        Kind::Rooted => from[roots[j]].clone(),
         Kind::Unrooted => from.concat(),
     })
 }

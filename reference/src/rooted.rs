@@ -8,13 +8,16 @@ use crate::graph::Graph;
 use crate::question::Kind;
 use crate::split::{at_limit, Split};
 use crate::trial::Outcome;
+use crate::vans::Crews;
 
 /// Everything a rooted trial fixes before the parts are assigned.
 #[derive(Clone, Debug)]
 pub struct Plan {
     /// The parts in the order they were split off.
     pub parts: Vec<Tree>,
-    /// What is left at each root.
+    /// The vertex of each root; several roots may have one vertex.
+    pub roots: Vec<usize>,
+    /// What is left to each root.
     pub left: Vec<Tree>,
     /// The distances from each root.
     pub distance: Vec<Vec<Option<u64>>>,
@@ -23,11 +26,11 @@ pub struct Plan {
 }
 
 /// Plans a rooted trial, or gives the lowest vertex joined to no root.
-pub fn plan(graph: &Graph, k: usize, limit: u64) -> Result<Plan, usize> {
-    let (forest, split) = at_limit(Kind::Rooted, graph, k, limit);
-    match lowest_unjoined(&forest, k) {
+pub fn plan(graph: &Graph, crews: impl Crews, limit: u64) -> Result<Plan, usize> {
+    let (forest, split) = at_limit(Kind::Rooted, graph, &crews, limit);
+    match lowest_unjoined(&forest, &crews) {
         Some(vertex) => Err(vertex),
-        None => Ok(plan_of(graph, limit, split, from_roots(graph, k))),
+        None => Ok(plan_of(graph, limit, split, from_roots(graph, &crews))),
     }
 }
 
@@ -41,13 +44,17 @@ pub fn plan_of(graph: &Graph, limit: u64, split: Split, distance: Vec<Vec<Option
             allowed.push(u8::from(near));
         }
     }
-    Plan { parts: split.parts, left: split.left, distance, allowed }
+    let roots = split.left.iter().map(|left| left.start).collect();
+    Plan { parts: split.parts, roots, left: split.left, distance, allowed }
 }
 
 /// Runs a rooted trial at a limit.
-pub fn run(graph: &Graph, k: usize, limit: u64) -> Outcome {
-    match plan(graph, k, limit) {
-        Ok(plan) => carry_out(k, &plan, |root, part| tree(graph, &plan, root, part)),
+pub fn run(graph: &Graph, crews: impl Crews, limit: u64) -> Outcome {
+    match plan(graph, crews, limit) {
+        Ok(plan) => {
+            let k = plan.roots.len();
+            carry_out(k, &plan, |root, part| tree(graph, &plan, root, part))
+        }
         Err(vertex) => Outcome::Stop(vertex),
     }
 }
@@ -75,11 +82,11 @@ pub fn tree(graph: &Graph, plan: &Plan, root: usize, part: Option<usize>) -> Tre
         let nearest = closest(distance, &graph.ends(edges));
         let (_, vertex) = nearest.expect("an assigned part is near its root");
         union.extend(edges);
-        union.extend(path(graph, root, vertex));
+        union.extend(path(graph, plan.roots[root], vertex));
     }
     union.sort_unstable();
     union.dedup();
-    Tree::new(root, thin(graph, &union))
+    Tree::new(plan.roots[root], thin(graph, &union))
 }
 
 /// The marked parts by smallest edge, and the number of roots near any of them.

@@ -4,8 +4,10 @@ use crate::cover::Tree;
 use crate::forest::{self, Forest};
 use crate::graph::Graph;
 use crate::question::Kind;
+use crate::vans::{is_first, Crews};
 
-/// The parts in the order they were split off, and one leftover for each root, in the roots' order.
+/// The parts in the order they were split off, and one leftover for each root, in the roots' order. Of roots at one vertex
+/// the first has all that is left there, and the others have nothing.
 ///
 /// A part starts at the vertex where it was split off, a leftover at its root; edges rise by number.
 #[derive(Clone, Debug, PartialEq, Eq)]
@@ -16,10 +18,10 @@ pub struct Split {
 
 /// The forest of a kind at a limit, split with threshold limit if rooted, twice the limit if not.
 ///
-/// A rooted forest is split at the roots 0 to k - 1 only, an unrooted one at its lowest vertices.
-pub fn at_limit(kind: Kind, graph: &Graph, k: usize, limit: u64) -> (Forest, Split) {
+/// A rooted forest is split at the roots only, an unrooted one at its lowest vertices.
+pub fn at_limit(kind: Kind, graph: &Graph, crews: impl Crews, limit: u64) -> (Forest, Split) {
     let (forest, roots, threshold) = match kind {
-        Kind::Rooted => (forest::rooted(graph, k, limit), (0..k).collect(), limit),
+        Kind::Rooted => (forest::rooted(graph, &crews, limit), crews.roots(), limit),
         Kind::Unrooted => {
             let forest = forest::unrooted(graph, limit);
             let tops = forest::tops(&forest);
@@ -33,7 +35,11 @@ pub fn at_limit(kind: Kind, graph: &Graph, k: usize, limit: u64) -> (Forest, Spl
 /// Splits the trees that the kept edges form at the roots, with a threshold; threshold 0 splits nothing.
 pub fn split(graph: &Graph, kept: &[usize], roots: &[usize], threshold: u64) -> Split {
     let mut walk = Walk { graph, around: graph.around(kept), threshold, parts: Vec::new() };
-    let left = roots.iter().map(|&root| Tree::new(root, walk.below(root, None))).collect();
+    let mut left = Vec::with_capacity(roots.len());
+    for (j, &root) in roots.iter().enumerate() {
+        let edges = if is_first(roots, j) { walk.below(root, None) } else { Vec::new() };
+        left.push(Tree::new(root, edges));
+    }
     Split { parts: walk.parts, left }
 }
 

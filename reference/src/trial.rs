@@ -3,7 +3,8 @@
 use crate::brought::Brought;
 use crate::cover::{encode, heaviest, Tree};
 use crate::graph::Graph;
-use crate::question::{tree_count, Answer, Kind, BUFFER, LIMIT};
+use crate::question::{Answer, Kind, BUFFER, LIMIT};
+use crate::vans::Crews;
 use crate::{rooted, unrooted};
 
 /// What a trial finds.
@@ -20,30 +21,30 @@ pub enum Outcome {
 }
 
 /// Runs a trial on a graph.
-pub fn run(kind: Kind, graph: &Graph, k: usize, limit: u64) -> Outcome {
+pub fn run(kind: Kind, graph: &Graph, crews: impl Crews, limit: u64) -> Outcome {
     match kind {
-        Kind::Rooted => rooted::run(graph, k, limit),
-        Kind::Unrooted => unrooted::run(graph, k, limit),
+        Kind::Rooted => rooted::run(graph, crews, limit),
+        Kind::Unrooted => unrooted::run(graph, crews.roots().len(), limit),
     }
 }
 
-/// The graph and tree count of a trial, or its refusal: 11 to 16, 53, 54, 21, 22, 23.
+/// The graph and the roots of a trial, or its refusal: 11 to 16, 53, 54, 21, 55, 22, 23.
 pub fn admit(
     kind: Kind,
     brought: Brought,
     k: u64,
     limit: u64,
     room: usize,
-) -> Result<(Graph, usize), u16> {
+) -> Result<(Graph, Vec<usize>), u16> {
     let graph = brought.graph()?;
-    let k = tree_count(kind, graph.n, k)?;
+    let roots = brought.crews(kind, graph.n, k)?;
     if limit > LIMIT {
         return Err(22);
     }
     if room < BUFFER {
         return Err(23);
     }
-    Ok((graph, k))
+    Ok((graph, roots))
 }
 
 /// Answers a trial question without lists.
@@ -54,7 +55,7 @@ pub fn trial(kind: Kind, sheet: &[u8], k: u64, limit: u64, buffer: &mut [u8]) ->
 /// Answers a trial question, writing the cover or the parts into the first bytes of the buffer.
 pub fn trial_with(kind: Kind, brought: Brought, k: u64, limit: u64, buffer: &mut [u8]) -> Answer {
     match admit(kind, brought, k, limit, buffer.len()) {
-        Ok((graph, k)) => file(&graph, limit, &run(kind, &graph, k, limit), buffer),
+        Ok((graph, roots)) => file(&graph, limit, &run(kind, &graph, roots, limit), buffer),
         Err(number) => Answer::Refused(number),
     }
 }

@@ -61,7 +61,7 @@ fn trees_pass_exactly_when_the_rules_allow_them() {
         };
         several += usize::from(allowed.len() > 1);
         for trees in all_choices(&graph, k) {
-            let is_passed = fits_some_assignment(&graph, k, &plan, &trees);
+            let is_passed = fits_some_assignment(&graph, &plan, &trees);
             let of = (&graph, k, limit, &trees);
             assert_eq!(is_passed, allowed.contains(&trees), "{of:?}");
             *(if is_passed { &mut yes } else { &mut no }) += 1;

@@ -38,7 +38,7 @@ impl Listed {
     }
 
     fn brought(&self) -> Brought<'_> {
-        Brought { sheet: &self.sheet, classes: Some(&self.classes) }
+        Brought { classes: Some(&self.classes), ..Brought::plain(&self.sheet) }
     }
 
     /// The weights of a cover's trees, counted entry by entry from the bytes of cover, sheet and list.

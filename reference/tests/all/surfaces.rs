@@ -1,18 +1,16 @@
 //! Surfaces: the percentage of every class, weights rounded up, 53 and 54 in their places, and the questions that a list of
 //! classes goes with.
 
+use crate::common::asking::Asked;
 use crate::common::surfaces::{graph_due, percent_due};
-use crate::common::{buffer_of, filing, sheet_n, BOTH};
+use crate::common::{filing, sheet_n, BOTH};
 use reference::best::best_with;
 use reference::brought::Brought;
-use reference::check::check_with;
 use reference::cover::filed_length;
 use reference::graph::{read, sheet};
-use reference::question::{Answer, Kind, BUFFER, LIMIT};
+use reference::question::{Kind, BUFFER, LIMIT};
 use reference::random::Random;
 use reference::surface::{adjusted, percent};
-use reference::trial::trial_with;
-use reference::walk::walk_with;
 
 #[test]
 fn every_class_has_its_percentage() {
@@ -60,50 +58,6 @@ fn weights_are_rounded_up() {
     (0..=255).for_each(|class| assert_eq!(adjusted(0, class), 0, "class {class}"));
 }
 
-/// A question of every kind: what is brought, k, the limit, the lent buffer's length, a filed cover and one of its trees.
-struct Asked<'a> {
-    brought: Brought<'a>,
-    k: u64,
-    limit: u64,
-    room: usize,
-    cover: &'a [u8],
-    tree: usize,
-}
-
-impl Asked<'_> {
-    /// What the trial, the best limit, the check and the walk answer, each with the buffer it leaves.
-    fn said(&self, kind: Kind) -> [(String, Vec<u8>); 4] {
-        let Asked { brought, k, limit, room, cover, tree } = *self;
-        let with = |answer: &dyn Fn(&mut [u8]) -> String| {
-            let mut lent = buffer_of(room);
-            (answer(&mut lent), lent)
-        };
-        [
-            with(&|lent| shown(&trial_with(kind, brought, k, limit, lent))),
-            with(&|lent| shown(&best_with(kind, brought, k, lent))),
-            with(&|_| format!("{:?}", check_with(kind, brought, k, cover))),
-            with(&|lent| format!("{:?}", walk_with(kind, brought, k, cover, tree, lent))),
-        ]
-    }
-
-    /// The numbers of those four, 0 where it is not refused; a refused one leaves the buffer.
-    fn numbers(&self, kind: Kind) -> [u16; 4] {
-        self.said(kind).map(|(said, lent)| {
-            let Some(number) = said.strip_prefix("Err(") else { return 0 };
-            assert_eq!(lent, buffer_of(self.room), "{said}");
-            number.trim_end_matches(')').parse().expect("a number")
-        })
-    }
-}
-
-/// An answer, a refusal as that of the check is shown.
-fn shown(answer: &Answer) -> String {
-    match answer {
-        Answer::Refused(number) => format!("Err({number})"),
-        other => format!("{other:?}"),
-    }
-}
-
 /// Sheet N with other weights.
 fn weighed([a, b, c]: [u64; 3]) -> Vec<u8> {
     sheet(4, &[(0, 2, a), (2, 3, b), (1, 3, c)])
@@ -147,7 +101,8 @@ fn lists_are_right_or_refused() {
         ("weight 0 of every class", [0, 0, 0], Some(&[10, 20, 255]), 0),
     ];
     for (name, weights, classes, due) in rows {
-        let brought = Brought { sheet: &weighed(weights), classes };
+        let sheet = weighed(weights);
+        let brought = Brought { classes, ..Brought::plain(&sheet) };
         assert_eq!(brought.graph().err().unwrap_or(0), due, "{name}");
         let cover = good();
         let asked = Asked { brought, k: 2, limit: 9, room: BUFFER, cover: &cover, tree: 0 };
@@ -180,7 +135,7 @@ fn lists_are_refused_in_their_place() {
     ];
     for (name, (k, limit, room, cover, tree), numbers) in &rows {
         for (sheet, classes, number) in [right(sheet_n()), short(sheet_n()), heavy.clone()] {
-            let brought = Brought { sheet: &sheet, classes: Some(&classes) };
+            let brought = Brought { classes: Some(&classes), ..Brought::plain(&sheet) };
             let asked = Asked { brought, k: *k, limit: *limit, room: *room, cover, tree: *tree };
             let due = if number == 0 { *numbers } else { [number; 4] };
             for kind in BOTH {
@@ -191,7 +146,7 @@ fn lists_are_refused_in_their_place() {
     let bad = [sheet(0, &[]), sheet(4, &[(0, 4, 1)]), sheet(4, &[(1, 1, 1)]), vec![4, 0, 0]];
     for (sheet, number) in bad.iter().zip([12, 14, 15, 11]) {
         for classes in [&[][..], &[40], &[40, 40]] {
-            let brought = Brought { sheet, classes: Some(classes) };
+            let brought = Brought { classes: Some(classes), ..Brought::plain(sheet) };
             assert_eq!(brought.graph(), Err(number), "{number}");
         }
     }
@@ -203,7 +158,7 @@ fn a_list_of_no_bytes_is_right_beside_no_lines_only() {
     let (bare, edge) = (sheet(2, &[]), sheet(2, &[(0, 1, 1)]));
     let cover = filing(&[0, 1], &[]);
     let on = |sheet, classes| {
-        let brought = Brought { sheet, classes };
+        let brought = Brought { classes, ..Brought::plain(sheet) };
         Asked { brought, k: 2, limit: 0, room: BUFFER, cover: &cover, tree: 0 }
     };
     for kind in BOTH {
@@ -235,7 +190,7 @@ fn no_list_is_class_60_throughout_and_class_0_throughout() {
         let kind = BOTH[turn % 2];
         let (sheet, k, limit, cover, tree) = random_question(&mut random, kind);
         let said = |classes: Option<&[u8]>| {
-            let brought = Brought { sheet: &sheet, classes };
+            let brought = Brought { classes, ..Brought::plain(&sheet) };
             Asked { brought, k, limit, room: BUFFER, cover: &cover, tree }.said(kind)
         };
         let m = read(&sheet).expect("a right sheet").edges.len();
@@ -254,7 +209,7 @@ fn a_list_is_as_good_as_a_sheet_of_the_weights_due() {
         let kind = BOTH[turn % 2];
         let (sheet, k, limit, cover, tree) = random_question(&mut random, kind);
         let said = |sheet: &[u8], classes: Option<&[u8]>| {
-            let brought = Brought { sheet, classes };
+            let brought = Brought { classes, ..Brought::plain(sheet) };
             Asked { brought, k, limit, room: BUFFER, cover: &cover, tree }.said(kind)
         };
         let graph = read(&sheet).expect("a right sheet");

@@ -1,11 +1,13 @@
 //! What several tables of cases share.
 #![allow(dead_code, unused_imports)]
 
+pub mod asking;
 pub mod crossings;
 pub mod other;
 pub mod readings;
 pub mod replies;
 pub mod surfaces;
+pub mod vans;
 pub mod wrong_gates;
 
 use std::sync::OnceLock;

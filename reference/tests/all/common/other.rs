@@ -25,13 +25,14 @@ pub fn other_reply(record: &Record) -> Option<Full> {
         return Some(own);
     }
     let graph = record.brought().graph().expect("an answered question");
-    let plan = plan(&graph, record.k, limit).expect("every vertex is joined to a root");
-    Some(other_choices(&graph, record.k, limit, &plan))
+    let crews = record.brought().crews(record.kind, graph.n, record.k as u64).expect("roots");
+    let plan = plan(&graph, crews, limit).expect("every vertex is joined to a root");
+    Some(other_choices(&graph, limit, &plan))
 }
 
 /// The reply of a planned trial.
-fn other_choices(graph: &Graph, k: usize, limit: u64, plan: &Plan) -> Full {
-    let p = plan.parts.len();
+fn other_choices(graph: &Graph, limit: u64, plan: &Plan) -> Full {
+    let (p, k) = (plan.parts.len(), plan.roots.len());
     let backward: Vec<u8> = plan.allowed.iter().rev().copied().collect();
     let mut bytes = vec![0; p];
     let assigned = assign(p, k, &backward, &mut bytes);
@@ -63,11 +64,11 @@ fn other_tree(graph: &Graph, plan: &Plan, root: usize, part: Option<usize>) -> T
         let near = closest(distance, &ends).map(|(near, _)| near);
         let target = ends.iter().rev().find(|&&v| distance[v] == near).expect("a nearest vertex");
         union.extend(edges);
-        union.extend(other_path(graph, distance, root, *target));
+        union.extend(other_path(graph, distance, plan.roots[root], *target));
     }
     union.sort_unstable();
     union.dedup();
-    Tree::new(root, thin(graph, &union))
+    Tree::new(plan.roots[root], thin(graph, &union))
 }
 
 /// A shortest path from a root, each time by the highest last edge that leads back to the root without coming to a vertex

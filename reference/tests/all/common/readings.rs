@@ -7,7 +7,7 @@ use reference::cover::Tree;
 use reference::districts::{answer_text, Asked, Record};
 use reference::graph::Graph;
 use reference::judge_districts::judge_reply;
-use reference::question::{tree_count, Answer, Kind, BUFFER, LIMIT};
+use reference::question::{Answer, Kind, BUFFER, LIMIT};
 use reference::replies::{full_of, FILL};
 use reference::trial::{file, run, Outcome};
 
@@ -67,7 +67,7 @@ impl Reading {
     /// The graph and tree count of a record, or the number that it is refused with before a trial or a check.
     fn admitted(&self, record: &Record) -> Result<(Graph, usize), u16> {
         let graph = (self.graph)(record)?;
-        let k = tree_count(record.kind, graph.n, record.k as u64)?;
+        let k = record.brought().crews(record.kind, graph.n, record.k as u64)?.len();
         match record.asked {
             Asked::Trial { limit, .. } if limit > LIMIT => Err(22),
             Asked::Trial { room, .. } | Asked::Best { room } if room < BUFFER => Err(23),

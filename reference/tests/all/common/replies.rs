@@ -4,7 +4,8 @@ use reference::cover::{encode, heaviest, Tree};
 use reference::forest::{lowest_unjoined, rooted, thin};
 use reference::graph::Graph;
 use reference::question::Answer;
-use reference::split::{split, Split};
+use reference::split::split;
+use reference::vans::Crews;
 
 /// An answer with the bytes written.
 pub type Written = (Answer, Vec<u8>);
@@ -39,15 +40,35 @@ fn shortest(graph: &Graph, paths: &[Path], part: &Tree) -> Vec<Path> {
     arriving.into_iter().filter(|path| Some(path.0) == least).cloned().collect()
 }
 
+/// The parts of a rooted trial, and for each van its vertex and what is left to it.
+struct Found {
+    parts: Vec<Tree>,
+    left: Vec<Tree>,
+}
+
+/// What is left at each vertex with vans goes to the van with the lowest number there.
+fn found(graph: &Graph, kept: &[usize], vans: &[usize], limit: u64) -> Found {
+    let stops: Vec<usize> = (0..graph.n).filter(|stop| vans.contains(stop)).collect();
+    let at_stops = split(graph, kept, &stops, limit);
+    let mut left: Vec<Tree> = vans.iter().map(|&van| Tree::new(van, vec![])).collect();
+    for tree in at_stops.left {
+        let lowest = vans.iter().position(|&van| van == tree.start).expect("a van");
+        left[lowest] = tree;
+    }
+    Found { parts: at_stops.parts, left }
+}
+
 /// Every reply to a rooted trial that the rules allow.
-pub fn all_replies(graph: &Graph, k: usize, limit: u64) -> Vec<Written> {
-    let forest = rooted(graph, k, limit);
-    if let Some(vertex) = lowest_unjoined(&forest, k) {
+pub fn all_replies(graph: &Graph, crews: impl Crews, limit: u64) -> Vec<Written> {
+    let vans = crews.roots();
+    let forest = rooted(graph, &vans, limit);
+    if let Some(vertex) = lowest_unjoined(&forest, &vans) {
         return vec![(Answer::Stop(vertex), vec![])];
     }
+    let k = vans.len();
     let roots: Vec<usize> = (0..k).collect();
-    let found = split(graph, &forest.kept, &roots, limit);
-    let paths: Vec<Vec<Path>> = roots.iter().map(|&root| all_paths(graph, root)).collect();
+    let found = found(graph, &forest.kept, &vans, limit);
+    let paths: Vec<Vec<Path>> = vans.iter().map(|&van| all_paths(graph, van)).collect();
     let way = |part: &Tree, root: usize| {
         let mut ways = shortest(graph, &paths[root], part);
         ways.retain(|path| path.0 <= limit);
@@ -67,7 +88,7 @@ fn all_covers(
     graph: &Graph,
     k: usize,
     limit: u64,
-    found: &Split,
+    found: &Found,
     ways: &[Vec<Vec<Path>>],
 ) -> Vec<Written> {
     let p = found.parts.len();
@@ -90,18 +111,18 @@ fn all_covers(
 fn all_tree_choices(
     graph: &Graph,
     k: usize,
-    found: &Split,
+    found: &Found,
     ways: &[Vec<Vec<Path>>],
     root_of: &[usize],
 ) -> Vec<Vec<Tree>> {
     let roots: Vec<usize> = (0..k).collect();
     let options = |&root: &usize| {
-        let left = &found.left[root].edges;
+        let Tree { start, edges: left } = &found.left[root];
         let Some(i) = root_of.iter().position(|&r| r == root) else {
-            return vec![Tree::new(root, thin(graph, left))];
+            return vec![Tree::new(*start, thin(graph, left))];
         };
         let union = |path: &Path| [left, &found.parts[i].edges, &path.2].map(|e| &e[..]).concat();
-        let tree = |path: &Path| thinned(graph, root, union(path));
+        let tree = |path: &Path| thinned(graph, *start, union(path));
         let mut trees: Vec<Tree> = ways[i][root].iter().map(tree).collect();
         trees.sort();
         trees.dedup();
