@@ -19,6 +19,7 @@ extern "C" {
 
 /* The lists that a question may bring beside its graph, a bit for each; bits without a list are not read. */
 #define PLANNER_CLASSES 1u
+#define PLANNER_VANS 2u
 
 /* The least length of a buffer, in bytes: room for any cover. */
 #define PLANNER_BUFFER 32708u
@@ -41,13 +42,18 @@ extern "C" {
  * A cover: t, the number of trees (2 bytes); q, the number of entries (2 bytes); t starts (2 bytes each); q tree numbers,
  * then q edge numbers (2 bytes each), rising strictly by tree, then by edge. 4 + 2t + 4q bytes.
  *
- * k is the number of crews, 1 to 32: a rooted cover has k trees, an unrooted one 1 to k. The roots of a rooted question are
- * vertices 0 to k - 1, so k is at most n.
+ * k is the number of crews, 1 to 32: a rooted cover has k trees, tree j starting at the j-th root; an unrooted one 1 to k.
+ * The roots of a rooted question are vertices 0 to k - 1, so k is at most n, unless a list of vans is brought.
  *
  * Classes, a list that a question may bring beside its graph: the class of each edge in a byte, m bytes. Classes 0 to 9
  * count 100 percent of the edge's weight, 10 to 19 count 120, 20 to 39 count 150, 40 to 59 count 200, and all others 100.
  * The weight used is weight times percent over 100, rounded up, so that of weight 0 it is 0, and whatever is said of weights
  * below is said of the weights used. Where no list is brought every edge is of class 60.
+ *
+ * Vans, a list that a rooted question may bring beside its graph: the root of each tree in 2 bytes, 2k bytes. A vertex may
+ * stand there several times, and k may be above n. What is left at a vertex goes to its lowest-numbered van: of several trees
+ * from one vertex the first has what is left there, and each of the others is a part and a path to it, or has no edges. An
+ * unrooted question carries no such list: one that is brought beside it is not read, whatever its length.
  *
  * For the seven functions of the library: any input is answered. Each pointer is to as many bytes as its length says,
  * `values` to exactly three numbers, those of planner_walk and planner_route to exactly two; no pointer is null even where a
@@ -120,9 +126,13 @@ uint32_t planner_walk(uint32_t kind, size_t k, const uint8_t *graph, size_t grap
  * below; these are for callers without a C compiler.
  *
  * `brought` has a bit for each list. A list whose bit is 0 is not read; its pointer is not null even so. A list whose bit is
- * 1 is brought, of no bytes too. It is looked at after the graph, and left unread where the graph is refused, and before k.
+ * 1 is brought, of no bytes too, but for vans beside an unrooted question, which are not read. Whatever is refused before a
+ * list's turn leaves it unread.
  * Refused, after 16, which is of the weights as given, and before 21: 53 classes_length is not m. 54 a weight used is above
  * 1,000,000.
+ * With vans 21 is for k outside 1 to 32 alone. Refused straight after 21: 55 vans_length is not 2k, or a van's vertex is not
+ * below n. 32 holds starts against the vans, D counts vans, and every other cover and other walks that ours is held against
+ * are by the same vans. The list of 0 to k - 1, with k at most n, gives the same answers as no list.
  */
 
 /*
@@ -130,22 +140,23 @@ uint32_t planner_walk(uint32_t kind, size_t k, const uint8_t *graph, size_t grap
  * For the best limit `limit` is not read.
  */
 uint32_t planner_ask(uint32_t asked, uint64_t limit, uint32_t kind, size_t k, const uint8_t *graph, size_t graph_length,
-                     uint32_t brought, const uint8_t *classes, size_t classes_length, uint64_t *values, uint8_t *buffer,
-                     size_t buffer_length);
+                     uint32_t brought, const uint8_t *classes, size_t classes_length, const uint8_t *vans,
+                     size_t vans_length, uint64_t *values, uint8_t *buffer, size_t buffer_length);
 
 /* The check of a filed cover; answers and values are as of planner_check. */
 uint32_t planner_verify(uint32_t kind, size_t k, const uint8_t *graph, size_t graph_length, uint32_t brought,
-                        const uint8_t *classes, size_t classes_length, const uint8_t *cover, size_t cover_length,
-                        uint64_t *values);
+                        const uint8_t *classes, size_t classes_length, const uint8_t *vans, size_t vans_length,
+                        const uint8_t *cover, size_t cover_length, uint64_t *values);
 
 /* The closed walk of one tree of a filed cover; answers, values and buffer are as of planner_walk. */
 uint32_t planner_route(uint32_t kind, size_t k, const uint8_t *graph, size_t graph_length, uint32_t brought,
-                       const uint8_t *classes, size_t classes_length, const uint8_t *cover, size_t cover_length,
-                       size_t tree, uint64_t *values, uint8_t *buffer, size_t buffer_length);
+                       const uint8_t *classes, size_t classes_length, const uint8_t *vans, size_t vans_length,
+                       const uint8_t *cover, size_t cover_length, size_t tree, uint64_t *values, uint8_t *buffer,
+                       size_t buffer_length);
 
 /*
  * A list. {0}, in C++ {}, is none; planner_list_of makes one. Whether there is one is said by `brought` alone (0 if not),
- * and not by a null pointer: that of an empty vector is null too, and a list that could not be loaded must get 53.
+ * and not by a null pointer: that of an empty vector is null too, and a list that could not be loaded must get 53 or 55.
  */
 typedef struct planner_list {
     const uint8_t *bytes;
@@ -163,6 +174,7 @@ typedef struct planner_question {
     const uint8_t *graph;
     size_t graph_length;
     planner_list classes;
+    planner_list vans; /* beside an unrooted question it is not read */
 } planner_question;
 
 /* These bytes as a list that is brought. A null pointer is to no bytes, whatever the length. */
@@ -177,7 +189,7 @@ static inline planner_list planner_list_of(const uint8_t *bytes, size_t length) 
 
 /* The bits of the lists that a question brings. */
 static inline uint32_t planner_brought(const planner_question *q) {
-    return q->classes.brought != 0 ? PLANNER_CLASSES : 0u;
+    return (q->classes.brought != 0 ? PLANNER_CLASSES : 0u) | (q->vans.brought != 0 ? PLANNER_VANS : 0u);
 }
 
 /*
@@ -189,8 +201,10 @@ static inline uint32_t planner_ask_of(const planner_question *q, uint32_t asked,
     static uint8_t none = 0;
     const planner_list graph = planner_list_of(q->graph, q->graph_length);
     const planner_list classes = planner_list_of(q->classes.bytes, q->classes.length);
+    const planner_list vans = planner_list_of(q->vans.bytes, q->vans.length);
     return planner_ask(asked, limit, q->kind, q->k, graph.bytes, graph.length, planner_brought(q), classes.bytes,
-                       classes.length, values, buffer != NULL ? buffer : &none, buffer != NULL ? buffer_length : 0);
+                       classes.length, vans.bytes, vans.length, values, buffer != NULL ? buffer : &none,
+                       buffer != NULL ? buffer_length : 0);
 }
 
 static inline uint32_t planner_trial_of(const planner_question *q, uint64_t limit, uint64_t *values, uint8_t *buffer,
@@ -207,9 +221,10 @@ static inline uint32_t planner_check_of(const planner_question *q, const uint8_t
                                         uint64_t *values) {
     const planner_list graph = planner_list_of(q->graph, q->graph_length);
     const planner_list classes = planner_list_of(q->classes.bytes, q->classes.length);
+    const planner_list vans = planner_list_of(q->vans.bytes, q->vans.length);
     const planner_list filed = planner_list_of(cover, cover_length);
     return planner_verify(q->kind, q->k, graph.bytes, graph.length, planner_brought(q), classes.bytes, classes.length,
-                          filed.bytes, filed.length, values);
+                          vans.bytes, vans.length, filed.bytes, filed.length, values);
 }
 
 static inline uint32_t planner_walk_of(const planner_question *q, const uint8_t *cover, size_t cover_length, size_t tree,
@@ -217,10 +232,11 @@ static inline uint32_t planner_walk_of(const planner_question *q, const uint8_t 
     static uint8_t none = 0;
     const planner_list graph = planner_list_of(q->graph, q->graph_length);
     const planner_list classes = planner_list_of(q->classes.bytes, q->classes.length);
+    const planner_list vans = planner_list_of(q->vans.bytes, q->vans.length);
     const planner_list filed = planner_list_of(cover, cover_length);
     return planner_route(q->kind, q->k, graph.bytes, graph.length, planner_brought(q), classes.bytes, classes.length,
-                         filed.bytes, filed.length, tree, values, buffer != NULL ? buffer : &none,
-                         buffer != NULL ? buffer_length : 0);
+                         vans.bytes, vans.length, filed.bytes, filed.length, tree, values,
+                         buffer != NULL ? buffer : &none, buffer != NULL ? buffer_length : 0);
 }
 
 #ifdef __cplusplus

@@ -24,7 +24,7 @@ pub const BUFFER: usize = 32_708;
 /// The two kinds of question.
 #[derive(Clone, Copy, Debug, PartialEq, Eq)]
 pub enum Kind {
-    /// "Yard": tree j starts at vertex j, for the k roots 0 to k - 1.
+    /// "Yard": tree j starts at the j-th of k roots: vertices 0 to k - 1, or the list of vans of a [`Question`].
     Rooted,
     /// "Roving": 1 to k trees that start anywhere.
     Unrooted,

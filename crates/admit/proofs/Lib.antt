@@ -1,7 +1,9 @@
 -- Laws that belong to no one function, in reading order.
 -- the bytes of a list that are read
 pub mod Listed
--- the test of the crews' number
+-- where crew j starts
+pub mod Roots
+-- the tests of the crews' number and of the list of their roots
 pub mod CrewTests
 -- what each test of a question makes of what is refused
 pub mod Tested

@@ -14,7 +14,7 @@ use Rattle.graph.proofs.Faults.{one-fault}
 use Rattle.graph.proofs.Surfaced.{vertices-sheet, plain-graph}
 use Rattle.graph_check.specs.Check as sheet
 use Rattle.graph_check.proofs.Exactly.{yes-graph}
-use Rattle.rules.specs.Questions.{Question, listed, graphIn, crewsIn, numberIn, sheetFault, classFault, adjustedFault, surfaceFault, crewFault, questionFault}
+use Rattle.rules.specs.Questions.{Question, listed, graphIn, numberIn, sheetFault, classFault, adjustedFault, surfaceFault, crewFault, vanFault, questionFault}
 use Rattle.rules.proofs.Surfaces.{each-light}
 
 -- The class list beside a sheet: without one nothing is refused of a sheet that passed its check;
@@ -40,9 +40,13 @@ module _ (q : Question) where
   unfolding questionFault sheetFault numberIn firstFault
   sheet-refused e = rw e
 
+  -- What is refused of the crews, on n vertices.
+  abbrev crewFaults : ℕ → List Fault
+  crewFaults n = crewFault (q .kind) (q .k) (q .vans) n ∷ vanFault (q .kind) (q .k) (q .vans) n ∷ []
+
   module _ {n m : ℕ} (passed : sheet.checkOf (q .sheet) ≡ sheet.yes n m) where
     -- then the class list, 53 and 54,
-    lists-decide : {f : Fault} → f ≡ surfaceFault (q .sheet) (q .classes) → firstFault (f ∷ crewFault (crewsIn q) (graphIn q .vertices) ∷ []) ≡ questionFault q
+    lists-decide : {f : Fault} → f ≡ surfaceFault (q .sheet) (q .classes) → firstFault (f ∷ crewFaults (graphIn q .vertices)) ≡ questionFault q
     unfolding questionFault sheetFault numberIn firstFault
     lists-decide e = rw (passed, ← e)
 
@@ -50,10 +54,10 @@ module _ (q : Question) where
     unfolding firstFault
     lists-refused e = lists-decide e
 
-    -- then the crews, 21.
-    pub crews-decide : {f : Fault} → none ≡ surfaceFault (q .sheet) (q .classes) → f ≡ crewFault (crewsIn q) n → f ≡ questionFault q
+    -- then the crews, 21 and 55.
+    pub crews-decide : {f : Fault} → none ≡ surfaceFault (q .sheet) (q .classes) → f ≡ firstFault (crewFaults n) → f ≡ questionFault q
     unfolding firstFault
-    crews-decide {f} p e = sym (one-fault f) ∙ rw (e, passed-vertices) (lists-decide p)
+    crews-decide {f} p e = rw (e, passed-vertices) (lists-decide p)
       where
         passed-vertices : n ≡ graphIn q .vertices
         passed-vertices = yes-graph (q .sheet) passed .vertices-are ∙ sym (vertices-sheet (q .sheet) (listed (q .classes)))

@@ -5,7 +5,7 @@ use mathlib.Core.Option.{some, none}
 use Rattle.graph.specs.Fault.{Fault}
 use Rattle.graph_check.specs.Check as sheet
 use Rattle.admit.specs.declared.refusal.Refusal.{Refusal}
-use Rattle.admit.specs.declared.refusal.Refusal.the-variants.{Sheet, Classes, Adjusted, Crews, Limit, Room, Length, Starts, Entries, Trees, Vertices, TreeNumber, WalkRoom}
+use Rattle.admit.specs.declared.refusal.Refusal.the-variants.{Sheet, Classes, Adjusted, Crews, Vans, Limit, Room, Length, Starts, Entries, Trees, Vertices, TreeNumber, WalkRoom}
 use Rattle.admit.specs.declared.Admitted.{Admitted}
 use Rattle.admit.specs.declared.Admitted.the-variants.{Refused, Fits}
 
@@ -14,6 +14,7 @@ numberOf (Sheet f) = sheet.numberOf f
 numberOf Classes = 53
 numberOf Adjusted = 54
 numberOf Crews = 21
+numberOf Vans = 55
 numberOf Limit = 22
 numberOf Room = 23
 numberOf Length = 31

@@ -15,10 +15,15 @@ ghost use Rattle.admit.specs.Refusals.{faultIn};
 pub struct Lists {
     // The class bytes, one for each edge ("line").
     pub classes: bool,
+    // The vertices where crews with roots start, two bytes each ("vans").
+    pub vans: bool,
 }
 
 // No list at all.
-pub const NO_LISTS: Lists = Lists { classes: false };
+pub const NO_LISTS: Lists = Lists {
+    classes: false,
+    vans: false,
+};
 
 // The bytes of a list that are read: all of them, or none where it is not brought.
 pub fn read_list<'a>(given: bool, list: &'a [u8]) -> &'a [u8]

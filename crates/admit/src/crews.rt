@@ -1,5 +1,5 @@
 // The crews that a question is for: with a root each, or without.
-ghost use Rattle.admit.specs.Crews.{crewsOf, CrewsTested};
+ghost use Rattle.admit.specs.Crews.{CrewsTested};
 
 // Whether the crews have a root each ("yard"), or none ("roving").
 pub enum Kind {
@@ -7,15 +7,18 @@ pub enum Kind {
     Unrooted,
 }
 
-// Says whether there are 1 to 32 crews, and no more roots than the n vertices.
-pub(crate) fn crews_right(kind: Kind, k: usize, n: usize) -> bool
-    ensures { λ r. ⌜ CrewsTested (crewsOf kind k) n r ⌝ }
+// Says whether there are 1 to 32 crews, and no more than the n vertices where they have roots and no list says which.
+pub(crate) fn crews_right(kind: Kind, k: usize, n: usize, given: bool) -> bool
+    ensures { λ r. ⌜ CrewsTested kind k n given r ⌝ }
 {
     if k < 1 {
         return false;
     }
     if 32 < k {
         return false;
+    }
+    if given {
+        return true;
     }
     match kind {
         Kind::Rooted => k <= n,

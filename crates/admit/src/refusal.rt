@@ -19,8 +19,10 @@ pub enum Refusal {
     Classes,
     // A weight by its class is too large.
     Adjusted,
-    // There are no crews, too many, or more roots than vertices.
+    // There are no crews, too many, or more than vertices where each has a root and no list says which.
     Crews,
+    // The list of vans has not two bytes for each crew, or names no vertex.
+    Vans,
     // The limit is too large.
     Limit,
     // The buffer is too small.
@@ -50,6 +52,7 @@ pub fn number(refusal: Refusal) -> u32
         Refusal::Classes => 53,
         Refusal::Adjusted => 54,
         Refusal::Crews => 21,
+        Refusal::Vans => 55,
         Refusal::Limit => 22,
         Refusal::Room => 23,
         Refusal::Length => 31,

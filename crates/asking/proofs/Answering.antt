@@ -1,26 +1,24 @@
 -- A question about a graph is answered: "no cover", or the trial at the best limit; and the crews of a question are those of the rules.
 -- Assumes nothing.
-use Prim.Native.Nat.{ℕ, _≤_}
+use Prim.Native.Nat.{ℕ}
 use mathlib.Core.Path.{_≡_, refl}
 use mathlib.Core.Bool.{true, false}
 use mathlib.Core.List.{List, []}
-use mathlib.Core.Option.{none}
+use mathlib.Core.Option.{Option}
 use native.Mathlib.Omega.{arith}
 use lib.ListN.{getD}
-use Rattle.lists.specs.Count.{below}
 use Rattle.lists.proofs.Places.{at-place}
-use Rattle.lists.proofs.Runs.{length-below}
 use Rattle.graph.specs.Graph.{Graph}
 use Rattle.rules.specs.Cover as cover
 use Rattle.rules.specs.RootedTrial.{Choices}
 use Rattle.rules.specs.Search.{noCover, bestLimit, best}
-use Rattle.rules.specs.Questions.{crewCount, crewFault, written, bufferAfter}
-use Rattle.rules.specs.Fit.{GoodFor}
-use Rattle.rules.proofs.CrewsRight.{quiet-crews, rooted-fit}
+use Rattle.rules.specs.Questions.{rootsBy, written, bufferAfter}
+use Rattle.rules.specs.Fit.{crewCount, GoodFor}
+use Rattle.rules.proofs.CrewsRight.{crew-count}
 use Rattle.planner_laws.proofs.SomeChoices.{some-choices}
 use Rattle.admit.specs.declared.crews.Kind.{Kind}
 use Rattle.admit.specs.declared.crews.Kind.the-variants.{Rooted, Unrooted}
-use Rattle.admit.specs.Crews.{crewsOf}
+use Rattle.admit.specs.Crews.{kindOf, crewsOf}
 use Rattle.replies.specs.declared.Reply.{Reply}
 use Rattle.replies.specs.declared.Reply.the-variants.{NoCover}
 use Rattle.replies.specs.Replies.{Answers}
@@ -55,41 +53,35 @@ module _ {g : Graph} {crews : cover.Crews} where
       let g : Answers g crews (bestLimit g crews) before after r = rw q at a in
       record { choices = g .choices; good = g .good; replied = rw t (g .replied) }
 
--- The crews of a question that are not refused: at most 32,
-pub crews-few : (kind : Kind) (k n : ℕ) → crewFault (crewsOf kind k) n ≡ none → k ≤ 32
-unfolding crewCount
-crews-few Rooted k n e = let (some, few, fit) = quiet-crews (crewsOf Rooted k) n e in omega (arith, few, length-below k)
-crews-few Unrooted k n e = let (some, few, fit) = quiet-crews (crewsOf Unrooted k) n e in few
-
--- with the roots 0 to k - 1, all of them vertices,
-module _ {kind : Kind} {k room : ℕ} {g : Graph} {asked : Asked} (a : CrewsAsked kind k g asked room) where
-  pub rooted-asked : {roots : List ℕ} → kind ≡ Rooted → roots ≡ below k → RootedAsked g roots asked room
+-- The crews of a question: with roots by the list of vans, or numbered from 0, all of them vertices,
+module _ {kind : Kind} {k room : ℕ} {vans : Option (List ℕ)} {g : Graph} {asked : Asked} (a : CrewsAsked kind k vans g asked room) where
+  pub rooted-asked : {roots : List ℕ} → kind ≡ Rooted → roots ≡ rootsBy k vans → RootedAsked g roots asked room
+  unfolding crewCount
   rooted-asked {roots} q r =
-      let (same, are) : (kind ≡ Rooted) × (roots ≡ below k) = (q, r) in
-      let right : crewFault (crewsOf Rooted k) (g .vertices) ≡ none = rw same at (a .crews-right) in
-      let (some, inside) = rooted-fit g k right in
+      let (same, are) : (kind ≡ Rooted) × (roots ≡ rootsBy k vans) = (q, r) in
+      let b : CrewsAsked Rooted k vans g asked room = rw same at a in
       record {
         given =
             record {
-              valid = a .valid;
-              inside = rw are (λ j h. inside (getD (below k) j 0) (at-place 0 (below k) j h));
-              some = rw are some;
-              few = rw are (omega (arith, length-below k, crews-few Rooted k (g .vertices) right));
+              valid = b .valid;
+              inside = rw are (λ j h. b .fit .1 (getD (rootsBy k vans) j 0) (at-place 0 (rootsBy k vans) j h));
+              some = rw are (b .fit .0);
+              few = rw are (b .few);
             };
-        limit-fits = a .limit-fits;
-        room-most = a .room-most;
+        limit-fits = b .limit-fits;
+        room-most = b .room-most;
       }
 
   -- or without.
   pub unrooted-asked : UnrootedAsked k g asked room
   unrooted-asked =
-      record { valid = a .valid; crews-few = crews-few kind k (g .vertices) (a .crews-right); limit-fits = a .limit-fits; room-most = a .room-most }
+      record { valid = a .valid; crews-few = omega (arith, a .few, crew-count (kindOf kind) k vans); limit-fits = a .limit-fits; room-most = a .room-most }
 
 -- The crews of the question are those of the rules.
-module _ {kind : Kind} (k : ℕ) {asked : Asked} {g : Graph} {before after : List ℕ} {r : Reply} where
-  pub rooted-answered : {roots : List ℕ} → kind ≡ Rooted → roots ≡ below k → Answered asked g (cover.rooted roots) before after r
-      → Answered asked g (crewsOf kind k) before after r
-  rooted-answered {roots} q are a = let (same, is) : (kind ≡ Rooted) × (roots ≡ below k) = (q, are) in rw same (rw is at a)
+module _ {kind : Kind} (k : ℕ) (vans : Option (List ℕ)) {asked : Asked} {g : Graph} {before after : List ℕ} {r : Reply} where
+  pub rooted-answered : {roots : List ℕ} → kind ≡ Rooted → roots ≡ rootsBy k vans → Answered asked g (cover.rooted roots) before after r
+      → Answered asked g (crewsOf kind k vans) before after r
+  rooted-answered {roots} q are a = let (same, is) : (kind ≡ Rooted) × (roots ≡ rootsBy k vans) = (q, are) in rw same (rw is at a)
 
-  pub unrooted-answered : kind ≡ Unrooted → Answered asked g (cover.unrooted k) before after r → Answered asked g (crewsOf kind k) before after r
+  pub unrooted-answered : kind ≡ Unrooted → Answered asked g (cover.unrooted k) before after r → Answered asked g (crewsOf kind k vans) before after r
   unrooted-answered q a = let same : kind ≡ Unrooted = q in rw same a

@@ -1,9 +1,8 @@
 -- A question about a graph that passed its check: a trial at a limit, or the best limit; and what is asked of each step that answers it.
 -- Assumes nothing.
 use Prim.Native.Nat.{ℕ, _≤_}
-use mathlib.Core.Path.{_≡_}
 use mathlib.Core.List.{List}
-use mathlib.Core.Option.{none}
+use mathlib.Core.Option.{Option}
 use lib.ListN.{length}
 use Rattle.lists.specs.Put.{OnlyFirst}
 use Rattle.graph.specs.Graph.{Graph, edgeCount}
@@ -12,8 +11,8 @@ use Rattle.rules.specs.Cover as cover
 use Rattle.rules.specs.Reply as rules
 use Rattle.rules.specs.RootedTrial.{Choices}
 use Rattle.rules.specs.Search.{trial, bestLimit, best}
-use Rattle.rules.specs.Fit.{GoodFor}
-use Rattle.rules.specs.Questions.{mostLimit, leastRoom, crewFault}
+use Rattle.rules.specs.Fit.{crewCount, CrewsFit, GoodFor}
+use Rattle.rules.specs.Questions.{mostLimit, leastRoom}
 use Rattle.admit.specs.Crews.{crewsOf}
 use Rattle.admit.specs.declared.crews.Kind.{Kind}
 use Rattle.replies.specs.declared.Reply.{Reply}
@@ -100,9 +99,10 @@ pub record UnrootedSmall (k : ℕ) (g : Graph) (asked : Asked) (room : ℕ) : Ty
   pub question : UnrootedAsked k g asked room
   pub edges-few : edgeCount g ≤ 512
 
--- The crews of a question, which are not refused: nothing else is known.
-pub record CrewsAsked (kind : Kind) (k : ℕ) (g : Graph) (asked : Asked) (room : ℕ) : Type 0 where
+-- The crews of a question, at most 32 that fit the graph: nothing else is known.
+pub record CrewsAsked (kind : Kind) (k : ℕ) (vans : Option (List ℕ)) (g : Graph) (asked : Asked) (room : ℕ) : Type 0 where
   pub valid : Valid g
-  pub crews-right : crewFault (crewsOf kind k) (g .vertices) ≡ none
+  pub few : crewCount (crewsOf kind k vans) ≤ 32
+  pub fit : CrewsFit g (crewsOf kind k vans)
   pub limit-fits : LimitFits asked
   pub room-most : leastRoom ≤ room

@@ -2,13 +2,14 @@
 use crate::ask_rooted::ask_rooted;
 use crate::ask_unrooted::ask_unrooted;
 use admit::crews::Kind;
+use admit::vans::put_roots;
 use answers::answer_at;
 use answers::no_cover;
-use pieces::pieces::number_up;
 use replies::Reply;
 use search::limit::best_limit;
 ghost use lib.ListN.{length};
 ghost use Rattle.graph.specs.Bytes.{graphOf};
+ghost use Rattle.admit.specs.Brought.{brought};
 ghost use Rattle.admit.specs.Crews.{crewsOf};
 ghost use Rattle.asking.specs.declared.ask.Asked.the-variants.{Best};
 ghost use Rattle.prepare.specs.Crews.{crewsWith};
@@ -141,7 +142,8 @@ pub(crate) fn answer_asked(
     }
 }
 
-// The answer to a question by crews: "the yards are stops 0 to k - 1". Nothing below knows that.
+// The answer to a question by crews: with roots by the list of vans, or 0 to k - 1 where none is given. Nothing below
+// knows of such a list.
 pub fn ask_crews(
     kind: Kind,
     k: usize,
@@ -149,15 +151,18 @@ pub fn ask_crews(
     asked: Asked,
     buf: &mut [u8],
     classes: &[u8],
+    given: bool,
+    vans: &[u8],
 ) -> Reply
-    requires { ⌜ CrewsAsked kind k (graphOf (now b) (now classes)) asked (length (now buf)) ⌝ }
-    ensures { λ r. ⌜ Answered asked (graphOf (now (b .entry)) (now (classes .entry))) (crewsOf kind k)
-        (now (buf .entry)) (now (buf .exit)) r ⌝ }
+    requires { ⌜ CrewsAsked kind k (brought given (now vans)) (graphOf (now b) (now classes)) asked
+        (length (now buf)) ⌝ }
+    ensures { λ r. ⌜ Answered asked (graphOf (now (b .entry)) (now (classes .entry)))
+        (crewsOf kind k (brought given (now (vans .entry)))) (now (buf .entry)) (now (buf .exit)) r ⌝ }
 {
     match kind {
         Kind::Rooted => {
             let mut roots = [0u16; 32];
-            number_up(k, &mut roots);
+            put_roots(k, given, vans, &mut roots);
             ask_rooted(b, &roots[..k], asked, buf, classes)
         }
         Kind::Unrooted => ask_unrooted(k, b, asked, buf, classes),

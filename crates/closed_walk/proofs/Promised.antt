@@ -96,7 +96,7 @@ module _ (q : Question) (c : List ℕ) where
       let filed = p .exactly h .0 refl in
       let a = admitted q (filed .admitted) in
       let tests = quiet-passed g (crewsIn q) c (quiet-cover p) in
-      let read : decode c ≡ filed .trees = ap decode (filed .bytes) ∙ cover-read g (a .valid) (crewsIn q) (a .crews-right) (filed .trees) (filed .cover) in
+      let read : decode c ≡ filed .trees = ap decode (filed .bytes) ∙ cover-read g (a .valid) (crewsIn q) (a .few) (filed .trees) (filed .cover) in
       record {
         cover = record { valid = a .valid; starts = tests .inside; entries = tests .entries };
         are-trees = λ t m. filed .cover .all-covered .are-trees t (subst (λ l. t ∈ l) read m);

@@ -79,11 +79,12 @@ pub fn walk(
     buf: &mut [u8],
     lists: Lists,
     classes: &[u8],
+    vans: &[u8],
 ) -> Walked
-    ensures { λ r. ⌜ WalkPromise (asksWith kind k (now (b .entry)) lists (now (classes .entry))) (now (c .entry)) tree
-        (now (buf .entry)) (now (buf .exit)) r ⌝ }
+    ensures { λ r. ⌜ WalkPromise (asksWith kind k (now (b .entry)) lists (now (classes .entry)) (now (vans .entry)))
+        (now (c .entry)) tree (now (buf .entry)) (now (buf .exit)) r ⌝ }
 {
-    match check(kind, k, b, c, lists, classes) {
+    match check(kind, k, b, c, lists, classes, vans) {
         Verdict::Refused(f) => Walked::Refused(f),
         Verdict::Yes(_) => walk_checked(b, c, tree, buf, read_list(lists.classes, classes)),
     }

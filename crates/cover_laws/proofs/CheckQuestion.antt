@@ -55,18 +55,18 @@ yes-exactly-covers q b bytes h = (one, other)
         let says = yes-says (firstFault faults) h (heaviest g (decode b)) e in
         let quiet = quiet-each faults (says .0) (List·Memᴰ·head refl) in
         let a = admitted q quiet in
-        let r = checked-covers g (a .valid) crews (a .crews-right) b bytes .0 (quiet-each faults (says .0) (List·Memᴰ·tail (List·Memᴰ·head refl))) in
+        let r = checked-covers g (a .valid) crews (a .few) b bytes .0 (quiet-each faults (says .0) (List·Memᴰ·tail (List·Memᴰ·head refl))) in
         record {
           admitted = quiet;
           trees = r .0;
           cover = r .1;
           bytes = r .2;
-          weighs = says .1 ∙ heaviest-read g (a .valid) crews (a .crews-right) (r .0) (r .1) b (r .2);
+          weighs = says .1 ∙ heaviest-read g (a .valid) crews (a .few) (r .0) (r .1) b (r .2);
         }
 
     other : Filed q b h → refusedOr number (firstFault faults) (Verdict.yes (heaviest g (decode b))) ≡ Verdict.yes h
     other f =
         let a = admitted q (f .admitted) in
-        let cover-right = checked-covers g (a .valid) crews (a .crews-right) b bytes .1 (f .trees, f .cover, f .bytes) in
+        let cover-right = checked-covers g (a .valid) crews (a .few) b bytes .1 (f .trees, f .cover, f .bytes) in
         quiet-says (first-quiet _ (f .admitted) (first-quiet _ cover-right none-quiet))
-        ∙ ap Verdict.yes (heaviest-read g (a .valid) crews (a .crews-right) (f .trees) (f .cover) b (f .bytes) ∙ sym (f .weighs))
+        ∙ ap Verdict.yes (heaviest-read g (a .valid) crews (a .few) (f .trees) (f .cover) b (f .bytes) ∙ sym (f .weighs))

@@ -1,6 +1,6 @@
 -- The check of a filed cover says yes exactly to covers: its bytes pass exactly where they are the bytes of a cover, and it is the cover that is read.
 -- Assumes nothing.
-use Prim.Native.Nat.{ℕ, _<_}
+use Prim.Native.Nat.{ℕ, _≤_, _<_}
 use mathlib.Core.Path.{_≡_, sym, ap, subst, _∙_}
 use mathlib.Core.List.{List}
 use mathlib.Core.Logic.{_↔_}
@@ -15,7 +15,7 @@ use Rattle.graph.specs.Valid.{Valid}
 use Rattle.rules.specs.Cover.{Tree, IsTree, Crews, Starts, IsCover, heaviest}
 use Rattle.rules.specs.CoverBytes.{treesIn, treeIn, encode, decode}
 use Rattle.rules.specs.CheckCover.{coverFault}
-use Rattle.rules.specs.Questions.{crewFault}
+use Rattle.rules.specs.Fit.{crewCount}
 use Rattle.rules.proofs.Fields.{Bytes}
 use Rattle.cover_laws.proofs.Entries.{Entry, entriesOf, edgesOf, of-entries}
 use Rattle.cover_laws.proofs.RisingEntries.{grouped, of-edges, edges-rise, rises-entries}
@@ -104,10 +104,10 @@ module _ (g : Graph) (crews : Crews) (trees : List Tree) (cover : IsCover g crew
         covered = rw again (covered-passes g trees (cover .all-covered .covered));
       }
 
-module _ (g : Graph) (valid : Valid g) (crews : Crews) (sound : crewFault crews (g .vertices) ≡ none) where
+module _ (g : Graph) (valid : Valid g) (crews : Crews) (few : crewCount crews ≤ 32) where
   -- The bytes of a cover are read as that very cover.
   pub cover-read : (trees : List Tree) → IsCover g crews trees → decode (encode trees) ≡ trees
-  cover-read trees cover = decode-encode trees (cover-fits g valid crews sound trees cover)
+  cover-read trees cover = decode-encode trees (cover-fits g valid crews few trees cover)
 
   -- So the heaviest tree that is read is the cover's.
   pub heaviest-read : (trees : List Tree) → IsCover g crews trees → (b : List ℕ) → b ≡ encode trees → heaviest g (decode b) ≡ heaviest g trees
@@ -122,4 +122,4 @@ module _ (g : Graph) (valid : Valid g) (crews : Crews) (sound : crewFault crews 
 
       other : (trees : List Tree) × IsCover g crews trees × (b ≡ encode trees) → coverFault g crews b ≡ none
       other (trees, cover, e) =
-          rw e (passed-quiet g crews (encode trees) (cover-passes g crews trees cover (cover-fits g valid crews sound trees cover)))
+          rw e (passed-quiet g crews (encode trees) (cover-passes g crews trees cover (cover-fits g valid crews few trees cover)))

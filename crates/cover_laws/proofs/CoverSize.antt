@@ -2,9 +2,8 @@
 -- bytes are at most 32,708.
 -- Assumes nothing.
 use Prim.Native.Nat.{_*_, _≤_, _<_}
-use mathlib.Core.Path.{_≡_, ap}
+use mathlib.Core.Path.{ap}
 use mathlib.Core.List.{List}
-use mathlib.Core.Option.{none}
 use native.Mathlib.Omega.{arith}
 use lib.ListN.{length, length-map}
 use Rattle.lists.specs.Member.{_∈_}
@@ -15,8 +14,8 @@ use Rattle.graph.specs.Graph.{Graph}
 use Rattle.graph.specs.Valid.{Valid}
 use Rattle.rules.specs.Cover.{Tree, IsTree, Crews, rooted, unrooted, Starts, IsCover}
 use Rattle.rules.specs.CoverBytes.{entryEdges, encode}
-use Rattle.rules.specs.Questions.{leastRoom, crewCount, crewFault}
-use Rattle.rules.proofs.CrewsRight.{quiet-crews}
+use Rattle.rules.specs.Questions.{leastRoom}
+use Rattle.rules.specs.Fit.{crewCount}
 use Rattle.forest_laws.proofs.FewForest.{loopless-few}
 use Rattle.cover_laws.proofs.Writing.{Fits, length-encode}
 
@@ -58,9 +57,9 @@ module _ (g : Graph) (valid : Valid g) where
     trees-length = bytes-few trees few each-few
 
   -- So for a cover.
-  module _ (crews : Crews) (sound : crewFault crews (g .vertices) ≡ none) (trees : List Tree) (cover : IsCover g crews trees) where
+  module _ (crews : Crews) (few : crewCount crews ≤ 32) (trees : List Tree) (cover : IsCover g crews trees) where
     pub cover-few : length trees ≤ 32
-    cover-few = omega (arith, trees-few crews trees (cover .starts), quiet-crews crews (g .vertices) sound .1)
+    cover-few = omega (arith, trees-few crews trees (cover .starts))
 
     pub cover-fits : Fits trees
     cover-fits = trees-fit trees cover-few (cover .all-covered .are-trees)

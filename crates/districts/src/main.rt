@@ -2,8 +2,9 @@
 // the answers. Standard input holds records, one behind the other: the question (2 bytes: 1 rooted trial, 2 unrooted
 // trial, 3 rooted best, 4 unrooted best, 5 rooted check, 6 unrooted check), k (2), the limit (4), how long the lent
 // buffer is (2), whether the reply is printed whole (2: 1 if it is), the length of the graph's bytes (2) and of the
-// filed cover's (2), which lists are brought (2, a bit for each: 1 the class bytes), the length of the class list (2)
-// and of lists to come (4, zeros), all lowest byte first, then these bytes: the graph's, the cover's, the class list.
+// filed cover's (2), which lists are brought (2, a bit for each: 1 the class bytes, 2 the vans), the length of the class
+// list (2), of the list of vans (2) and of a list to come (2, zeros), all lowest byte first, then these bytes: the
+// graph's, the cover's, the class list, the list of vans.
 // What it must print was printed by an unrelated implementation. The replies in full go to standard error, as bytes,
 // for a judge that knows which choices are free.
 mod text;
@@ -36,11 +37,23 @@ fn print_reply(
     buf: &[u8],
     lists: Lists,
     classes: &[u8],
+    vans: &[u8],
 )
-    requires { ⌜ TextAsked (graphIn (asksWith kind k (now b) lists (now classes))) reply (now buf) 65536 ⌝ }
+    requires { ⌜ TextAsked (graphIn (asksWith kind k (now b) lists (now classes) (now vans))) reply (now buf) 65536 ⌝ }
 {
     let mut out = room();
-    let end = write_text(whole, kind, k, b, reply, buf, &mut out, lists, classes);
+    let end = write_text(
+        whole,
+        kind,
+        k,
+        b,
+        reply,
+        buf,
+        &mut out,
+        lists,
+        classes,
+        vans,
+    );
     io::write_all(STDOUT_FILENO, &out[..end]);
 }
 
@@ -62,11 +75,12 @@ fn reply_to(
     buf: &mut [u8],
     lists: Lists,
     classes: &[u8],
+    vans: &[u8],
 ) -> Reply
-    ensures { λ r. ⌜ TextAsked (graphIn (asksWith kind k (now (b .entry)) lists (now (classes .entry)))) r
+    ensures { λ r. ⌜ TextAsked (graphIn (asksWith kind k (now (b .entry)) lists (now (classes .entry)) (now (vans .entry)))) r
         (now (buf .exit)) 65536 ⌝ }
 {
-    planner::question::ask(asked, kind, k, b, buf, lists, classes)
+    planner::question::ask(asked, kind, k, b, buf, lists, classes, vans)
 }
 
 // Asks the planner, and prints and files the reply.
@@ -79,11 +93,12 @@ fn answer(
     buf: &mut [u8],
     lists: Lists,
     classes: &[u8],
+    vans: &[u8],
 )
     requires { ⌜ length (now buf) ≤ 65536 ⌝ }
 {
-    let reply = reply_to(asked, kind, k, b, buf, lists, classes);
-    print_reply(whole, kind, k, b, reply, buf, lists, classes);
+    let reply = reply_to(asked, kind, k, b, buf, lists, classes, vans);
+    print_reply(whole, kind, k, b, reply, buf, lists, classes, vans);
     file_reply(reply, buf);
 }
 
@@ -97,17 +112,28 @@ fn ask(
     b: &[u8],
     lists: Lists,
     classes: &[u8],
+    vans: &[u8],
 )
     requires { ⌜ lent < 2 ^ 16 ⌝ }
 {
     let mut buf = filled();
-    answer(asked, whole, kind, k, b, &mut buf[..lent], lists, classes);
+    answer(
+        asked,
+        whole,
+        kind,
+        k,
+        b,
+        &mut buf[..lent],
+        lists,
+        classes,
+        vans,
+    );
 }
 
 // Asks the check, and prints its answer.
-fn check(kind: Kind, k: usize, b: &[u8], filed: &[u8], lists: Lists, classes: &[u8]) {
+fn check(kind: Kind, k: usize, b: &[u8], filed: &[u8], lists: Lists, classes: &[u8], vans: &[u8]) {
     let mut out = room();
-    let verdict = filed::check::check(kind, k, b, filed, lists, classes);
+    let verdict = filed::check::check(kind, k, b, filed, lists, classes, vans);
     let end = write_verdict(verdict, &mut out);
     io::write_all(STDOUT_FILENO, &out[..end]);
 }
@@ -123,6 +149,7 @@ fn answer_record(
     filed: &[u8],
     lists: Lists,
     classes: &[u8],
+    vans: &[u8],
 )
     requires { ⌜ lent < 2 ^ 16 ⌝ }
 {
@@ -136,6 +163,7 @@ fn answer_record(
             b,
             lists,
             classes,
+            vans,
         ),
         2 => ask(
             Asked::At(limit),
@@ -146,8 +174,19 @@ fn answer_record(
             b,
             lists,
             classes,
+            vans,
         ),
-        3 => ask(Asked::Best, whole, lent, Kind::Rooted, k, b, lists, classes),
+        3 => ask(
+            Asked::Best,
+            whole,
+            lent,
+            Kind::Rooted,
+            k,
+            b,
+            lists,
+            classes,
+            vans,
+        ),
         4 => ask(
             Asked::Best,
             whole,
@@ -157,20 +196,32 @@ fn answer_record(
             b,
             lists,
             classes,
+            vans,
         ),
-        5 => check(Kind::Rooted, k, b, filed, lists, classes),
-        _ => check(Kind::Unrooted, k, b, filed, lists, classes),
+        5 => check(Kind::Rooted, k, b, filed, lists, classes, vans),
+        _ => check(Kind::Unrooted, k, b, filed, lists, classes, vans),
+    }
+}
+
+// Reads the bytes behind a record's head.
+fn read_bytes(sheet: &mut [u8], filed: &mut [u8], classes: &mut [u8], vans: &mut [u8]) {
+    io::read_full(STDIN_FILENO, sheet);
+    io::read_full(STDIN_FILENO, filed);
+    io::read_full(STDIN_FILENO, classes);
+    io::read_full(STDIN_FILENO, vans);
+}
+
+// The lists that a number names.
+fn lists_of(brought: usize) -> Lists {
+    Lists {
+        classes: brought % 2 == 1,
+        vans: brought / 2 % 2 == 1,
     }
 }
 
 // Reads the rest of a record, of which the head was read, and answers it.
-fn read_rest(head: &[u8], sheet: &mut [u8], filed: &mut [u8], classes: &mut [u8]) {
-    io::read_full(STDIN_FILENO, sheet);
-    io::read_full(STDIN_FILENO, filed);
-    io::read_full(STDIN_FILENO, classes);
-    let lists = Lists {
-        classes: graph::u16_at(head, 16) % 2 == 1,
-    };
+fn read_rest(head: &[u8], sheet: &mut [u8], filed: &mut [u8], classes: &mut [u8], vans: &mut [u8]) {
+    read_bytes(sheet, filed, classes, vans);
     answer_record(
         graph::u16_at(head, 0),
         graph::u16_at(head, 2),
@@ -179,8 +230,9 @@ fn read_rest(head: &[u8], sheet: &mut [u8], filed: &mut [u8], classes: &mut [u8]
         graph::u16_at(head, 10) == 1,
         sheet,
         filed,
-        lists,
+        lists_of(graph::u16_at(head, 16)),
         classes,
+        vans,
     );
 }
 
@@ -193,14 +245,17 @@ fn answer_one() -> bool {
     let sheet_length = graph::u16_at(&head, 12);
     let cover_length = graph::u16_at(&head, 14);
     let class_length = graph::u16_at(&head, 18);
+    let van_length = graph::u16_at(&head, 20);
     let mut sheet = io::large_buffer();
     let mut filed = io::large_buffer();
     let mut classes = io::large_buffer();
+    let mut vans = io::large_buffer();
     read_rest(
         &head,
         &mut sheet[..sheet_length],
         &mut filed[..cover_length],
         &mut classes[..class_length],
+        &mut vans[..van_length],
     );
     true
 }

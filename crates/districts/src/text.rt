@@ -28,15 +28,16 @@ pub(crate) fn write_text(
     out: &mut [u8],
     lists: Lists,
     classes: &[u8],
+    vans: &[u8],
 ) -> usize
-    requires { ⌜ TextAsked (graphIn (asksWith kind k (now b) lists (now classes))) reply (now buf) (length (now out)) ⌝ }
-    ensures { λ r. ⌜ DistrictWritten whole (asksWith kind k (now (b .entry)) lists (now (classes .entry))) reply
+    requires { ⌜ TextAsked (graphIn (asksWith kind k (now b) lists (now classes) (now vans))) reply (now buf) (length (now out)) ⌝ }
+    ensures { λ r. ⌜ DistrictWritten whole (asksWith kind k (now (b .entry)) lists (now (classes .entry)) (now (vans .entry))) reply
         (now (buf .entry)) (now (out .entry)) (now (out .exit)) r ⌝ }
 {
     if whole {
         return write_reply(b, reply, buf, out, read_list(lists.classes, classes));
     }
-    write_fixed(kind, k, b, reply, buf, out, lists, classes)
+    write_fixed(kind, k, b, reply, buf, out, lists, classes, vans)
 }
 
 // The check's answer, as the first bytes of `out`. Says how many.

@@ -1,5 +1,5 @@
-// The check of a filed cover: the graph's bytes (11 to 16), the class list (53, 54), the crews (21), then the cover's
-// bytes (31 to 35), in that order.
+// The check of a filed cover: the graph's bytes (11 to 16), the class list (53, 54), the crews (21) and the list of
+// their roots (55), then the cover's bytes (31 to 35), in that order.
 use crate::trees::trees_right;
 use admit::Admitted;
 use admit::brought::Lists;
@@ -18,6 +18,7 @@ ghost use Rattle.graph.specs.Bytes.{graphOf};
 ghost use Rattle.graph.specs.Valid.{Valid};
 ghost use Rattle.rules.specs.CheckCover.{startsRight, coverFault};
 ghost use Rattle.cover.specs.Runs.{CoverGiven};
+ghost use Rattle.admit.specs.Brought.{brought};
 ghost use Rattle.admit.specs.Crews.{asks, asksWith, crewsOf};
 ghost use Rattle.filed.specs.Promise.{says, numberOr0, answer, treesFault, CheckPromise};
 
@@ -40,11 +41,11 @@ pub fn number_of(verdict: Verdict) -> u32
 }
 
 // Says whether the number of trees and their starts keep the kind's rule.
-fn starts_right(kind: Kind, k: usize, c: &[u8]) -> bool
-    ensures { λ r. ⌜ r ≡ startsRight (crewsOf kind k) (now (c .entry)) ⌝ }
+fn starts_right(kind: Kind, k: usize, c: &[u8], given: bool, vans: &[u8]) -> bool
+    ensures { λ r. ⌜ r ≡ startsRight (crewsOf kind k (brought given (now (vans .entry)))) (now (c .entry)) ⌝ }
 {
     match kind {
-        Kind::Rooted => starts_at_roots(c, k),
+        Kind::Rooted => starts_at_roots(c, k, given, vans),
         Kind::Unrooted => starts_at_most(c, k),
     }
 }
@@ -67,10 +68,19 @@ fn check_trees(b: &[u8], c: &[u8], classes: &[u8]) -> Verdict
 
 // The check of the cover's bytes, for a graph. It is called at two places, and so compiled apart from the test of the
 // question: in one function with it, it is slower.
-fn check_filed(kind: Kind, k: usize, b: &[u8], c: &[u8], classes: &[u8]) -> Verdict
+fn check_filed(
+    kind: Kind,
+    k: usize,
+    b: &[u8],
+    c: &[u8],
+    classes: &[u8],
+    given: bool,
+    vans: &[u8],
+) -> Verdict
     requires { ⌜ Valid (graphOf (now b) (now classes)) ⌝ }
     ensures { λ r. ⌜ says r ≡ answer (graphOf (now (b .entry)) (now (classes .entry))) (now (c .entry))
-        (coverFault (graphOf (now (b .entry)) (now (classes .entry))) (crewsOf kind k) (now (c .entry))) ⌝ }
+        (coverFault (graphOf (now (b .entry)) (now (classes .entry)))
+        (crewsOf kind k (brought given (now (vans .entry)))) (now (c .entry))) ⌝ }
 {
     if c.len() < 4 {
         return Verdict::Refused(Refusal::Length);
@@ -78,7 +88,7 @@ fn check_filed(kind: Kind, k: usize, b: &[u8], c: &[u8], classes: &[u8]) -> Verd
     if c.len() != cover_length(c) {
         return Verdict::Refused(Refusal::Length);
     }
-    if !starts_right(kind, k, c) {
+    if !starts_right(kind, k, c, given, vans) {
         return Verdict::Refused(Refusal::Starts);
     }
     if !starts_below(c, graph::vertex_count(b, classes)) {
@@ -92,16 +102,25 @@ fn check_filed(kind: Kind, k: usize, b: &[u8], c: &[u8], classes: &[u8]) -> Verd
 
 // The check, of a question with the lists that are brought: whether c is the bytes of a cover of the graph by the
 // crews, and how much its heaviest tree weighs.
-pub fn check(kind: Kind, k: usize, b: &[u8], c: &[u8], lists: Lists, classes: &[u8]) -> Verdict
-    ensures { λ r. ⌜ CheckPromise (asksWith kind k (now (b .entry)) lists (now (classes .entry))) (now (c .entry)) r ⌝ }
+pub fn check(
+    kind: Kind,
+    k: usize,
+    b: &[u8],
+    c: &[u8],
+    lists: Lists,
+    classes: &[u8],
+    vans: &[u8],
+) -> Verdict
+    ensures { λ r. ⌜ CheckPromise (asksWith kind k (now (b .entry)) lists (now (classes .entry)) (now (vans .entry)))
+        (now (c .entry)) r ⌝ }
 {
-    match admit::admit(kind, k, b, lists, classes) {
+    match admit::admit(kind, k, b, lists, classes, vans) {
         Admitted::Refused(f) => Verdict::Refused(f),
         Admitted::Fits => {
             if lists.classes {
-                return check_filed(kind, k, b, c, classes);
+                return check_filed(kind, k, b, c, classes, lists.vans, vans);
             }
-            check_filed(kind, k, b, c, &[])
+            check_filed(kind, k, b, c, &[], lists.vans, vans)
         }
     }
 }
@@ -110,5 +129,5 @@ pub fn check(kind: Kind, k: usize, b: &[u8], c: &[u8], lists: Lists, classes: &[
 pub fn check_cover(kind: Kind, k: usize, b: &[u8], c: &[u8]) -> Verdict
     ensures { λ r. ⌜ CheckPromise (asks kind k (now (b .entry))) (now (c .entry)) r ⌝ }
 {
-    check(kind, k, b, c, NO_LISTS, &[])
+    check(kind, k, b, c, NO_LISTS, &[], &[])
 }

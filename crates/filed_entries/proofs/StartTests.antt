@@ -1,47 +1,48 @@
 -- The tests of the starts (32) as the code makes them, one after the other.
 -- Assumes nothing.
 use Prim.Native.Nat.{ℕ, _≤_, _<_}
-use mathlib.Core.Path.{_≡_, sym, ap, _∙_}
+use mathlib.Core.Path.{_≡_}
 use mathlib.Core.Bool.{true, false}
-use mathlib.Core.List.{List, map-id}
+use mathlib.Core.List.{List}
+use mathlib.Core.Option.{Option}
 use native.Mathlib.Omega.{arith}
 use lib.ListN.{length, getD}
 use lib.Dec.{eqb, leb, ltb}
 use borrow.Author.Tests.{ltb-true, lt-ltb, le-ltb, le-leb, lt-leb, eq-eqb, ne-eqb}
 use Rattle.lists.specs.Count.{below}
-use Rattle.lists.proofs.Runs.{length-below, getD-map-below}
 use Rattle.lists.proofs.AllBelow.{all-below, not-below, each-below}
 use Rattle.rules.specs.Cover.{rooted, unrooted}
 use Rattle.rules.specs.CoverBytes.{treesIn, startIn}
 use Rattle.rules.specs.CheckCover.{startsRight, startsBelow}
+use Rattle.rules.specs.Questions.{rootsBy}
+use Rattle.rules.proofs.CrewsRight.{roots-count}
+use Rattle.admit.specs.Crews.{rootAt}
+use Rattle.admit.proofs.Roots.{root-is}
 
 module _ (b : List ℕ) where
   module _ (k : ℕ) where
-    -- The roots are the first k vertices.
-    root-is : (j : ℕ) → j < k → getD (below k) j 0 ≡ j
-    root-is j h = ap (λ l. getD l j 0) (sym (map-id (below k))) ∙ getD-map-below (λ x. x) 0 k j h
-
-    pub other-count : (treesIn b ≡ k → ⊥) → startsRight (rooted (below k)) b ≡ false
-    unfolding startsRight
-    other-count d = rw (length-below k, ne-eqb (treesIn b) k d)
-
-    module _ (q : treesIn b ≡ k) where
-      count-right : eqb (treesIn b) (length (below k)) ≡ true
-      count-right = rw (length-below k) (eq-eqb (treesIn b) k q)
-
-      pub other-start : (j : ℕ) → j < treesIn b → (startIn b j ≡ j → ⊥) → startsRight (rooted (below k)) b ≡ false
+    module _ (vans : Option (List ℕ)) where
+      pub other-count : (treesIn b ≡ k → ⊥) → startsRight (rooted (rootsBy k vans)) b ≡ false
       unfolding startsRight
-      other-start j h d =
-          rw count-right
-          (not-below (λ i. eqb (startIn b i) (getD (below k) i 0)) (treesIn b) j h
-          (rw (root-is j (omega arith)) (ne-eqb (startIn b j) j d)))
+      other-count d = rw (roots-count k vans, ne-eqb (treesIn b) k d)
 
-      pub same-starts : ((j : ℕ) → j < treesIn b → startIn b j ≡ j) → startsRight (rooted (below k)) b ≡ true
-      unfolding startsRight
-      same-starts h =
-          rw count-right
-          (all-below (λ i. eqb (startIn b i) (getD (below k) i 0)) (treesIn b)
-          (λ j l. rw (root-is j (omega arith)) (eq-eqb (startIn b j) j (h j l))))
+      module _ (q : treesIn b ≡ k) where
+        count-right : eqb (treesIn b) (length (rootsBy k vans)) ≡ true
+        count-right = rw (roots-count k vans) (eq-eqb (treesIn b) k q)
+
+        pub other-start : (j : ℕ) → j < treesIn b → (startIn b j ≡ rootAt vans j → ⊥) → startsRight (rooted (rootsBy k vans)) b ≡ false
+        unfolding startsRight
+        other-start j h d =
+            rw count-right
+            (not-below (λ i. eqb (startIn b i) (getD (rootsBy k vans) i 0)) (treesIn b) j h
+            (rw (root-is k vans j (omega arith)) (ne-eqb (startIn b j) (rootAt vans j) d)))
+
+        pub same-starts : ((j : ℕ) → j < treesIn b → startIn b j ≡ rootAt vans j) → startsRight (rooted (rootsBy k vans)) b ≡ true
+        unfolding startsRight
+        same-starts h =
+            rw count-right
+            (all-below (λ i. eqb (startIn b i) (getD (rootsBy k vans) i 0)) (treesIn b)
+            (λ j l. rw (root-is k vans j (omega arith)) (eq-eqb (startIn b j) (rootAt vans j) (h j l))))
 
     pub no-trees : treesIn b < 1 → startsRight (unrooted k) b ≡ false
     unfolding startsRight

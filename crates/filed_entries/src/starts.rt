@@ -1,14 +1,16 @@
 // The starts of a filed cover (32): as many as the crews may have, each where its crew begins, each a vertex.
+use admit::vans::root_at;
 use cover::read::start_in;
 use cover::read::trees_in;
 ghost use mathlib.Core.Path.{_≡_};
-ghost use Rattle.lists.specs.Count.{below};
 ghost use Rattle.rules.specs.Cover.{rooted, unrooted};
 ghost use Rattle.rules.specs.CheckCover.{startsRight, startsBelow};
+ghost use Rattle.rules.specs.Questions.{rootsBy};
+ghost use Rattle.admit.specs.Brought.{brought};
 
-// There are k trees, and tree j starts at its root, which is vertex j.
-pub fn starts_at_roots(c: &[u8], k: usize) -> bool
-    ensures { λ r. ⌜ r ≡ startsRight (rooted (below k)) (now (c .entry)) ⌝ }
+// There are k trees, and tree j starts at its root, by the list of vans where one is given.
+pub fn starts_at_roots(c: &[u8], k: usize, given: bool, vans: &[u8]) -> bool
+    ensures { λ r. ⌜ r ≡ startsRight (rooted (rootsBy k (brought given (now (vans .entry))))) (now (c .entry)) ⌝ }
 {
     let t = trees_in(c);
     if t != k {
@@ -16,7 +18,7 @@ pub fn starts_at_roots(c: &[u8], k: usize) -> bool
     }
     let mut j = 0;
     while j < t {
-        if start_in(c, j) != j {
+        if start_in(c, j) != root_at(given, vans, j) {
             return false;
         }
         j += 1;

@@ -40,11 +40,12 @@ fn confirms(
     heaviest: u64,
     lists: Lists,
     classes: &[u8],
+    vans: &[u8],
 ) -> bool
-    ensures { λ r. ⌜ r ≡ confirmed (asksWith kind k (now (b .entry)) lists (now (classes .entry))) (now (c .entry))
+    ensures { λ r. ⌜ r ≡ confirmed (asksWith kind k (now (b .entry)) lists (now (classes .entry)) (now (vans .entry))) (now (c .entry))
         heaviest ⌝ }
 {
-    is_yes(check(kind, k, b, c, lists, classes), heaviest)
+    is_yes(check(kind, k, b, c, lists, classes, vans), heaviest)
 }
 
 // A space and `yes` or `no`, from a place on.
@@ -79,15 +80,16 @@ pub fn write_fixed(
     out: &mut [u8],
     lists: Lists,
     classes: &[u8],
+    vans: &[u8],
 ) -> usize
-    requires { ⌜ TextAsked (graphIn (asksWith kind k (now b) lists (now classes))) reply (now buf) (length (now out)) ⌝ }
-    ensures { λ r. ⌜ FixedWritten (asksWith kind k (now (b .entry)) lists (now (classes .entry))) reply
+    requires { ⌜ TextAsked (graphIn (asksWith kind k (now b) lists (now classes) (now vans))) reply (now buf) (length (now out)) ⌝ }
+    ensures { λ r. ⌜ FixedWritten (asksWith kind k (now (b .entry)) lists (now (classes .entry)) (now (vans .entry))) reply
         (now (buf .entry)) (now (out .entry)) (now (out .exit)) r ⌝ }
 {
     match reply {
         Reply::Cover(limit, heaviest, t) => {
             let end = cover_length(buf);
-            let sure = confirms(kind, k, b, &buf[..end], heaviest, lists, classes);
+            let sure = confirms(kind, k, b, &buf[..end], heaviest, lists, classes, vans);
             return write_sure(limit, sure, t as u64, out);
         }
         Reply::Parts(_, _) => {

@@ -107,15 +107,15 @@ module _ (asked : Asked) (q : Question) (room : ℕ) where
     room-quiet = ltb-false room leastRoom (quiet-if (ltb room leastRoom) _ (quiet-each (faults asked q room) quiet (List·Memᴰ·tail (List·Memᴰ·tail (List·Memᴰ·head refl)))))
 
 -- So the question can be asked, by the class bytes that are read.
-module _ (asked : Asked) (kind : Kind) (k : ℕ) (b : List ℕ) (lists : Lists) (classes : List ℕ) (room : ℕ) where
+module _ (asked : Asked) (kind : Kind) (k : ℕ) (b : List ℕ) (lists : Lists) (classes vans : List ℕ) (room : ℕ) where
   abbrev q : Question
-  q = asksWith kind k b lists classes
+  q = asksWith kind k b lists classes vans
 
-  pub can-ask : {read : List ℕ} → listed (q .classes) ≡ read → none ≡ faultOf asked q room → CrewsAsked kind k (graphOf b read) asked room
+  pub can-ask : {read : List ℕ} → listed (q .classes) ≡ read → none ≡ faultOf asked q room → CrewsAsked kind k (q .vans) (graphOf b read) asked room
   can-ask {read} is e =
       let a = question-quiet asked q room (sym e) in
-      let can : CrewsAsked kind k (graphIn q) asked room =
-      record { valid = a .valid; crews-right = a .crews-right; limit-fits = limit-quiet asked q room (sym e); room-most = room-quiet asked q room (sym e) } in
+      let can : CrewsAsked kind k (q .vans) (graphIn q) asked room =
+      record { valid = a .valid; few = a .few; fit = a .fit; limit-fits = limit-quiet asked q room (sym e); room-most = room-quiet asked q room (sym e) } in
       rw is at can
 
 module _ (asked : Asked) (q : Question) where

@@ -35,10 +35,12 @@ fn test(
     room: usize,
     lists: Lists,
     classes: &[u8],
+    vans: &[u8],
 ) -> Admitted
-    ensures { λ r. ⌜ faultIn r ≡ faultOf asked (asksWith kind k (now (b .entry)) lists (now (classes .entry))) room ⌝ }
+    ensures { λ r. ⌜ faultIn r ≡ faultOf asked (asksWith kind k (now (b .entry)) lists (now (classes .entry))
+        (now (vans .entry))) room ⌝ }
 {
-    match admit::admit(kind, k, b, lists, classes) {
+    match admit::admit(kind, k, b, lists, classes, vans) {
         Admitted::Refused(f) => Admitted::Refused(f),
         Admitted::Fits => {
             if !limit_right(asked) {
@@ -61,17 +63,18 @@ pub fn ask(
     buf: &mut [u8],
     lists: Lists,
     classes: &[u8],
+    vans: &[u8],
 ) -> Reply
-    ensures { λ r. ⌜ AskPromise asked (asksWith kind k (now (b .entry)) lists (now (classes .entry))) (now (buf .entry))
-        (now (buf .exit)) r ⌝ }
+    ensures { λ r. ⌜ AskPromise asked (asksWith kind k (now (b .entry)) lists (now (classes .entry))
+        (now (vans .entry))) (now (buf .entry)) (now (buf .exit)) r ⌝ }
 {
-    match test(kind, k, asked, b, buf.len(), lists, classes) {
+    match test(kind, k, asked, b, buf.len(), lists, classes, vans) {
         Admitted::Refused(f) => Reply::Refused(f),
         Admitted::Fits => {
             if lists.classes {
-                return ask_crews(kind, k, b, asked, buf, classes);
+                return ask_crews(kind, k, b, asked, buf, classes, lists.vans, vans);
             }
-            ask_crews(kind, k, b, asked, buf, &[])
+            ask_crews(kind, k, b, asked, buf, &[], lists.vans, vans)
         }
     }
 }
@@ -80,7 +83,7 @@ pub fn ask(
 pub fn trial(kind: Kind, k: usize, limit: u64, b: &[u8], buf: &mut [u8]) -> Reply
     ensures { λ r. ⌜ TrialPromise (asks kind k (now (b .entry))) limit (now (buf .entry)) (now (buf .exit)) r ⌝ }
 {
-    ask(Asked::At(limit), kind, k, b, buf, NO_LISTS, &[])
+    ask(Asked::At(limit), kind, k, b, buf, NO_LISTS, &[], &[])
 }
 
 // "The best limit", without lists: a cover whose heaviest tree weighs at most four times that of any cover's, or that
@@ -88,5 +91,5 @@ pub fn trial(kind: Kind, k: usize, limit: u64, b: &[u8], buf: &mut [u8]) -> Repl
 pub fn best(kind: Kind, k: usize, b: &[u8], buf: &mut [u8]) -> Reply
     ensures { λ r. ⌜ BestPromise (asks kind k (now (b .entry))) (now (buf .entry)) (now (buf .exit)) r ⌝ }
 {
-    ask(Asked::Best, kind, k, b, buf, NO_LISTS, &[])
+    ask(Asked::Best, kind, k, b, buf, NO_LISTS, &[], &[])
 }

@@ -1,7 +1,7 @@
 -- What crosses to C as numbers: the kind of a question, what it asks and which lists it brings, and the number and values that a verdict says.
 -- (What a reply says: `says` of the crate `replies`.)
 -- Assumes nothing.
-use Prim.Native.Nat.{ℕ, zero, suc, _%_}
+use Prim.Native.Nat.{ℕ, zero, suc, _/_, _%_}
 use mathlib.Core.Path.{_≡_}
 use mathlib.Core.List.{List, [], _∷_, _++_}
 use lib.ListN.{length, drop}
@@ -26,9 +26,9 @@ abbrev pub askedOf : ℕ → ℕ → Asked
 askedOf zero limit = At limit
 askedOf (suc other) limit = Best
 
--- The lowest bit says whether class bytes are brought.
+-- The lowest bit says whether class bytes are brought, the next whether a list of vans is.
 abbrev pub listsOf : ℕ → Lists
-listsOf brought = record { classes = eqb (brought % 2) 1 }
+listsOf brought = record { classes = eqb (brought % 2) 1; vans = eqb (brought / 2 % 2) 1 }
 
 -- The rules' verdict: yes is 0 with the heaviest weight, a refusal its own number.
 abbrev pub saidOf : rules.Verdict → Said

@@ -83,7 +83,17 @@ pub extern "C" fn planner_walk(
     ensures { λ r. ⌜ WalkExported (asks (kindOf kind) k (now (graph .entry))) (now (cover .entry)) tree
         (now (values .entry)) (now (values .exit)) (now (buffer .entry)) (now (buffer .exit)) r ⌝ }
 {
-    let walked = walk(kind_of(kind), k, graph, cover, tree, buffer, NO_LISTS, &[]);
+    let walked = walk(
+        kind_of(kind),
+        k,
+        graph,
+        cover,
+        tree,
+        buffer,
+        NO_LISTS,
+        &[],
+        &[],
+    );
     put_walk(walked, values);
     closed_walk::walk::number_of(walked)
 }
@@ -98,12 +108,13 @@ pub extern "C" fn planner_ask(
     graph: &[u8],
     brought: u32,
     classes: &[u8],
+    vans: &[u8],
     values: &mut [u64; 3],
     buffer: &mut [u8],
 ) -> u32
     ensures { λ r. ⌜ AskExported (askedOf asked limit) (asksWith (kindOf kind) k (now (graph .entry)) (listsOf brought)
-        (now (classes .entry))) (now (values .entry)) (now (values .exit)) (now (buffer .entry)) (now (buffer .exit))
-        r ⌝ }
+        (now (classes .entry)) (now (vans .entry))) (now (values .entry)) (now (values .exit)) (now (buffer .entry))
+        (now (buffer .exit)) r ⌝ }
 {
     let question = asked_of(asked, limit);
     let reply = ask(
@@ -114,6 +125,7 @@ pub extern "C" fn planner_ask(
         buffer,
         lists_of(brought),
         classes,
+        vans,
     );
     put_values(reply, values);
     number_of(reply)
@@ -127,13 +139,23 @@ pub extern "C" fn planner_verify(
     graph: &[u8],
     brought: u32,
     classes: &[u8],
+    vans: &[u8],
     cover: &[u8],
     values: &mut [u64; 3],
 ) -> u32
     ensures { λ r. ⌜ CheckExported (asksWith (kindOf kind) k (now (graph .entry)) (listsOf brought)
-        (now (classes .entry))) (now (cover .entry)) (now (values .entry)) (now (values .exit)) r ⌝ }
+        (now (classes .entry)) (now (vans .entry))) (now (cover .entry)) (now (values .entry)) (now (values .exit))
+        r ⌝ }
 {
-    let verdict = check(kind_of(kind), k, graph, cover, lists_of(brought), classes);
+    let verdict = check(
+        kind_of(kind),
+        k,
+        graph,
+        cover,
+        lists_of(brought),
+        classes,
+        vans,
+    );
     put_heaviest(verdict, values);
     filed::check::number_of(verdict)
 }
@@ -146,14 +168,15 @@ pub extern "C" fn planner_route(
     graph: &[u8],
     brought: u32,
     classes: &[u8],
+    vans: &[u8],
     cover: &[u8],
     tree: usize,
     values: &mut [u64; 2],
     buffer: &mut [u8],
 ) -> u32
     ensures { λ r. ⌜ WalkExported (asksWith (kindOf kind) k (now (graph .entry)) (listsOf brought)
-        (now (classes .entry))) (now (cover .entry)) tree (now (values .entry)) (now (values .exit))
-        (now (buffer .entry)) (now (buffer .exit)) r ⌝ }
+        (now (classes .entry)) (now (vans .entry))) (now (cover .entry)) tree (now (values .entry))
+        (now (values .exit)) (now (buffer .entry)) (now (buffer .exit)) r ⌝ }
 {
     let walked = walk(
         kind_of(kind),
@@ -164,6 +187,7 @@ pub extern "C" fn planner_route(
         buffer,
         lists_of(brought),
         classes,
+        vans,
     );
     put_walk(walked, values);
     closed_walk::walk::number_of(walked)

@@ -78,11 +78,11 @@ module _ (g : Graph) {trees : List Tree} (k : CoverOf g trees) where
   bytes = rw (encode-fields trees) (fields-bytes (fields trees))
 
   passed : Passed g (k .crews) (encode trees)
-  passed = quiet-passed g (k .crews) (encode trees) (checked-covers g (k .valid) (k .crews) (k .sound) (encode trees) bytes .1 (trees, k .cover, refl))
+  passed = quiet-passed g (k .crews) (encode trees) (checked-covers g (k .valid) (k .crews) (k .few) (encode trees) bytes .1 (trees, k .cover, refl))
 
   -- The cover's bytes are read as its trees, and their entries pass the test.
   pub trees-again : decode (encode trees) ≡ trees
-  trees-again = cover-read g (k .valid) (k .crews) (k .sound) trees (k .cover)
+  trees-again = cover-read g (k .valid) (k .crews) (k .few) trees (k .cover)
 
   pub entries-right : entriesRight (edgeCount g) (encode trees) ≡ true
   entries-right = passed .entries
@@ -93,7 +93,7 @@ module _ (g : Graph) {trees : List Tree} (k : CoverOf g trees) where
   lines-room =
       omega (
         arith,
-        cover-few g (k .valid) (k .crews) (k .sound) trees (k .cover),
+        cover-few g (k .valid) (k .crews) (k .few) trees (k .cover),
         length-flat-map (treeLine g) trees,
         sum-most (λ t. length (treeLine g t)) 1322 trees (λ t m. tree-few g (k .valid) t (k .cover .all-covered .are-trees t m)),
       )

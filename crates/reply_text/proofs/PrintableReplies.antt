@@ -39,7 +39,7 @@ refusal-printable g k h =
 -- So can an answer that means what the rules say: it is no refusal, and what it accepts is a cover.
 module _ {q : Question} (a : Admitted q) (ruled : Reply) where
   of-cover : {trees : List Tree} → IsCover (graphIn q) (crewsIn q) trees → CoverOf (graphIn q) trees
-  of-cover cover = record { valid = a .valid; crews = crewsIn q; sound = a .crews-right; cover = cover }
+  of-cover cover = record { valid = a .valid; crews = crewsIn q; few = a .few; cover = cover }
 
   trial-printable : (limit : ℕ) → TrialMeans (graphIn q) (crewsIn q) limit ruled → Printable (graphIn q) ruled
   trial-printable limit means =

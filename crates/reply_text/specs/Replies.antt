@@ -3,24 +3,23 @@
 use Prim.Native.Nat.{ℕ, _≤_}
 use mathlib.Core.Path.{_≡_}
 use mathlib.Core.List.{List, [], _∷_, _++_}
-use mathlib.Core.Option.{none}
 use Rattle.lists.specs.Put.{PutTo}
 use Rattle.graph.specs.Graph.{Graph}
 use Rattle.graph.specs.Valid.{Valid}
 use Rattle.rules.specs.Cover.{Tree, Crews, IsCover}
 use Rattle.rules.specs.CoverBytes.{decode}
-use Rattle.rules.specs.Questions.{crewFault}
+use Rattle.rules.specs.Fit.{crewCount}
 use Rattle.rules.specs.Reply as rules
 use Rattle.replies.specs.declared.Reply.{Reply}
 use Rattle.replies.specs.Replies.{Replied}
 use Rattle.reply_text.specs.Lines.{line}
 use Rattle.reply_text.specs.Text.{treeLines, textOf}
 
--- The trees are a cover of the graph, by crews of a number that is not refused.
+-- The trees are a cover of the graph, by at most 32 crews.
 pub record CoverOf (g : Graph) (trees : List Tree) : Type 0 where
   pub valid : Valid g
   pub crews : Crews
-  pub sound : crewFault crews (g .vertices) ≡ none
+  pub few : crewCount crews ≤ 32
   pub cover : IsCover g crews trees
 
 -- What holds of every reply that the rules give to a question: a refusal's number is one of document 01's, which begin at 11, and what is

@@ -10,7 +10,7 @@ use Rattle.graph.specs.Graph.{Edge}
 use Rattle.graph.specs.Bytes.{sheetGraph}
 use Rattle.graph.specs.Fault.{Fault, faultIf, faultUnless, firstFault, refusedOr}
 use Rattle.graph_check.specs.Check.{yes, number, edgeFault, edgesFault, headFault, checkOf}
-use Rattle.rules.specs.Questions.{numberIn, sheetFault, classFault, adjustedFault, surfaceFault, crewFault, Question, questionFault}
+use Rattle.rules.specs.Questions.{numberIn, sheetFault, classFault, adjustedFault, surfaceFault, Kind, yards, roving, crewFault, vanFault, Question, questionFault}
 
 abbrev pub Numbered : Fault → Type 0
 Numbered f = (k : ℕ) → f ≡ some k → 11 ≤ k
@@ -74,7 +74,17 @@ surface-numbered : (sheet : List ℕ) (classes : Option (List ℕ)) → Numbered
 unfolding surfaceFault adjustedFault
 surface-numbered sheet classes = first-next _ _ (class-numbered classes _) (first-next _ _ (if-numbered _ _ (omega arith)) first-none)
 
+-- The fault of a list of vans.
+van-numbered : (kind : Kind) (k : ℕ) (vans : Option (List ℕ)) (n : ℕ) → Numbered (vanFault kind k vans n)
+unfolding vanFault
+van-numbered yards k none n = λ k q. absurd (Option·none-ne-some k q)
+van-numbered yards k (some vans) n = unless-numbered _ _ (omega arith)
+van-numbered roving k vans n = λ k q. absurd (Option·none-ne-some k q)
+
 -- What is refused of every question.
 pub question-numbered : (q : Question) → Numbered (questionFault q)
 unfolding questionFault crewFault
-question-numbered q = first-next _ _ (sheet-numbered (q .sheet)) (first-next _ _ (surface-numbered (q .sheet) (q .classes)) (first-next _ _ (if-numbered _ _ (omega arith)) first-none))
+question-numbered q =
+    first-next _ _ (sheet-numbered (q .sheet))
+    (first-next _ _ (surface-numbered (q .sheet) (q .classes))
+    (first-next _ _ (if-numbered _ _ (omega arith)) (first-next _ _ (van-numbered (q .kind) (q .k) (q .vans) _) first-none)))

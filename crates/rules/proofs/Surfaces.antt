@@ -20,7 +20,7 @@ use Rattle.rules.specs.CheckCover.{coverFault}
 use Rattle.rules.specs.Reply.{yes, number, refused}
 use Rattle.rules.specs.RootedTrial.{Choices}
 use Rattle.rules.specs.Search.{trial, best}
-use Rattle.rules.specs.Questions.{Kind, Question, question, graphIn, crewsBy, sheetFault, classFault, adjustedFault, surfaceFault, crewFault, questionFault, limitFault, roomFault, trialFault, askTrial, bestFault, askBest, checkFault, askCheck}
+use Rattle.rules.specs.Questions.{Kind, yards, roving, Question, question, graphIn, crewsBy, sheetFault, classFault, adjustedFault, surfaceFault, crewFault, vanFault, questionFault, limitFault, roomFault, trialFault, askTrial, bestFault, askBest, checkFault, askCheck}
 use Rattle.rules.specs.ClosedWalk.{stopsOf, lengthOf, closedWalk}
 use Rattle.rules.specs.WalkQuestion as walks
 use Rattle.rules.specs.WalkQuestion.{leastWalkRoom, walkFault, askWalk}
@@ -52,7 +52,14 @@ pub weights-light : (q : Question) → surfaceFault (q .sheet) (q .classes) ≡ 
 unfolding surfaceFault
 weights-light q none-refused = light-each (graphIn q) (quiet-each _ none-refused (List·Memᴰ·tail (List·Memᴰ·head refl)))
 
--- WITHOUT A CLASS LIST, what was asked before the request is answered as it was: about the sheet's own graph.
+-- WITHOUT LISTS, what was asked before the request is answered as it was: about the sheet's own graph.
+
+-- Nothing is refused of a list of vans that is not brought.
+pub no-vans : (kind : Kind) (k n : ℕ) → vanFault kind k none n ≡ none
+unfolding vanFault
+no-vans yards k n = refl
+no-vans roving k n = refl
+
 module _ (kind : Kind) (k : ℕ) (sheet : List ℕ) where
   abbrev q : Question
   q = question kind k sheet
@@ -61,19 +68,19 @@ module _ (kind : Kind) (k : ℕ) (sheet : List ℕ) where
   g = sheetGraph sheet
 
   abbrev crews : Crews
-  crews = crewsBy kind k
+  crews = crewsBy kind k none
 
   -- What is refused of every question: the sheet, 11 to 16, and the crews, 21.
   abbrev plainFault : Fault
-  plainFault = firstFault (sheetFault sheet ∷ crewFault crews (g .vertices) ∷ [])
+  plainFault = firstFault (sheetFault sheet ∷ crewFault kind k none (g .vertices) ∷ [])
 
   pub plain-fault : questionFault q ≡ plainFault
   unfolding questionFault surfaceFault classFault firstFault
   plain-fault = go (sheetFault sheet) refl
     where
-      go : (f : Fault) → sheetFault sheet ≡ f → questionFault q ≡ firstFault (f ∷ crewFault crews (g .vertices) ∷ [])
+      go : (f : Fault) → sheetFault sheet ≡ f → questionFault q ≡ firstFault (f ∷ crewFault kind k none (g .vertices) ∷ [])
       go (some n) e = rw e
-      go none e = rw (e, plain-graph sheet, each-light g (λ i h. sheet-right sheet .0 e .valid .each-edge i h .weight-most))
+      go none e = rw (e, plain-graph sheet, each-light g (λ i h. sheet-right sheet .0 e .valid .each-edge i h .weight-most), no-vans kind k (g .vertices))
 
   -- The replies.
   pub plain-trial : (limit room : ℕ) (c : Choices) → askTrial q limit room c

@@ -89,8 +89,8 @@ unfolding headD
     Fault.faultIf Fault.faultUnless Fault.firstFault Fault.refusedOr
     CheckCover.startsRight CheckCover.startsBelow CheckCover.entryRises CheckCover.entryRight CheckCover.entriesRight CheckCover.loopFree
     CheckCover.allJoined CheckCover.treesRight CheckCover.verticesCovered CheckCover.coverFault
-    Questions.numberIn Questions.sheetFault Questions.classFault Questions.adjustedFault Questions.surfaceFault Questions.crewCount Questions.tooManyRoots Questions.crewFault Questions.limitFault
-    Questions.roomFault Questions.questionFault Questions.trialFault Questions.askTrial Questions.bestFault Questions.askBest
+    Questions.numberIn Questions.sheetFault Questions.classFault Questions.adjustedFault Questions.surfaceFault Questions.tooManyRoots Questions.crewFault Questions.vanFault
+    Questions.limitFault Questions.roomFault Questions.questionFault Questions.trialFault Questions.askTrial Questions.bestFault Questions.askBest
     Questions.checkFault Questions.askCheck
 answer (trial q limit c) = reply (askTrial q limit leastRoom c)
 answer (best q c) = reply (askBest q leastRoom c)

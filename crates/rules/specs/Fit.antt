@@ -7,8 +7,13 @@ use Rattle.graph.specs.Graph.{Graph}
 use Rattle.rules.specs.Cover.{Crews, rooted, unrooted}
 use Rattle.rules.specs.RootedTrial.{Choices, GoodChoices}
 
--- What the theorems ask of crews: there is at least one, and each root is a vertex. Crews with roots 0 to k - 1, or without roots, that 21 does
--- not refuse are such (proofs/CrewsRight.antt).
+-- How many crews there are (document 01: k).
+unfoldable pub crewCount : Crews → ℕ
+crewCount (rooted roots) = length roots
+crewCount (unrooted k) = k
+
+-- What the theorems ask of crews: there is at least one, and each root is a vertex. The crews of a question that 21 and 55 do not refuse are such
+-- (proofs/CrewsRight.antt).
 abbrev pub CrewsFit : Graph → Crews → Type 0
 CrewsFit g (rooted roots) = (1 ≤ length roots) × ((r : ℕ) → r ∈ roots → r < g .vertices)
 CrewsFit g (unrooted k) = 1 ≤ k

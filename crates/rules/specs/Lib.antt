@@ -55,6 +55,9 @@ pub mod SurfaceExamples
 pub mod Weightless
 -- small sheets with weightless edges
 pub mod GateExamples
+-- Document 02, "A.5 Two vans at one yard" (the roots by a list and 55 stand in Questions):
+-- small sheets with lists of vans
+pub mod VanExamples
 -- Besides the documents, what promises cite:
 -- trees as arrays hold them
 pub mod Held

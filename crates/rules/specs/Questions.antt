@@ -1,13 +1,14 @@
 -- The questions, from bytes to replies, with every number of document 01's "Who causes which number", and of document 02's lists beside a sheet,
 -- "tried in the order listed".
 -- Assumes nothing.
-use Prim.Native.Nat.{ℕ}
+use Prim.Native.Nat.{ℕ, _*_}
 use mathlib.Core.Bool.{Bool, false, cond, not, _&&_, _||_}
-use mathlib.Core.List.{List, [], _∷_, _++_}
+use mathlib.Core.List.{List, [], _∷_, _++_, map}
 use mathlib.Core.Option.{Option, some, none}
 use lib.ListN.{length, drop}
 use lib.Dec.{leb, ltb, eqb}
 use Rattle.lists.specs.Count.{below, anyBelow}
+use Rattle.lists.specs.Lists.{all}
 use Rattle.graph.specs.Graph.{Graph, edgeCount, weightOf}
 use Rattle.graph.specs.Bytes.{u16At, u32At, sheetGraph, graphOf}
 use Rattle.graph.specs.Fault.{Fault, faultIf, faultUnless, firstFault, refusedOr}
@@ -28,20 +29,6 @@ numberIn (sheet.number k) = some k
 unfoldable pub sheetFault : List ℕ → Fault
 sheetFault b = numberIn (sheet.checkOf b)
 
--- How many crews there are (document 01: k).
-unfoldable pub crewCount : Crews → ℕ
-crewCount (rooted roots) = length roots
-crewCount (unrooted k) = k
-
--- There are more roots than vertices.
-unfoldable pub tooManyRoots : Crews → ℕ → Bool
-tooManyRoots (rooted roots) n = ltb n (length roots)
-tooManyRoots (unrooted k) n = false
-
--- 21: "k outside 1 to 32, or above n in a yard question".
-unfoldable pub crewFault : Crews → ℕ → Fault
-crewFault crews n = faultIf (ltb (crewCount crews) 1 || (ltb 32 (crewCount crews) || tooManyRoots crews n)) 21
-
 -- 22: "B above 2,048,000,000 (trial)".
 abbrev pub mostLimit : ℕ
 mostLimit = 2048000000
@@ -61,16 +48,18 @@ pub data Kind : Type 0 where
   yards : Kind
   roving : Kind
 
--- What every question about a graph brings. (Document 02, A.3: "Let a question carry m class bytes beside the sheet.")
+-- What every question about a graph brings. (Document 02, A.3: "Let a question carry m class bytes beside the sheet." A.5: "A yard question now carries k
+-- stop numbers of 2 bytes, repeats allowed".)
 pub record Question : Type 0 where
   pub kind : Kind
   pub k : ℕ
   pub sheet : List ℕ
   pub classes : Option (List ℕ)
+  pub vans : Option (List ℕ)
 
 -- A question without lists.
 abbrev pub question : Kind → ℕ → List ℕ → Question
-question kind k sheet = record { kind = kind; k = k; sheet = sheet; classes = none }
+question kind k sheet = record { kind = kind; k = k; sheet = sheet; classes = none; vans = none }
 
 -- The bytes of a list, none where it is not brought.
 abbrev pub listed : Option (List ℕ) → List ℕ
@@ -81,13 +70,18 @@ listed (some list) = list
 abbrev pub graphIn : Question → Graph
 graphIn q = graphOf (q .sheet) (listed (q .classes))
 
--- Whom a cover is for: "the yards are stops 0 to k - 1", or "there are none".
-abbrev pub crewsBy : Kind → ℕ → Crews
-crewsBy yards k = rooted (below k)
-crewsBy roving k = unrooted k
+-- Where k crews with roots start (document 02, A.5): "tree j starts at the j-th" of the list; "callers without a list mean 0 to k - 1".
+abbrev pub rootsBy : ℕ → Option (List ℕ) → List ℕ
+rootsBy k none = below k
+rootsBy k (some vans) = map (λ j. u16At vans (2 * j)) (below k)
+
+-- Whom a cover is for. Only a "yard" question carries a list of vans: beside a "roving" one it is not read.
+abbrev pub crewsBy : Kind → ℕ → Option (List ℕ) → Crews
+crewsBy yards k vans = rooted (rootsBy k vans)
+crewsBy roving k vans = unrooted k
 
 abbrev pub crewsIn : Question → Crews
-crewsIn q = crewsBy (q .kind) (q .k)
+crewsIn q = crewsBy (q .kind) (q .k) (q .vans)
 
 -- 53 (document 02, A.3): "not exactly m class bytes", where a list is brought.
 unfoldable pub classFault : Option (List ℕ) → ℕ → Fault
@@ -102,9 +96,32 @@ adjustedFault g = faultIf (anyBelow (edgeCount g) (λ e. ltb 1000000 (weightOf g
 unfoldable pub surfaceFault : List ℕ → Option (List ℕ) → Fault
 surfaceFault sheet classes = firstFault (classFault classes (edgeCount (sheetGraph sheet)) ∷ adjustedFault (graphOf sheet (listed classes)) ∷ [])
 
--- What is refused of every question, in document 01's order; 53 and 54 come "after 16, before 21".
+-- Crews with roots 0 to k - 1 are more than the n vertices: "With a list, the clause of 21 about n ends".
+unfoldable pub tooManyRoots : Kind → ℕ → Option (List ℕ) → ℕ → Bool
+tooManyRoots yards k none n = ltb n k
+tooManyRoots yards k (some vans) n = false
+tooManyRoots roving k vans n = false
+
+-- 21: "k outside 1 to 32, or above n in a yard question".
+unfoldable pub crewFault : Kind → ℕ → Option (List ℕ) → ℕ → Fault
+crewFault kind k vans n = faultIf (ltb k 1 || (ltb 32 k || tooManyRoots kind k vans n)) 21
+
+-- 55 (document 02, A.5): "list not 2k bytes or a stop not below n".
+unfoldable pub vanFault : Kind → ℕ → Option (List ℕ) → ℕ → Fault
+vanFault yards k none n = none
+vanFault yards k (some vans) n = faultUnless (eqb (length vans) (2 * k) && all (λ root. ltb root n) (rootsBy k (some vans))) 55
+vanFault roving k vans n = none
+
+-- What is refused of every question, in document 01's order; 53 and 54 come "after 16, before 21", and 55 "straight after 21".
 unfoldable pub questionFault : Question → Fault
-questionFault q = firstFault (sheetFault (q .sheet) ∷ surfaceFault (q .sheet) (q .classes) ∷ crewFault (crewsIn q) (graphIn q .vertices) ∷ [])
+questionFault q =
+    let n = graphIn q .vertices in
+    firstFault
+    (sheetFault (q .sheet)
+    ∷ surfaceFault (q .sheet) (q .classes)
+    ∷ crewFault (q .kind) (q .k) (q .vans) n
+    ∷ vanFault (q .kind) (q .k) (q .vans) n
+    ∷ [])
 
 -- The trial question, at a limit and with a buffer of so many bytes: what is refused of it, and the reply.
 unfoldable pub trialFault : Question → ℕ → ℕ → Fault

@@ -3,7 +3,7 @@
 use Prim.Native.Nat.{ℕ}
 use mathlib.Core.Path.{_≡_, refl}
 use mathlib.Core.List.{List, [], _∷_, map}
-use mathlib.Core.Option.{some}
+use mathlib.Core.Option.{some, none}
 use Rattle.graph.specs.Surface.{percentOf, adjusted}
 use Rattle.rules.specs.Reply.{covered, too-low-stop, yes, number}
 use Rattle.rules.specs.Questions.{Kind, yards, roving, Question, question}
@@ -21,7 +21,7 @@ rounded = refl
 
 -- A question with a class list.
 unfoldable pub listing : Kind → ℕ → List ℕ → List ℕ → Question
-listing kind k sheet classes = record { kind = kind; k = k; sheet = sheet; classes = some classes }
+listing kind k sheet classes = record { kind = kind; k = k; sheet = sheet; classes = some classes; vans = none }
 
 -- Two vertices and an edge: of weight 833,334, and of weight 1,000,001.
 unfoldable pub long : List ℕ

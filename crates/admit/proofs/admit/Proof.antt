@@ -1,4 +1,4 @@
--- `admit::admit` meets its contract: the graph's bytes, then the class list, then the crews decide.
+-- `admit::admit` meets its contract: the graph's bytes, then the class list, then the crews and their list decide.
 -- Assumes nothing.
 use mathlib.Core.Path.{_≡_, sym, ap, _∙_}
 use Rattle.graph_check.specs.Check as sheet
@@ -14,7 +14,7 @@ use Rattle.admit.proofs.admit.Tie as tie
 -- Where the graph's bytes were checked,
 module _ (t : tie.After-check-graph) where
   abbrev q : Question
-  q = let a = t .before .before .before .args in asksWith (a .kind) (a .k) (a .b .now) (a .lists) (a .classes .now)
+  q = let a = t .before .before .before .before .args in asksWith (a .kind) (a .k) (a .b .now) (a .lists) (a .classes .now) (a .vans .now)
 
 -- and where they passed.
 module _ (t : tie.After-known-told2) where

@@ -33,6 +33,12 @@ slice-aggregate-u16-at-3 c = search needs
 u16-at-requires-3 : tie.Need-u16-at-requires-3
 u16-at-requires-3 c κs = search needs
 
+slice-aggregate-u16-at-4 : tie.Need-slice-aggregate-u16-at-4
+slice-aggregate-u16-at-4 c = search needs
+
+u16-at-requires-4 : tie.Need-u16-at-requires-4
+u16-at-requires-4 c κs = search needs
+
 large-buffer-requires : tie.Need-large-buffer-requires
 large-buffer-requires c κs = search needs
 
@@ -41,6 +47,9 @@ large-buffer-requires-2 c κs = search needs
 
 large-buffer-requires-3 : tie.Need-large-buffer-requires-3
 large-buffer-requires-3 c κs = search needs
+
+large-buffer-requires-4 : tie.Need-large-buffer-requires-4
+large-buffer-requires-4 c κs = search needs
 
 slice-aggregate-read-rest : tie.Need-slice-aggregate-read-rest
 slice-aggregate-read-rest c = search needs
@@ -63,6 +72,12 @@ array-borrow-prefix-classes c = search needs
 slice-aggregate-read-rest-4 : tie.Need-slice-aggregate-read-rest-4
 slice-aggregate-read-rest-4 c = sym (length-take-le _ _ (omega arith))
 
+array-borrow-prefix-vans : tie.Need-array-borrow-prefix-vans
+array-borrow-prefix-vans c = search needs
+
+slice-aggregate-read-rest-5 : tie.Need-slice-aggregate-read-rest-5
+slice-aggregate-read-rest-5 c = sym (length-take-le _ _ (omega arith))
+
 read-rest-requires : tie.Need-read-rest-requires
 read-rest-requires c κs = search needs
 
@@ -82,9 +97,12 @@ answer-one-spec =
     u16-at-requires-2
     slice-aggregate-u16-at-3
     u16-at-requires-3
+    slice-aggregate-u16-at-4
+    u16-at-requires-4
     large-buffer-requires
     large-buffer-requires-2
     large-buffer-requires-3
+    large-buffer-requires-4
     slice-aggregate-read-rest
     array-borrow-prefix-sheet
     slice-aggregate-read-rest-2
@@ -92,5 +110,7 @@ answer-one-spec =
     slice-aggregate-read-rest-3
     array-borrow-prefix-classes
     slice-aggregate-read-rest-4
+    array-borrow-prefix-vans
+    slice-aggregate-read-rest-5
     read-rest-requires
     returns-2)

@@ -10,10 +10,10 @@ use Rattle.closed_walk.proofs.walk.walk.Tie as tie
 
 -- The cover passed the check.
 abbrev start : tie.After-check → tie.Start
-start t = t .before .before .before .before .before
+start t = t .before .before .before .before .before .before
 
 abbrev asked : tie.After-check → Question
-asked t = let a = start t .args in asksWith (a .kind) (a .k) (a .b .now) (a .lists) (a .classes .now)
+asked t = let a = start t .args in asksWith (a .kind) (a .k) (a .b .now) (a .lists) (a .classes .now) (a .vans .now)
 
 passed : (e : tie.After-enum-told) → CheckPromise (asked (e .before .before)) (start (e .before .before) .args .c .now) (verdict.Yes (e .enum-told .given .0 .0))
 passed e = rw (e .enum-told .given .1) at (e .before .before .check .ensures)

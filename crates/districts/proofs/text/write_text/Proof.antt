@@ -12,7 +12,7 @@ write-reply-requires : tie.Need-write-reply-requires
 write-reply-requires c κs =
     let l = c in
     let t = l .before .before in
-    rw (l .read-list .ensures) (let s = t .before .before .before .before in s .before .pre)
+    rw (l .read-list .ensures) (let s = t .before .before .before .before in s .before .before .pre)
 
 same-length : tie.Need-same-length
 same-length c = search needs

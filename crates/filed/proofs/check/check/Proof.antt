@@ -23,16 +23,16 @@ use Rattle.filed.proofs.check.check.Statement.{statement}
 use Rattle.filed.proofs.check.check.Tie as tie
 
 -- Every number of the cover's bytes is a byte.
-module _ (t : tie.After-shared-slice-known3) where
-  cover-bytes : Bytes (t .before .before .before .args .c .now)
-  cover-bytes i h = omega (arith, t .before .shared-slice-known2 .given i)
+module _ (t : tie.After-shared-slice-known4) where
+  cover-bytes : Bytes (t .before .before .before .before .args .c .now)
+  cover-bytes i h = omega (arith, t .before .before .shared-slice-known2 .given i)
 
 -- The question was tested.
 abbrev start : tie.After-admit → tie.Start
-start t = t .before .before .before .before
+start t = t .before .before .before .before .before
 
 abbrev asked : tie.After-admit → Question
-asked t = let a = start t .args in asksWith (a .kind) (a .k) (a .b .now) (a .lists) (a .classes .now)
+asked t = let a = start t .args in asksWith (a .kind) (a .k) (a .b .now) (a .lists) (a .classes .now) (a .vans .now)
 
 -- Nothing of it is refused.
 quiet : (e : tie.After-enum-told) → none ≡ questionFault (asked (e .before .before))

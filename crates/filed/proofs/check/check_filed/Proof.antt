@@ -7,6 +7,7 @@ use Rattle.graph.specs.Graph.{Graph, edgeCount}
 use Rattle.graph.specs.Bytes.{graphOf}
 use Rattle.rules.specs.Cover.{Crews}
 use Rattle.rules.specs.CheckCover.{startsRight, startsBelow, entriesRight}
+use Rattle.admit.specs.Brought.{brought}
 use Rattle.admit.specs.Crews.{crewsOf}
 use Rattle.filed.proofs.CheckSteps.{short-cover, other-length, other-starts, starts-above, entries-wrong, entries-pass}
 use borrow.Author.Needs.{needs}
@@ -18,11 +19,11 @@ abbrev g : tie.Start → Graph
 g s = graphOf (s .args .b .now) (s .args .classes .now)
 
 abbrev crews : tie.Start → Crews
-crews s = crewsOf (s .args .kind) (s .args .k)
+crews s = crewsOf (s .args .kind) (s .args .k) (brought (s .args .given) (s .args .vans .now))
 
 -- The bytes have the length that they say.
 abbrev s₂ : tie.Else2 → tie.Start
-s₂ t = let e = t .before .before in e .before .before .before .before
+s₂ t = let e = t .before .before in e .before .before .before .before .before
 
 -- The starts keep the kind's rule.
 module _ (t : tie.Else3) where
@@ -53,13 +54,13 @@ module _ (t : tie.Else5) where
       ∙ sym (t .before .entries-right .ensures) ∙ not-false (t .before .entries-right .result) (t .if5 .left)
 
 returns : tie.Need-returns
-returns c = let s = c .before .before .before .before in short-cover (g s) (crews s) (s .args .c .now) (omega arith)
+returns c = let s = c .before .before .before .before .before in short-cover (g s) (crews s) (s .args .c .now) (omega arith)
 
 cover-length-requires : tie.Need-cover-length-requires
 cover-length-requires c κs = search needs
 
 returns-2 : tie.Need-returns-2
-returns-2 c = let e = c .before .before in let s = e .before .before .before .before in other-length (g s) (crews s) (s .args .c .now) (omega arith) (omega arith)
+returns-2 c = let e = c .before .before in let s = e .before .before .before .before .before in other-length (g s) (crews s) (s .args .c .now) (omega arith) (omega arith)
 
 starts-right-requires : tie.Need-starts-right-requires
 starts-right-requires c κs = search needs

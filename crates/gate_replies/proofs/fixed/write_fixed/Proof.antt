@@ -9,8 +9,8 @@ use Rattle.gate_replies.proofs.fixed.write_fixed.Statement.{statement}
 use Rattle.gate_replies.proofs.fixed.write_fixed.Tie as tie
 
 -- The entry, seen from where the lengths are known.
-abbrev start : tie.After-shared-slice-known3 → tie.Start
-start c = c .before .before .before .before
+abbrev start : tie.After-shared-slice-known4 → tie.Start
+start c = c .before .before .before .before .before
 
 enum-known-reply : tie.Need-enum-known-reply
 enum-known-reply c = search needs

@@ -16,10 +16,10 @@ use Rattle.planner.proofs.question.ask.Tie as tie
 -- The question was tested,
 module _ (t : tie.After-test) where
   abbrev s : tie.Start
-  s = t .before .before .before .before
+  s = t .before .before .before .before .before
 
   abbrev q : Question
-  q = let a = s .args in asksWith (a .kind) (a .k) (a .b .now) (a .lists) (a .classes .now)
+  q = let a = s .args in asksWith (a .kind) (a .k) (a .b .now) (a .lists) (a .classes .now) (a .vans .now)
 
 -- and nothing of it is refused.
 quiet : (e : tie.After-enum-told) → none ≡ faultOf (s (e .before .before) .args .asked) (q (e .before .before)) (length (s (e .before .before) .args .buf .now))
@@ -38,7 +38,7 @@ ask-crews-requires : tie.Need-ask-crews-requires
 ask-crews-requires c κs =
     let t = c .before in
     let a = s (t .before .before .before) .args in
-    can-ask (a .asked) (a .kind) (a .k) (a .b .now) (a .lists) (a .classes .now) _ (read-all _ _ (t .if1 .taken)) (quiet (t .before))
+    can-ask (a .asked) (a .kind) (a .k) (a .b .now) (a .lists) (a .classes .now) (a .vans .now) _ (read-all _ _ (t .if1 .taken)) (quiet (t .before))
 
 same-length : tie.Need-same-length
 same-length c = search needs
@@ -57,7 +57,7 @@ ask-crews-requires-2 : tie.Need-ask-crews-requires-2
 ask-crews-requires-2 c κs =
     let t = c .before .before in
     let a = s (t .before .before .before) .args in
-    can-ask (a .asked) (a .kind) (a .k) (a .b .now) (a .lists) (a .classes .now) _ (read-none _ _ (t .if1 .left)) (quiet (t .before))
+    can-ask (a .asked) (a .kind) (a .k) (a .b .now) (a .lists) (a .classes .now) (a .vans .now) _ (read-none _ _ (t .if1 .left)) (quiet (t .before))
 
 returns-2 : tie.Need-returns-2
 returns-2 c =
