@@ -1,6 +1,6 @@
 //! The records of the program `districts`: every row of document 01's list of small districts, made sheets of each kind, the
-//! deepest trees, the made trials and the made filings, those about weightless edges; and behind them those that bring a list
-//! of classes.
+//! deepest trees, the made trials and the made filings, those about weightless edges; behind them those that bring a list of
+//! classes, and last those that bring a list of vans.
 
 use crate::cover::{encode as cover_bytes, Tree};
 use crate::districts::{Asked, Record};
@@ -13,6 +13,7 @@ use crate::made_shapes::{any_weights, damaged_sheets, graph, Shape, Weights};
 use crate::made_shapes::{POSITIVE, SEARCHED, SHAPES};
 use crate::made_surfaces::surfaced;
 use crate::made_trials::trials;
+use crate::made_vans::listed_vans;
 use crate::question::{Kind, LIMIT};
 use crate::random::Random;
 
@@ -41,6 +42,7 @@ pub fn records() -> Vec<Record> {
     all.extend(filings().into_iter().map(|f| check_of(f.kind, f.k, &f.sheet, f.cover)));
     all.extend(gates());
     all.extend(surfaced());
+    all.extend(listed_vans());
     all
 }
 

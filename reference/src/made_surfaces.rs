@@ -93,7 +93,7 @@ impl Listed {
 
 /// A class for each edge, one for all or each drawn by itself, and one that counts 100 percent where the adjusted weight
 /// would be above 1,000,000.
-fn right_list(random: &mut Random, graph: &Graph) -> Vec<u8> {
+pub fn right_list(random: &mut Random, graph: &Graph) -> Vec<u8> {
     let (way, throughout) = (random.below(4), BORDERS[random.below(BORDERS.len())]);
     let class_of = |edge: &Edge| {
         let class = match way {

@@ -11,6 +11,7 @@ use crate::made_shapes::{CHAIN, CROWD, HALVES, LOOP, POSITIVE, SHAPES};
 use crate::question::{Kind, LIMIT};
 use crate::random::Random;
 use crate::trial::run;
+use crate::vans::Crews;
 
 /// A trial: its kind, the number of trees, the limit, and the bytes of a graph, right or wrong.
 #[derive(Clone, Debug, PartialEq, Eq)]
@@ -133,38 +134,43 @@ fn at_limits(
 
 /// Trials at 0, at the sum, and on both sides of every change of the reply that is seen.
 pub fn at_turns(kind: Kind, graph: &Graph, k: usize) -> Vec<Trial> {
-    let looked: Vec<u64> = looked_at(graph, k).into_iter().collect();
+    at_limits(kind, graph, k, turns(kind, graph, k))
+}
+
+/// The limits of those trials.
+pub fn turns(kind: Kind, graph: &Graph, crews: impl Crews) -> BTreeSet<u64> {
+    let looked: Vec<u64> = looked_at(graph, &crews).into_iter().collect();
     let mut limits = BTreeSet::from([0, graph.total()]);
     for pair in looked.windows(2) {
-        if run(kind, graph, k, pair[0]) != run(kind, graph, k, pair[1]) {
-            limits.extend(turn_between(kind, graph, k, pair[0], pair[1]));
+        if run(kind, graph, &crews, pair[0]) != run(kind, graph, &crews, pair[1]) {
+            limits.extend(turn_between(kind, graph, &crews, pair[0], pair[1]));
         }
     }
-    at_limits(kind, graph, k, limits)
+    limits
 }
 
 /// How large a sum of weights may be for every limit to be looked at.
 const EVERY: u64 = 400;
 
 /// The limits at which the replies are compared: all, or the weights, distances and even steps up to the sum.
-fn looked_at(graph: &Graph, k: usize) -> BTreeSet<u64> {
+fn looked_at(graph: &Graph, crews: impl Crews) -> BTreeSet<u64> {
     let sum = graph.total();
     if sum <= EVERY {
         return (0..=sum + 1).collect();
     }
     let mut looked: BTreeSet<u64> = (0..=128).map(|i| sum * i / 128).collect();
     looked.extend(graph.edges.iter().map(|edge| edge.weight));
-    looked.extend(from_roots(graph, k).into_iter().flatten().flatten());
+    looked.extend(from_roots(graph, crews).into_iter().flatten().flatten());
     looked
 }
 
 /// Two limits, one above the other by 1, with different replies, between two with different replies.
-fn turn_between(kind: Kind, graph: &Graph, k: usize, low: u64, high: u64) -> [u64; 2] {
-    let before = run(kind, graph, k, low);
+fn turn_between(kind: Kind, graph: &Graph, crews: impl Crews, low: u64, high: u64) -> [u64; 2] {
+    let before = run(kind, graph, &crews, low);
     let (mut low, mut high) = (low, high);
     while high - low > 1 {
         let middle = low.midpoint(high);
-        if run(kind, graph, k, middle) == before {
+        if run(kind, graph, &crews, middle) == before {
             low = middle;
         } else {
             high = middle;

@@ -66,7 +66,7 @@ fn beside_every_number() -> Vec<Record> {
 }
 
 /// Trials, best limits and checks: right, and refused with 22, 23 and 31 to 35.
-fn askings() -> Vec<Asked> {
+pub fn askings() -> Vec<Asked> {
     let limit = 1_000_000;
     let tree = |start: usize, edges: &[usize]| Tree { start, edges: edges.to_vec() };
     let good = cover_bytes(&[tree(0, &[0, 1]), tree(1, &[])]);

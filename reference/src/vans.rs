@@ -1,6 +1,6 @@
 //! The vans of a rooted question: the vertex that each tree starts at, which several trees may share.
 
-use crate::bytes::two;
+use crate::bytes::{put_two, two};
 
 /// The trees that a question asks for.
 ///
@@ -45,6 +45,13 @@ pub fn read(list: &[u8], n: usize, k: usize) -> Result<Vec<usize>, u16> {
         return Err(55);
     }
     Ok(vans)
+}
+
+/// A list as bytes, right or wrong.
+pub fn bytes(vans: &[usize]) -> Vec<u8> {
+    let mut out = Vec::with_capacity(2 * vans.len());
+    vans.iter().for_each(|&van| put_two(&mut out, van));
+    out
 }
 
 /// Whether no van before this one has its vertex; what is left there goes to that van.

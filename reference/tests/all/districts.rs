@@ -99,17 +99,22 @@ fn a_record_as_bytes() {
     assert_eq!(encode(&[record]), due);
     let asked = Asked::Check { cover: vec![5, 6] };
     let record = Record::plain(asked, Kind::Rooted, 2, &[9]);
-    // The list of classes, the fields that speak of it, and what follows the head.
-    type Row = (Option<&'static [u8]>, [u8; 4], &'static [u8]);
-    let rows: [Row; 3] = [
-        (None, [0, 0, 0, 0], &[9, 5, 6]),
-        (Some(&[]), [1, 0, 0, 0], &[9, 5, 6]),
-        (Some(&[60, 7, 255]), [1, 0, 3, 0], &[9, 5, 6, 60, 7, 255]),
+    // The lists of classes and of vans, the fields that speak of them, and what follows the head.
+    type List = Option<&'static [u8]>;
+    type Row = (List, List, [u8; 6], &'static [u8]);
+    let rows: [Row; 6] = [
+        (None, None, [0, 0, 0, 0, 0, 0], &[9, 5, 6]),
+        (Some(&[]), None, [1, 0, 0, 0, 0, 0], &[9, 5, 6]),
+        (Some(&[60, 7, 255]), None, [1, 0, 3, 0, 0, 0], &[9, 5, 6, 60, 7, 255]),
+        (None, Some(&[]), [2, 0, 0, 0, 0, 0], &[9, 5, 6]),
+        (None, Some(&[3, 0, 2]), [2, 0, 0, 0, 3, 0], &[9, 5, 6, 3, 0, 2]),
+        (Some(&[60]), Some(&[3, 0]), [3, 0, 1, 0, 2, 0], &[9, 5, 6, 60, 3, 0]),
     ];
-    for (classes, lists, behind) in rows {
-        let bytes = encode(&[Record { classes: classes.map(<[u8]>::to_vec), ..record.clone() }]);
-        let due = [&[0, 0, 1, 0, 1, 0, 2, 0], &lists[..], &[0; 4], behind].concat();
-        assert_eq!((&bytes[..4], &bytes[8..]), (&[5, 0, 2, 0][..], &due[..]), "{classes:?}");
+    for (classes, vans, lists, behind) in rows {
+        let [classes, vans] = [classes, vans].map(|list| list.map(<[u8]>::to_vec));
+        let bytes = encode(&[Record { classes, vans, ..record.clone() }]);
+        let due = [&[0, 0, 1, 0, 1, 0, 2, 0], &lists[..], &[0; 2], behind].concat();
+        assert_eq!((&bytes[..4], &bytes[8..]), (&[5, 0, 2, 0][..], &due[..]), "{lists:?}");
     }
     let asked = Asked::Trial { limit: 5, room: 32_708 };
     let free = Record::plain(asked, Kind::Rooted, 2, &sheet_n());
@@ -153,9 +158,9 @@ fn the_records_are_many_and_meet_every_line() {
         here.map(|record| &record.sheet).collect::<BTreeSet<_>>().len()
     };
     assert!(BOTH.iter().all(|&kind| sheets(kind) > 300));
-    assert!(filed("stdin").len() < 4_000_000);
+    assert!(encode(made()).len() < 4_000_000);
     let mut met: BTreeMap<String, usize> = BTreeMap::new();
-    for line in String::from_utf8(filed("stdout")).expect("text").lines() {
+    for line in text(made()).lines() {
         let words: Vec<&str> = line.split(' ').collect();
         let opening = match words[..] {
             ["cover", _, "yes", _] | ["too", "low", "parts"] => format!("{} free", words[0]),
@@ -165,7 +170,7 @@ fn the_records_are_many_and_meet_every_line() {
         };
         *met.entry(opening).or_default() += 1;
     }
-    for number in [11, 12, 13, 14, 15, 16, 53, 54, 21, 22, 23, 31, 32, 33, 34, 35] {
+    for number in [11, 12, 13, 14, 15, 16, 53, 54, 21, 55, 22, 23, 31, 32, 33, 34, 35] {
         assert!(met.contains_key(&format!("refused {number}")), "{number} of {met:?}");
     }
     for word in

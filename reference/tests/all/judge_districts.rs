@@ -148,7 +148,8 @@ fn planners_that_cheat_do_not_pass() {
         own(&Record { kind, ..record.clone() })
     };
     let unlisted = |record: &Record| own(&Record { classes: None, ..record.clone() });
-    let rows: [(&str, usize); 8] = [
+    let without_vans = |record: &Record| own(&Record { vans: None, ..record.clone() });
+    let rows: [(&str, usize); 9] = [
         ("always refused", wrong(|_| bare(21, &[]))),
         ("always too low, stop", wrong(|_| bare(1, &[2]))),
         ("always too low, needs", wrong(|record| bare(3, &[record.k as u64 + 1]))),
@@ -157,6 +158,7 @@ fn planners_that_cheat_do_not_pass() {
         ("the reply to a limit one higher", wrong(of_other_limit)),
         ("the reply of the other kind", wrong(of_other_kind)),
         ("the reply without the list of classes", wrong(unlisted)),
+        ("the reply without the list of vans", wrong(without_vans)),
     ];
     for (name, count) in rows {
         assert!(count > 100, "{name}: {count} wrong of {}", some().len());
@@ -170,7 +172,8 @@ fn a_limit_that_was_not_searched_for_does_not_pass() {
         let Some(Full { case: 0, .. }) = own_reply(record) else { continue };
         let graph = record.brought().graph().expect("an answered question");
         let limit = graph.total();
-        let found = best::search(record.kind, &graph, record.k).expect("a cover").0;
+        let crews = record.brought().crews(record.kind, graph.n, record.k as u64);
+        let found = best::search(record.kind, &graph, crews.expect("roots")).expect("a cover").0;
         let asked = Asked::Trial { limit, room: record.room() };
         let at_the_sum = own(&Record { asked, ..record.clone() });
         assert_eq!(judge_reply(record, &at_the_sum).is_ok(), limit == found, "{record:?}");

@@ -2,38 +2,13 @@
 
 use std::collections::BTreeMap;
 
+use crate::common::numbers::{number, question};
 use crate::common::surfaces::{checked, listed, weight_due};
 use crate::common::BOTH;
 use reference::brought::Brought;
 use reference::districts::{Asked, Record};
 use reference::graph::{read, Edge};
-use reference::judge_districts::own_reply;
 use reference::made_surfaces::BORDERS;
-use reference::question::Kind;
-
-/// The number of the question that a record asks.
-fn question(record: &Record) -> usize {
-    let first = match record.asked {
-        Asked::Trial { .. } => 1,
-        Asked::Best { .. } => 3,
-        Asked::Check { .. } => 5,
-    };
-    first + usize::from(record.kind == Kind::Unrooted)
-}
-
-/// The number that a record is refused with, 0 where it is answered.
-fn number(record: &Record) -> u16 {
-    let of_planner = || own_reply(record).expect("no check").case as u16;
-    let case = match checked(record, record.brought()) {
-        Some(said) => said.err().unwrap_or(0),
-        None => of_planner(),
-    };
-    if case < 5 {
-        0
-    } else {
-        case
-    }
-}
 
 /// The edges of a record's sheet, where it can be read.
 fn edges(record: &Record) -> Option<Vec<Edge>> {

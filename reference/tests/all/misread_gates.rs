@@ -27,8 +27,8 @@ fn adjusted_to_1(record: &Record) -> Result<Graph, u16> {
 }
 
 /// A loop of weightless edges is no loop to the check.
-fn loops_passed(kind: Kind, graph: &Graph, k: usize, cover: &[u8]) -> Result<u64, u16> {
-    let said = check_on(kind, graph, k, cover);
+fn loops_passed(kind: Kind, graph: &Graph, roots: &[usize], cover: &[u8]) -> Result<u64, u16> {
+    let said = check_on(kind, graph, roots, cover);
     let Ok(filed) = decode(cover) else { return said };
     let without_loops = |tree: Tree| {
         let thinned = Tree::new(tree.start, thin(graph, &tree.edges));
@@ -42,15 +42,15 @@ fn loops_passed(kind: Kind, graph: &Graph, k: usize, cover: &[u8]) -> Result<u64
     match said {
         Err(34) => {
             let trees: Vec<Tree> = gather(&filed).into_iter().map(without_loops).collect();
-            check_on(kind, graph, k, &encode(&trees))
+            check_on(kind, graph, roots, &encode(&trees))
         }
         other => other,
     }
 }
 
 /// A weightless edge joins nothing to the check.
-fn joins_nothing(kind: Kind, graph: &Graph, k: usize, cover: &[u8]) -> Result<u64, u16> {
-    let said = check_on(kind, graph, k, cover);
+fn joins_nothing(kind: Kind, graph: &Graph, roots: &[usize], cover: &[u8]) -> Result<u64, u16> {
+    let said = check_on(kind, graph, roots, cover);
     let is_weightless = |entry: &(usize, usize)| graph.edges[entry.1].weight == 0;
     match said {
         Ok(_) | Err(35) if decode(cover)?.entries.iter().any(is_weightless) => Err(34),

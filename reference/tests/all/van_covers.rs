@@ -243,7 +243,7 @@ fn the_check_says_yes_exactly_to_covers_by_the_list() {
         let options = n * sets;
         for code in 0..options.pow(k as u32) {
             let choice = |j: usize| code / options.pow(j as u32) % options;
-            let edges = |j: usize| (0..m).filter(|e| choice(j) % sets >> e & 1 == 1).collect();
+            let edges = |j: usize| (0..m).filter(|e| ((choice(j) % sets) >> e) & 1 == 1).collect();
             let trees: Vec<Tree> =
                 (0..k).map(|j| Tree { start: choice(j) / sets, edges: edges(j) }).collect();
             let due = due_of_check(&listed, &trees);

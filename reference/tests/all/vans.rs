@@ -126,56 +126,66 @@ fn walks_begin_at_the_vans() {
     }
 }
 
-/// Every number that can stand beside a wrong list: those of sheet, classes and k come before 55, all others behind it.
+/// Lists for 2 vans on sheet N by their bytes, the first one right.
+const LISTS: [&[u8]; 12] = [
+    &[3, 0, 3, 0],
+    &[],
+    &[3],
+    &[3, 0],
+    &[3, 0, 3],
+    &[3, 0, 3, 0, 3],
+    &[3, 0, 3, 0, 3, 0],
+    &[4, 0, 3, 0],
+    &[3, 0, 4, 0],
+    &[3, 0, 255, 255],
+    &[0, 3, 3, 0],
+    &[0, 1, 0, 0],
+];
+
+/// All numbers of limit, buffer, cover and walk come behind 55.
 #[test]
 fn lists_are_refused_in_their_place() {
-    let lists: Vec<(Vec<u8>, u16)> = vec![
-        (list(&[3, 3]), 0),
-        (vec![], 55),
-        (vec![3], 55),
-        (vec![3, 0, 3], 55),
-        (list(&[3]), 55),
-        (list(&[3, 3, 3]), 55),
-        (vec![3, 0, 3, 0, 3], 55),
-        (list(&[4, 3]), 55),
-        (list(&[3, 4]), 55),
-        (list(&[3, 65_535]), 55),
-        (list(&[768, 3]), 55),
-        (list(&[256, 0]), 55),
-    ];
     let good = || filing(&[3, 3], &[(0, 0), (0, 1), (1, 2)]);
-    // The second column is of k, limit, buffer length, filed cover and tree; the last of the numbers with a right list.
-    type Row = (&'static str, (u64, u64, usize, Vec<u8>, usize), [u16; 4]);
+    // The second column is of limit, buffer length, filed cover and tree; the last of the numbers with a right list.
+    type Row = (&'static str, (u64, usize, Vec<u8>, usize), [u16; 4]);
     let rows: [Row; 11] = [
-        ("nothing else", (2, 9, BUFFER, good(), 1), [0, 0, 0, 0]),
-        ("limit", (2, LIMIT + 1, BUFFER, good(), 0), [22, 0, 0, 0]),
-        ("limit and buffer", (2, LIMIT + 1, 1_022, good(), 0), [22, 23, 0, 0]),
-        ("buffer", (2, 9, BUFFER - 1, good(), 0), [23, 23, 0, 0]),
-        ("no buffer", (2, 9, 0, good(), 1), [23, 23, 0, 52]),
-        ("tree", (2, 9, BUFFER, good(), 2), [0, 0, 0, 51]),
-        ("cover's length", (2, 9, BUFFER, vec![], 0), [0, 0, 31, 31]),
-        ("starts", (2, 9, BUFFER, filing(&[0, 1], &[]), 0), [0, 0, 32, 32]),
-        ("entries", (2, 9, BUFFER, filing(&[3, 3], &[(0, 3)]), 0), [0, 0, 33, 33]),
-        ("not joined", (2, 9, BUFFER, filing(&[3, 3], &[(0, 0)]), 0), [0, 0, 34, 34]),
-        ("uncovered", (2, 9, BUFFER, filing(&[3, 3], &[]), 0), [0, 0, 35, 35]),
+        ("nothing else", (9, BUFFER, good(), 1), [0, 0, 0, 0]),
+        ("limit", (LIMIT + 1, BUFFER, good(), 0), [22, 0, 0, 0]),
+        ("limit and buffer", (LIMIT + 1, 1_022, good(), 0), [22, 23, 0, 0]),
+        ("buffer", (9, BUFFER - 1, good(), 0), [23, 23, 0, 0]),
+        ("no buffer", (9, 0, good(), 1), [23, 23, 0, 52]),
+        ("tree", (9, BUFFER, good(), 2), [0, 0, 0, 51]),
+        ("cover's length", (9, BUFFER, vec![], 0), [0, 0, 31, 31]),
+        ("starts", (9, BUFFER, filing(&[0, 1], &[]), 0), [0, 0, 32, 32]),
+        ("entries", (9, BUFFER, filing(&[3, 3], &[(0, 3)]), 0), [0, 0, 33, 33]),
+        ("not joined", (9, BUFFER, filing(&[3, 3], &[(0, 0)]), 0), [0, 0, 34, 34]),
+        ("uncovered", (9, BUFFER, filing(&[3, 3], &[]), 0), [0, 0, 35, 35]),
     ];
     let sheet = sheet_n();
-    for (vans, number) in &lists {
+    for (place, vans) in LISTS.into_iter().enumerate() {
         let brought = Brought { vans: Some(vans), ..Brought::plain(&sheet) };
-        for (name, (k, limit, room, cover, tree), numbers) in &rows {
-            let asked = Asked { brought, k: *k, limit: *limit, room: *room, cover, tree: *tree };
-            let due = if *number == 0 { *numbers } else { [*number; 4] };
+        for (name, (limit, room, cover, tree), numbers) in &rows {
+            let asked = Asked { brought, k: 2, limit: *limit, room: *room, cover, tree: *tree };
+            let due = if place == 0 { *numbers } else { [55; 4] };
             assert_eq!(asked.numbers(Kind::Rooted), due, "{name}, {vans:?}");
         }
+    }
+}
+
+/// 21 and 53 come before 55, with right lists and wrong ones.
+#[test]
+fn counts_and_classes_come_before_lists() {
+    let sheet = sheet_n();
+    for vans in LISTS {
+        let brought = Brought { vans: Some(vans), ..Brought::plain(&sheet) };
         for k in [0, 33, 65_535, u64::MAX] {
             let asked = Asked { brought, k, limit: LIMIT + 1, room: 0, cover: &[], tree: 9 };
-            BOTH.iter()
-                .for_each(|&kind| assert_eq!(asked.numbers(kind), [21; 4], "k {k}, {vans:?}"));
+            BOTH.iter().for_each(|&kind| assert_eq!(asked.numbers(kind), [21; 4], "{k} {vans:?}"));
         }
-        for (classes, number) in [(&[0, 0][..], 53), (&[0; 4], 53)] {
+        for classes in [&[0, 0][..], &[0; 4]] {
             let brought = Brought { classes: Some(classes), ..brought };
             let asked = Asked { brought, k: 33, limit: LIMIT + 1, room: 0, cover: &[], tree: 9 };
-            BOTH.iter().for_each(|&kind| assert_eq!(asked.numbers(kind), [number; 4], "{vans:?}"));
+            BOTH.iter().for_each(|&kind| assert_eq!(asked.numbers(kind), [53; 4], "{vans:?}"));
         }
     }
 }

@@ -3,12 +3,15 @@
 
 pub mod asking;
 pub mod crossings;
+pub mod numbers;
 pub mod other;
 pub mod readings;
 pub mod replies;
 pub mod surfaces;
 pub mod vans;
 pub mod wrong_gates;
+pub mod wrong_van_lists;
+pub mod wrong_vans;
 
 use std::sync::OnceLock;
 

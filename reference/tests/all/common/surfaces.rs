@@ -29,9 +29,10 @@ pub fn graph_due(graph: &Graph, classes: &[u8]) -> Graph {
     Graph::new(graph.n, &edges)
 }
 
-/// The records that bring a list, with the list.
+/// The records that bring a list of classes, with the list, but for those that bring vans too.
 pub fn listed() -> Vec<(&'static Record, &'static [u8])> {
-    made_records().iter().filter_map(|record| Some((record, record.classes.as_deref()?))).collect()
+    let alone = made_records().iter().filter(|record| record.vans.is_none());
+    alone.filter_map(|record| Some((record, record.classes.as_deref()?))).collect()
 }
 
 /// What the check answers to a record of it.
