@@ -8,7 +8,7 @@ use native.Mathlib.Omega.{arith}
 use borrow.Author.Count.{below-none, below-more}
 use lib.ListN.{length, getD, take, drop}
 use Rattle.lists.specs.Count.{below}
-use Rattle.lists.specs.Put.{OnlyFirst}
+use Rattle.lists.specs.Put.{Put, OnlyFirst}
 use Rattle.lists.proofs.OnlyFirst.{only-first-none}
 use Rattle.lists.proofs.Put.{put-length, only-first-length}
 use Rattle.graph.specs.Graph.{Graph, edgeCount}
@@ -17,7 +17,7 @@ use Rattle.edges.specs.Around.{Around}
 use Rattle.distance.specs.Shortest.{SaysDistance, Shortest, Searched}
 use Rattle.distance_table.specs.Tabled.{rowOf}
 use Rattle.distance_table.specs.Table.{TableFilled}
-use Rattle.distance_table.proofs.RowPlaces.{row-length, part-at}
+use Rattle.distance_table.proofs.RowPlaces.{row-length, row-before, part-at}
 use Rattle.distance_table.proofs.RowsPut.{row-put, row-here, row-earlier, only-first-row}
 
 -- The distances and the last edges of one root are those that were searched, of whatever graph the arcs are.
@@ -46,7 +46,24 @@ module _ (n : ℕ) (bounds arcs roots : List ℕ) where
       }
 
   module _ {j : ℕ} {distances distances-now lasts lasts-now : List ℕ} (m : TableUnderway n bounds arcs roots j distances distances-now lasts lasts-now) where
-    -- One root more, as a search that was lent its rows leaves them: `size` is how long they are.
+    -- One root more, whose rows were put into their places.
+    row-more : {dist last distances-next lasts-next : List ℕ} → j < length roots → length dist ≡ n → length last ≡ n
+        → Put (j * n) dist distances-now distances-next → Put (j * n) last lasts-now lasts-next → RootSearched n bounds arcs (getD roots j 0) dist last
+        → TableUnderway n bounds arcs roots (j + 1) distances distances-next lasts lasts-next
+    row-more {distances-next = distances-next} {lasts-next = lasts-next} h dist-size last-size in-place last-in-place searched =
+        record {
+          within = omega arith;
+          table-size = put-length in-place ∙ m .table-size;
+          lasts-size = put-length last-in-place ∙ m .lasts-size;
+          table-only = only-first-row j n in-place dist-size (m .table-only);
+          lasts-only = only-first-row j n last-in-place last-size (m .lasts-only);
+          each =
+              below-more (λ i. RootSearched n bounds arcs (getD roots i 0) (rowOf n distances-next i) (rowOf n lasts-next i)) j
+              (λ i l. rw (row-earlier j n in-place dist-size i l, row-earlier j n last-in-place last-size i l) (m .each i l))
+              (rw (row-here j n in-place dist-size, row-here j n last-in-place last-size) searched);
+        }
+
+    -- As a search that was lent them leaves them: `size` is how long they are.
     pub table-put : {size root : ℕ} {dist last : List ℕ} → j < length roots → j * n + n ≤ length distances-now → j * n + n ≤ length lasts-now → size ≡ n → root ≡ getD roots j 0
         → Searched n bounds arcs root (take size (drop (j * n) distances-now)) (take size (drop (j * n) lasts-now)) dist last
         → TableUnderway n bounds arcs roots (j + 1) distances (take (j * n) distances-now ++ (dist ++ drop size (drop (j * n) distances-now)))
@@ -57,22 +74,17 @@ module _ (n : ℕ) (bounds arcs roots : List ℕ) where
         let s = rw (q, r) at f in
         let dist-size : length dist ≡ n = only-first-length (s .dist-rest) ∙ row-length distances-now (j * n) n in-table in
         let last-size : length last ≡ n = only-first-length (s .last-rest) ∙ row-length lasts-now (j * n) n in-lasts in
-        let in-place = row-put distances-now dist (j * n) n in-table q dist-size in
-        let last-in-place = row-put lasts-now last (j * n) n in-lasts q last-size in
-        record {
-          within = omega arith;
-          table-size = put-length in-place ∙ m .table-size;
-          lasts-size = put-length last-in-place ∙ m .lasts-size;
-          table-only = only-first-row j n in-place dist-size (m .table-only);
-          lasts-only = only-first-row j n last-in-place last-size (m .lasts-only);
-          each =
-              below-more (λ i. RootSearched n bounds arcs (getD roots i 0) (rowOf n (next distances-now dist size) i) (rowOf n (next lasts-now last size) i)) j
-              (λ i l. rw (row-earlier j n in-place dist-size i l, row-earlier j n last-in-place last-size i l) (m .each i l))
-              (rw (row-here j n in-place dist-size, row-here j n last-in-place last-size) (record { of-graph = s .of-graph }));
-        }
-      where
-        next : List ℕ → List ℕ → ℕ → List ℕ
-        next rows row size = take (j * n) rows ++ (row ++ drop size (drop (j * n) rows))
+        row-more h dist-size last-size (row-put distances-now dist (j * n) n in-table q dist-size) (row-put lasts-now last (j * n) n in-lasts q last-size)
+        (record { of-graph = s .of-graph })
+
+    -- As they are copied from an earlier root at the same vertex.
+    pub table-copied : {i : ℕ} {distances-next lasts-next : List ℕ} → i < j → j < length roots → getD roots i 0 ≡ getD roots j 0
+        → j * n + n ≤ length distances-now → j * n + n ≤ length lasts-now
+        → Put (j * n) (rowOf n distances-now i) distances-now distances-next → Put (j * n) (rowOf n lasts-now i) lasts-now lasts-next
+        → TableUnderway n bounds arcs roots (j + 1) distances distances-next lasts lasts-next
+    table-copied {i} l h same in-table in-lasts put last-put =
+        let before = row-before i j n l in
+        row-more h (row-length distances-now (i * n) n (omega arith)) (row-length lasts-now (i * n) n (omega arith)) put last-put (rw same at (m .each i l))
 
     -- All roots.
     pub table-all : length roots ≤ j → length roots * n ≤ length distances → length roots * n ≤ length lasts

@@ -1,6 +1,6 @@
 -- The rows of the distances from all roots, and of their last edges, filled (document 01, step 5).
 -- Assumes nothing.
-use Prim.Native.Nat.{ℕ, _*_, _≤_, _<_}
+use Prim.Native.Nat.{ℕ, _+_, _*_, _≤_, _<_}
 use mathlib.Core.Path.{_≡_}
 use mathlib.Core.List.{List}
 use lib.ListN.{length, getD}
@@ -9,6 +9,17 @@ use Rattle.lists.specs.Put.{OnlyFirst}
 use Rattle.graph.specs.Graph.{Graph, edgeCount}
 use Rattle.edges.specs.Around.{Arcs, Around}
 use Rattle.distance_table.specs.Tabled.{DistancesTabled, LastsTabled}
+
+-- r is the first root at the vertex of root j.
+pub record FirstAt (roots : List ℕ) (j r : ℕ) : Type 0 where
+  pub within : r ≤ j
+  pub same : getD roots r 0 ≡ getD roots j 0
+  pub first : (i : ℕ) → i < r → getD roots i 0 ≡ getD roots j 0 → ⊥
+
+-- What copying n elements further on asks: those from the one place end where those from the other begin, or earlier, and these are within the array.
+pub record CopyAsked (from to n size : ℕ) : Type 0 where
+  pub apart : from + n ≤ to
+  pub room : to + n ≤ size
 
 -- What filling the table asks: arcs of n vertices, the roots among them, and room for n distances and last edges for each.
 pub record TableAsked (n : ℕ) (bounds arcs roots : List ℕ) (distances lasts : ℕ) : Type 0 where
