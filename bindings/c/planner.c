@@ -104,6 +104,76 @@ static void footbridge(void) {
     assert(planner_trial_of(&q, 0, values, buffer, sizeof buffer) == PLANNER_TOO_LOW_STOP && values[0] == 2);
 }
 
+/* Two vans at stop 0 of a line 0-1 of weight 1. */
+static void two_vans(void) {
+    static const uint8_t line[] = {2, 0, 1, 0, 0, 0, 1, 0, 1, 0, 0, 0};
+    static const uint8_t vans[] = {0, 0, 0, 0};
+    /* What is left at stop 0 goes to the first van: tree 0 has line 0, tree 1 has none. */
+    static const uint8_t first[] = {2, 0, 1, 0, 0, 0, 0, 0, 0, 0, 0, 0};
+    /* The line in the other tree is a cover too; trees from stops 0 and 1 are one without a list. */
+    static const uint8_t second[] = {2, 0, 1, 0, 0, 0, 0, 0, 1, 0, 0, 0};
+    static const uint8_t apart[] = {2, 0, 0, 0, 0, 0, 1, 0};
+    planner_question q = {0};
+    q.k = 2;
+    q.graph = line;
+    q.graph_length = sizeof line;
+    assert(planner_check_of(&q, apart, sizeof apart, values) == 0);
+    assert(planner_check_of(&q, first, sizeof first, values) == 32);
+    q.vans = planner_list_of(vans, sizeof vans);
+    assert(planner_trial_of(&q, 5, values, buffer, sizeof buffer) == PLANNER_COVER);
+    assert(memcmp(values, (uint64_t[]){5, 1, 2}, sizeof values) == 0 && memcmp(buffer, first, sizeof first) == 0);
+    assert(planner_trial_of(&q, 0, values, buffer, sizeof buffer) == PLANNER_TOO_LOW_STOP && values[0] == 1);
+    assert(planner_best_of(&q, values, buffer, sizeof buffer) == PLANNER_COVER);
+    assert(memcmp(values, (uint64_t[]){1, 1, 2}, sizeof values) == 0);
+    assert(planner_check_of(&q, first, sizeof first, values) == 0 && values[0] == 1);
+    assert(planner_check_of(&q, second, sizeof second, values) == 0 && values[0] == 1);
+    assert(planner_check_of(&q, apart, sizeof apart, values) == 32);
+    assert(planner_walk_of(&q, second, sizeof second, 1, walked, stops, sizeof stops) == 0);
+    assert(memcmp(walked, (uint64_t[]){3, 2}, sizeof walked) == 0);
+    assert(memcmp(stops, (uint8_t[]){0, 0, 1, 0, 0, 0}, 6) == 0);
+    /* Both lists at once: class 40 doubles the line. */
+    q.classes = planner_list_of((const uint8_t[]){40}, 1);
+    assert(planner_brought(&q) == (PLANNER_CLASSES | PLANNER_VANS));
+    assert(planner_best_of(&q, values, buffer, sizeof buffer) == PLANNER_COVER && values[1] == 2);
+    assert(planner_check_of(&q, first, sizeof first, values) == 0 && values[0] == 2);
+}
+
+/* Vans that are no list for the question, and a question that has no use for one. */
+static void wrong_vans(void) {
+    static const uint8_t line[] = {2, 0, 1, 0, 0, 0, 1, 0, 1, 0, 0, 0};
+    static const uint8_t vans[] = {1, 0, 0, 0, 1, 0};
+    planner_question q = {0};
+    q.graph = line;
+    q.graph_length = sizeof line;
+
+    /* Three vans on two stops are for a list alone; one that is brought and null is no three vans. */
+    q.k = 3;
+    assert(planner_best_of(&q, values, buffer, sizeof buffer) == 21);
+    q.vans = planner_list_of(vans, sizeof vans);
+    assert(planner_best_of(&q, values, buffer, sizeof buffer) == PLANNER_COVER && values[2] == 3);
+    q.vans = planner_list_of(NULL, sizeof vans);
+    assert(planner_trial_of(&q, 5, values, buffer, sizeof buffer) == 55);
+    assert(planner_best_of(&q, values, NULL, 0) == 55);
+    assert(planner_check_of(&q, NULL, 0, values) == 55);
+    assert(planner_walk_of(&q, NULL, 0, 0, walked, NULL, 0) == 55);
+    q.vans = planner_list_of((const uint8_t[]){0, 0, 0, 0, 2, 0}, 6);
+    assert(planner_best_of(&q, values, buffer, sizeof buffer) == 55);
+    /* 53 and 21 come before 55. */
+    q.classes = planner_list_of(NULL, 1);
+    assert(planner_best_of(&q, values, buffer, sizeof buffer) == 53);
+    q.classes = (planner_list){0};
+    q.k = 33;
+    assert(planner_best_of(&q, values, buffer, sizeof buffer) == 21);
+
+    /* Unrooted: any list is left unread, as one is whose `brought` is 0. */
+    q.k = 1;
+    q.kind = PLANNER_UNROOTED;
+    assert(planner_best_of(&q, values, buffer, sizeof buffer) == PLANNER_COVER && values[2] == 1);
+    q.kind = PLANNER_ROOTED;
+    q.vans.brought = 0;
+    assert(planner_best_of(&q, values, buffer, sizeof buffer) == PLANNER_COVER && values[2] == 1);
+}
+
 int main(void) {
     /* Yards: "B 4, heaviest 6". */
     assert(trial(PLANNER_ROOTED, 4) == PLANNER_COVER);
@@ -136,5 +206,7 @@ int main(void) {
     surfaces();
     heaviest_line();
     footbridge();
+    two_vans();
+    wrong_vans();
     return 0;
 }

@@ -3,8 +3,8 @@
 
 mod common;
 
-use common::call::{call, Asked, Got, Question, Through};
-use common::judged::judged;
+use common::call::{Asked, Question};
+use common::judged::{answered, judged};
 use planner::{BUFFER, WALK_BUFFER};
 use reference::cover::{encode, Tree};
 use reference::graph::sheet;
@@ -45,16 +45,6 @@ fn is_joined(kind: u32, n: usize, edges: &Edges, k: usize) -> bool {
     }
 }
 
-/// Puts a question, which must be answered as the reference allows, and gives what came of it.
-fn got(random: &mut Random, question: &Question) -> Got {
-    let case = judged(random, question);
-    let classes = question.classes.unwrap_or(&[]);
-    let brought = u32::from(question.classes.is_some());
-    let got = call(random.next_number(), question, Through::General { brought, classes });
-    assert_eq!(got.case, case);
-    got
-}
-
 /// Trials, best limits and checks on made graphs, and the walks of what is filed.
 #[test]
 fn every_record_is_answered_as_the_reference_allows() {
@@ -89,7 +79,8 @@ fn limit_zero_is_accepted_exactly_where_weightless_edges_join() {
             let due = is_joined(kind, n, &edges, k);
             let tried = Asked::Trial { limit: 0, room: BUFFER };
             for asked in [tried, Asked::Best { room: BUFFER }] {
-                let got = got(&mut random, &Question { asked, kind, k, sheet, classes });
+                let got =
+                    answered(&mut random, &Question { asked, kind, k, sheet, classes, vans: None });
                 let (limit, heaviest) = (got.values.1[0], got.values.1[1]);
                 assert_eq!(got.case == 0 && limit == 0, due, "kind {kind} k {k} {n} {edges:?}");
                 assert!(!due || heaviest == 0, "kind {kind} k {k} {n} {edges:?}");
@@ -117,7 +108,7 @@ fn no_weight_is_refused_for_being_zero() {
                     Asked::Check { cover },
                     Asked::Walk { cover, tree: 0, room: WALK_BUFFER },
                 ] {
-                    let question = Question { asked, kind, k: 1, sheet, classes: None };
+                    let question = Question { asked, kind, k: 1, sheet, classes: None, vans: None };
                     assert_eq!(judged(&mut random, &question), due, "weight {weight} {asked:?}");
                 }
             }
@@ -136,8 +127,8 @@ fn the_largest_sheet_of_weightless_edges() {
     let looped = encode(&[Tree::new(0, (0..256).collect())]);
     for kind in [0, 1] {
         let mut put = |asked| {
-            let question = Question { asked, kind, k: 1, sheet, classes: None };
-            let got = got(&mut random, &question);
+            let question = Question { asked, kind, k: 1, sheet, classes: None, vans: None };
+            let got = answered(&mut random, &question);
             (got.case, got.values.1, got.buffer.1)
         };
         for asked in [Asked::Trial { limit: 0, room: BUFFER }, Asked::Best { room: BUFFER }] {

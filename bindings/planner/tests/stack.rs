@@ -2,7 +2,9 @@
 //! fault. What takes up to 4 KiB is given 32, and up to 12 is given 40: a thread has some of its own to keep there.
 
 use planner::{best, check, trial, walk, Cover, Kind, Question, Reply, Walk, BUFFER, WALK_BUFFER};
+use reference::cover::{encode, Tree};
 use reference::graph::sheet;
+use reference::vans::bytes;
 use std::thread::Builder;
 
 const KINDS: [Kind; 2] = [Kind::Rooted, Kind::Unrooted];
@@ -126,6 +128,110 @@ fn refusals_with_lists() {
             assert_eq!(about_the_path(32, kind, 33, list, filed), Err(crews));
             let walked = |question: Question| question.walk(&[], 0, &mut vec![0; WALK_BUFFER]);
             assert_eq!(about_the_path(40, kind, 33, list, walked), Err(crews));
+        }
+    }
+}
+
+/// A path of all 256 vertices, each step of which is eight edges or nine: 2,048 edges.
+fn largest_sheet() -> Vec<u8> {
+    let lines: Vec<_> = (0..2_048).map(|e| (e % 255, e % 255 + 1, 1 + e as u64 % 9)).collect();
+    sheet(256, &lines)
+}
+
+/// Vans on 256 vertices: one at either end, 32 at either end, in the middle, at both ends by turns, and at 32 vertices.
+fn lists_of_vans() -> Vec<Vec<u8>> {
+    let one = [0, 255].map(|end| vec![end]);
+    let many = [0, 128, 255].map(|at| vec![at; 32]);
+    let apart = [(0..32).map(|j| 255 * (j % 2)).collect(), (0..32).map(|j| 255 - 8 * j).collect()];
+    one.iter().chain(&many).chain(&apart).map(|vans: &Vec<usize>| bytes(vans)).collect()
+}
+
+/// A rooted question with vans, and with classes or not.
+#[derive(Clone)]
+struct Manned {
+    k: usize,
+    sheet: Vec<u8>,
+    vans: Vec<u8>,
+    classes: Option<&'static [u8]>,
+}
+
+impl Manned {
+    /// What is asked about it in a thread of its own with so many KiB of stack.
+    fn within<T: Send + 'static>(
+        &self,
+        kib: usize,
+        work: impl FnOnce(Question) -> T + Send + 'static,
+    ) -> T {
+        let Manned { k, sheet, vans, classes } = self.clone();
+        within(kib, move || {
+            let plain = Question::new(Kind::Rooted, k, &sheet);
+            work(Question { classes, vans: Some(&vans), ..plain })
+        })
+    }
+
+    /// The check of a cover, which must say yes with this weight, and the walk of each of its trees.
+    fn follow(&self, cover: &[u8], heaviest: u64) {
+        let filed = cover.to_vec();
+        assert_eq!(self.within(32, move |question| question.check(&filed)), Ok(heaviest));
+        for tree in 0..self.k {
+            let filed = cover.to_vec();
+            let walk = self
+                .within(40, move |question| question.walk(&filed, tree, &mut vec![0; WALK_BUFFER]));
+            assert!(walk.is_ok_and(|walk| walk.length <= 2 * heaviest), "{walk:?}");
+        }
+    }
+}
+
+/// Up to 32 vans on the deepest sheet and on the largest: the best limit, trials, the check and every walk.
+#[test]
+fn the_deepest_questions_with_vans() {
+    let sheets = [(path(), LISTS), (largest_sheet(), [None, Some(&[40; 2_048][..])])];
+    for (vans, (sheet, classes)) in
+        lists_of_vans().iter().flat_map(|vans| sheets.iter().map(move |sheet| (vans, sheet)))
+    {
+        for &classes in classes {
+            let (sheet, vans) = (sheet.clone(), vans.clone());
+            let manned = Manned { k: vans.len() / 2, sheet, vans, classes };
+            let (reply, buffer) = manned.within(320, |question| {
+                let mut buffer = vec![0; BUFFER];
+                (question.best(&mut buffer), buffer)
+            });
+            let Reply::Cover { limit, heaviest, .. } = reply else { panic!("{reply:?}") };
+            manned.follow(&buffer[..Cover::length(&buffer).unwrap()], heaviest);
+            let tried = move |question: Question| question.trial(limit, &mut vec![0; BUFFER]);
+            assert_eq!(manned.within(320, tried), reply);
+            let tried = move |question: Question| question.trial(limit - 1, &mut vec![0; BUFFER]);
+            let low = manned.within(320, tried);
+            assert!(!matches!(low, Reply::Cover { .. } | Reply::Refused(_)), "{low:?}");
+        }
+    }
+}
+
+/// The largest cover: 32 trees from one vertex with all edges of the path each.
+#[test]
+fn the_largest_cover() {
+    let cover = encode(&vec![Tree::new(255, (0..255).collect()); 32]);
+    for (classes, weight) in [(LISTS[0], 255), (LISTS[1], 510)] {
+        let manned = Manned { k: 32, sheet: path(), vans: bytes(&[255; 32]), classes };
+        manned.follow(&cover, weight);
+    }
+}
+
+/// Lists of vans that are wrong: all at vertex 256, the last at it, a byte less and a byte more.
+#[test]
+fn refusals_with_vans() {
+    let mut last = [255; 32];
+    last[31] = 256;
+    for vans in [bytes(&[256; 32]), bytes(&last), vec![0; 63], vec![0; 65]] {
+        for sheet in [path(), largest_sheet()] {
+            let manned = Manned { k: 32, sheet, vans: vans.clone(), classes: None };
+            let tried = |question: Question| question.trial(1, &mut vec![0; BUFFER]);
+            assert_eq!(manned.within(32, tried), Reply::Refused(55));
+            let asked = |question: Question| question.best(&mut vec![0; BUFFER]);
+            assert_eq!(manned.within(32, asked), Reply::Refused(55));
+            assert_eq!(manned.within(32, |question| question.check(&[])), Err(55));
+            let walked = |question: Question| question.walk(&[], 0, &mut vec![0; WALK_BUFFER]);
+            assert_eq!(manned.within(40, walked), Err(55));
         }
     }
 }

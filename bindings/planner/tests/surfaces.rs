@@ -5,7 +5,7 @@ mod common;
 
 use std::ops::RangeInclusive;
 
-use common::call::{call, Asked, Question, Through};
+use common::call::{call, Asked, Question, Through, VANS};
 use common::judged::judged;
 use planner::{check, Kind, BUFFER, WALK_BUFFER};
 use reference::bytes::two;
@@ -89,8 +89,9 @@ fn the_weight_used_of_every_class() {
             let (sheet, classes, used) =
                 (&sheet(2, &[(0, 1, weight)]), &[class], used(weight, class));
             for asked in all_of(used, &cover) {
-                let question = Question { asked, kind, k: 1, sheet, classes: Some(classes) };
-                let got = call(weight, &question, Through::General { brought: 1, classes });
+                let question =
+                    Question { asked, kind, k: 1, sheet, classes: Some(classes), vans: None };
+                let got = call(weight, &question, question.general());
                 let (place, value) = match asked {
                     Asked::Trial { .. } | Asked::Best { .. } => (1, used),
                     Asked::Check { .. } => (0, used),
@@ -127,8 +128,9 @@ fn the_highest_weights() {
             let mut said = |kind, weight, asked| {
                 let edge = |e| (0, 1, if e == place { weight } else { 1_000_000 });
                 let sheet = &sheet(2, &(0..m).map(edge).collect::<Vec<_>>());
-                let question = Question { asked, kind, k: 1, sheet, classes: Some(&list) };
-                let got = call(22, &question, Through::General { brought: 1, classes: &list });
+                let question =
+                    Question { asked, kind, k: 1, sheet, classes: Some(&list), vans: None };
+                let got = call(22, &question, question.general());
                 assert_eq!(judged(&mut random, &question), got.case);
                 (got.case, got.values.1[0])
             };
@@ -154,7 +156,10 @@ fn lists_of_other_lengths() {
         let sheet = sheet(2, &[(0, 1, 3), (1, 0, 3), (0, 1, 5)][..m]);
         for (kind, asked) in [0, 1].iter().flat_map(|&kind| all_of(0, &cover).map(|a| (kind, a))) {
             let mut said = |classes: Option<&[u8]>| {
-                judged(&mut random, &Question { asked, kind, k: 2, sheet: &sheet, classes })
+                judged(
+                    &mut random,
+                    &Question { asked, kind, k: 2, sheet: &sheet, classes, vans: None },
+                )
             };
             assert_eq!(said(None), 0, "m {m}");
             for length in (0..12).chain([255, 256, 256 + m, 2_048, 65_536 + m]) {
@@ -163,6 +168,17 @@ fn lists_of_other_lengths() {
             }
         }
     }
+}
+
+/// Covers of sheet N for two crews, each with a fault and its number.
+fn wrong_covers() -> [(Vec<u8>, u32); 5] {
+    [
+        (vec![], 31),
+        (two_trees(4, &[1, 0], &[]), 32),
+        (two_trees(0, &[1, 0], &[]), 33),
+        (two_trees(0, &[0], &[1]), 34),
+        (two_trees(0, &[0], &[]), 35),
+    ]
 }
 
 /// Everything wrong at once, then one fault less after the other: each number in its turn.
@@ -176,18 +192,11 @@ fn numbers_in_their_order() {
         (heavy, &[40; 3], 54),
         (good, &[40; 3], 21),
     ];
-    let covers = [
-        (vec![], 31),
-        (two_trees(4, &[1, 0], &[]), 32),
-        (two_trees(0, &[1, 0], &[]), 33),
-        (two_trees(0, &[0], &[1]), 34),
-        (two_trees(0, &[0], &[]), 35),
-    ];
-    let cover = &two_trees(0, &[0, 1], &[])[..];
+    let (covers, cover) = (wrong_covers(), &two_trees(0, &[0, 1], &[])[..]);
     for kind in [0, 1] {
         let mut put = |weights, classes, k, asked| {
-            let sheet = &sheet_n(weights);
-            judged(&mut random, &Question { asked, kind, k, sheet, classes: Some(classes) })
+            let (sheet, classes) = (&sheet_n(weights), Some(classes));
+            judged(&mut random, &Question { asked, kind, k, sheet, classes, vans: None })
         };
         for (weights, classes, number) in before_the_cover {
             let mut said = |asked| put(weights, classes, 33, asked);
@@ -212,17 +221,19 @@ fn numbers_in_their_order() {
     }
 }
 
-/// The first bit alone says whether class bytes are brought. Lines 0 and 1 of sheet N weigh 3 each, or 6 in class 40.
+/// The first bit alone says whether class bytes are brought, whatever is said of vans, here wrong ones that are not brought or
+/// the roots that no list means. Lines 0 and 1 of sheet N weigh 3 each, or 6 in class 40.
 #[test]
 fn the_bits_of_the_lists() {
     let (sheet, cover) = (sheet_n([3, 3, 5]), two_trees(0, &[0, 1], &[]));
     let asked = Asked::Check { cover: &cover };
-    let question = Question { asked, kind: 0, k: 2, sheet: &sheet, classes: None };
+    let question = Question { asked, kind: 0, k: 2, sheet: &sheet, classes: None, vans: None };
     let said = |brought, classes| {
-        let got = call(25, &question, Through::General { brought, classes });
+        let vans = if brought & VANS == 0 { &[255; 3][..] } else { &[0, 0, 1, 0] };
+        let got = call(25, &question, Through::General { brought, classes, vans });
         (got.case, (got.case == 0).then_some(got.values.1[0]))
     };
-    for brought in [0, 2, 4, 6, 254, 256, 1 << 16, 1 << 31, !1] {
+    for brought in [0, 2, 4, 6, 252, 254, 256, 1 << 16, 1 << 31, !3, !1] {
         for classes in [&[][..], &[40; 2], &[40; 3], &[40; 4]] {
             assert_eq!(said(brought, classes), (0, Some(6)), "bits {brought}");
         }
@@ -251,9 +262,10 @@ fn as_with_the_weights_used_in_the_sheet() {
         let (k, limit) = (random.between(1, n.min(4)), random.below(4 * most) as u64);
         for kind in [0, 1] {
             let same = |asked| {
-                let with = Question { asked, kind, k, sheet: &given, classes: Some(&classes) };
+                let with =
+                    Question { asked, kind, k, sheet: &given, classes: Some(&classes), vans: None };
                 let without = Question { sheet: &used, classes: None, ..with };
-                let got = call(turn, &with, Through::General { brought: 1, classes: &classes });
+                let got = call(turn, &with, with.general());
                 assert!(got == call(turn, &without, Through::Plain), "{with:?}");
                 got
             };

@@ -34,7 +34,7 @@ impl<'a> Asked<'a> {
     }
 }
 
-/// A question, with the class bytes where they are brought.
+/// A question, with the bytes of the lists that are brought.
 #[derive(Clone, Copy, Debug)]
 pub struct Question<'a> {
     pub asked: Asked<'a>,
@@ -42,6 +42,7 @@ pub struct Question<'a> {
     pub k: usize,
     pub sheet: &'a [u8],
     pub classes: Option<&'a [u8]>,
+    pub vans: Option<&'a [u8]>,
 }
 
 impl<'a> Question<'a> {
@@ -53,18 +54,30 @@ impl<'a> Question<'a> {
             Recorded::Check { cover } => Asked::Check { cover },
         };
         let kind = u32::from(record.kind == Crews::Unrooted);
-        let (sheet, classes) = (&record.sheet[..], record.classes.as_deref());
-        Question { asked, kind, k: record.k, sheet, classes }
+        let (classes, vans) = (record.classes.as_deref(), record.vans.as_deref());
+        Question { asked, kind, k: record.k, sheet: &record.sheet, classes, vans }
+    }
+
+    /// The general function with the lists that are brought, and no others.
+    pub fn general(&self) -> Through<'a> {
+        let bit = |list: Option<&[u8]>, bit| if list.is_some() { bit } else { 0 };
+        let brought = bit(self.classes, CLASSES) | bit(self.vans, VANS);
+        let (classes, vans) = (self.classes.unwrap_or_default(), self.vans.unwrap_or_default());
+        Through::General { brought, classes, vans }
     }
 }
+
+/// The bits of the lists.
+pub const CLASSES: u32 = 1;
+pub const VANS: u32 = 2;
 
 /// The function that a question is put to.
 #[derive(Clone, Copy, Debug)]
 pub enum Through<'a> {
     /// That of questions without lists.
     Plain,
-    /// The general one, with the bits of the lists that are brought, and class bytes.
-    General { brought: u32, classes: &'a [u8] },
+    /// The general one, with the bits of the lists that are brought, and the bytes of every list, brought or not.
+    General { brought: u32, classes: &'a [u8], vans: &'a [u8] },
 }
 
 /// What came of a question: its number, the values and the buffer before and after.
@@ -82,13 +95,14 @@ pub fn call(seed: u64, question: &Question, through: Through) -> Got {
     let (room, count) = question.asked.lent();
     let (mut bytes, mut numbers) =
         (Lent::bytes(&mut random, room), Lent::numbers(&mut random, count));
-    let listed = match through {
-        Through::Plain => &[],
-        Through::General { classes, .. } => classes,
+    let lists = match through {
+        Through::Plain => [&[][..]; 2],
+        Through::General { classes, vans, .. } => [classes, vans],
     };
-    let (sheet, cover, list) =
-        (question.sheet.to_vec(), question.asked.cover().to_vec(), listed.to_vec());
-    let given = Given { sheet: &sheet, cover: &cover, list: &list };
+    let read = [question.sheet, question.asked.cover(), lists[0], lists[1]];
+    let own = read.map(<[u8]>::to_vec);
+    let [sheet, cover, classes, vans] = &own;
+    let given = Given { sheet, cover, classes, vans };
     let (values, buffer) = (numbers.pointer(), bytes.pointer());
     // SAFETY: each pointer is to as much as its length says, that of the values to as many numbers as the function has;
     // nothing overlaps.
@@ -102,16 +116,16 @@ pub fn call(seed: u64, question: &Question, through: Through) -> Got {
             }
         }
     };
-    let unchanged = sheet == question.sheet && cover == question.asked.cover() && list == listed;
-    assert!(unchanged, "what is only read was changed");
+    assert!(own == read, "what is only read was changed");
     Got { case, values: numbers.taken_back(), buffer: bytes.taken_back() }
 }
 
-/// What is only read.
+/// What is only read, each in memory of its own that ends where it ends.
 struct Given<'a> {
     sheet: &'a [u8],
     cover: &'a [u8],
-    list: &'a [u8],
+    classes: &'a [u8],
+    vans: &'a [u8],
 }
 
 /// Calls the function of questions without lists.
@@ -143,18 +157,22 @@ unsafe fn general(
     let Question { asked, kind, k, .. } = *question;
     let (graph, length) = (given.sheet.as_ptr(), given.sheet.len());
     let (cover, size) = (given.cover.as_ptr(), given.cover.len());
-    let (list, m) = (given.list.as_ptr(), given.list.len());
+    let (classes, m) = (given.classes.as_ptr(), given.classes.len());
+    let (vans, v) = (given.vans.as_ptr(), given.vans.len());
     let ask = |asked, limit, room| {
-        planner_ask(asked, limit, kind, k, graph, length, lists, list, m, values, buffer, room)
+        planner_ask(
+            asked, limit, kind, k, graph, length, lists, classes, m, vans, v, values, buffer, room,
+        )
     };
     match asked {
         Asked::Trial { limit, room } => ask(0, limit, room),
         Asked::Best { room } => ask(best, u64::MAX, room),
         Asked::Check { .. } => {
-            planner_verify(kind, k, graph, length, lists, list, m, cover, size, values)
+            planner_verify(kind, k, graph, length, lists, classes, m, vans, v, cover, size, values)
         }
         Asked::Walk { tree, room, .. } => planner_route(
-            kind, k, graph, length, lists, list, m, cover, size, tree, values, buffer, room,
+            kind, k, graph, length, lists, classes, m, vans, v, cover, size, tree, values, buffer,
+            room,
         ),
     }
 }

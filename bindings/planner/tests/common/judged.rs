@@ -1,6 +1,6 @@
 //! Questions put to every function that takes them, and the replies held to `reference/`.
 
-use super::call::{call, Asked, Got, Question, Through};
+use super::call::{call, Asked, Got, Question, Through, CLASSES, VANS};
 use planner::{best, check, trial, walk, Kind, Reply, Walk};
 use reference::brought::Brought;
 use reference::bytes::two;
@@ -9,51 +9,93 @@ use reference::graph::read;
 use reference::judge::{self, Reply as Given};
 use reference::question::{Answer, Kind as Crews};
 use reference::random::Random;
+use reference::vans::bytes;
 use reference::walk::walk_with;
 
-/// Puts a question to the exported functions and to the wrappers, and judges the replies, which must be the same; gives the
-/// case.
+/// The case of a question that is put as by [`answered`].
 pub fn judged(random: &mut Random, question: &Question) -> u32 {
+    answered(random, question).case
+}
+
+/// Puts a question to the exported functions and to the wrappers, and judges the replies, which must be the same; gives what
+/// came of it.
+pub fn answered(random: &mut Random, question: &Question) -> Got {
     let seed = random.next_number();
-    let edges = read(question.sheet).map_or(3, |graph| graph.edges.len());
-    let throughout = vec![60; edges];
-    let functions = match question.classes {
-        // A list that is not brought is not read; one of class 60 throughout is as none.
-        None => vec![
-            Through::Plain,
-            Through::General { brought: 0, classes: &[] },
-            Through::General { brought: !1, classes: &[40; 5] },
-            Through::General { brought: 1, classes: &throughout },
-        ],
-        // Of the bits, one is read.
-        Some(classes) => vec![
-            Through::General { brought: 1, classes },
-            Through::General { brought: !0, classes },
-        ],
-    };
-    let got = call(seed, question, functions[0]);
-    for &through in &functions[1..] {
+    let got = call(seed, question, question.general());
+    let same = |through| {
         assert!(call(seed, question, through) == got, "{} {through:?}", brief(question));
+    };
+    if is_plain(question) {
+        same(Through::Plain);
+    }
+    let (in_row, throughout) = as_no_lists(question);
+    for (class_bit, classes) in ways_of_classes(question, &throughout) {
+        for (other_bits, vans) in ways_of_vans(question, in_row.as_deref()) {
+            same(Through::General { brought: class_bit | other_bits, classes, vans });
+        }
     }
     if let Err(why) = right(question, &got) {
         panic!("{}: {why}", brief(question));
     }
     same_by_the_wrappers(question, &got);
-    got.case
+    got
+}
+
+/// Whether the functions of questions without lists take it: vans beside an unrooted question are as none.
+fn is_plain(question: &Question) -> bool {
+    question.classes.is_none() && (question.vans.is_none() || question.kind != 0)
+}
+
+/// Lists that are as none: the vans 0 to k - 1, unless these would be 55 where no list is 21, and class 60 throughout.
+fn as_no_lists(question: &Question) -> (Option<Vec<u8>>, Vec<u8>) {
+    let (sheet, k) = (read(question.sheet), question.k);
+    let (n, m) = sheet.as_ref().map_or((256, 3), |graph| (graph.n, graph.edges.len()));
+    let in_row: Vec<usize> = (0..k.min(40)).collect();
+    let is_as_none = k <= n || k > 32;
+    (is_as_none.then(|| bytes(&in_row)), vec![60; m])
+}
+
+/// A way to bring a list or not: its bit and its bytes.
+type Way<'a> = (u32, &'a [u8]);
+
+/// The bits past those of the lists, which are not read.
+const PAST: u32 = !(CLASSES | VANS);
+
+/// Ways to bring class bytes that must all say the same. Bytes that are not brought are not read.
+fn ways_of_classes<'a>(question: &Question<'a>, throughout: &'a [u8]) -> Vec<Way<'a>> {
+    match question.classes {
+        Some(classes) => vec![(CLASSES, classes)],
+        None => vec![(0, &[]), (0, &[40; 5]), (CLASSES, throughout)],
+    }
+}
+
+/// The same of vans, with every bit but that of classes. Beside an unrooted question no bytes are read, brought or not.
+fn ways_of_vans<'a>(question: &Question<'a>, in_row: Option<&'a [u8]>) -> Vec<Way<'a>> {
+    const WRONG: &[u8] = &[255; 5];
+    let mut ways = match question.vans {
+        Some(vans) => vec![(VANS, vans), (VANS | PAST, vans)],
+        None => vec![(PAST, WRONG)],
+    };
+    if question.kind != 0 {
+        ways.extend([(0, &[0, 0][..]), (VANS, &[]), (VANS | PAST, WRONG)]);
+    } else if question.vans.is_none() {
+        ways.extend(in_row.map(|vans| (VANS, vans)));
+    }
+    ways
 }
 
 /// A question in short.
 fn brief(question: &Question) -> String {
-    let Question { asked, kind, k, sheet, classes } = question;
+    let Question { asked, kind, k, sheet, classes, vans } = question;
     let front = &sheet[..sheet.len().min(200)];
-    format!("{asked:?} kind {kind} k {k} sheet {front:?} classes {classes:?}")
+    format!("{asked:?} kind {kind} k {k} sheet {front:?} classes {classes:?} vans {vans:?}")
 }
 
 /// Whether what came of a question is what the reference allows.
 fn right(question: &Question, got: &Got) -> Result<(), String> {
-    let Question { asked, kind, k, sheet, classes } = *question;
+    let Question { asked, kind, k, sheet, classes, vans } = *question;
     let (crews, k) = (if kind == 0 { Crews::Rooted } else { Crews::Unrooted }, k as u64);
-    let brought = Brought { sheet, classes };
+    let brought = Brought { sheet, classes, vans };
     let mut due = got.buffer.0.clone();
     match asked {
         Asked::Trial { limit, .. } => {
@@ -110,18 +152,24 @@ fn answer(got: &Got) -> Answer {
 
 /// The wrappers give the same replies and the same bytes: those of a question, and those without lists.
 fn same_by_the_wrappers(question: &Question, got: &Got) {
-    let Question { asked, kind, k, sheet, classes } = *question;
+    let Question { asked, kind, k, sheet, classes, vans } = *question;
+    let unread = (kind != 0).then_some(Some(&[255; 5][..]));
     let kind = if kind == 0 { Kind::Rooted } else { Kind::Unrooted };
-    let whole = planner::Question { classes, ..planner::Question::new(kind, k, sheet) };
     let mut buffer = got.buffer.0.clone();
-    let said = match asked {
-        Asked::Trial { limit, .. } => of_reply(whole.trial(limit, &mut buffer)),
-        Asked::Best { .. } => of_reply(whole.best(&mut buffer)),
-        Asked::Check { cover } => of_check(whole.check(cover)),
-        Asked::Walk { cover, tree, .. } => of_walk(whole.walk(cover, tree, &mut buffer), &buffer),
-    };
-    same(said, &buffer, got);
-    if classes.is_some() {
+    for vans in [vans].into_iter().chain(unread) {
+        let whole = planner::Question { classes, vans, ..planner::Question::new(kind, k, sheet) };
+        buffer.copy_from_slice(&got.buffer.0);
+        let said = match asked {
+            Asked::Trial { limit, .. } => of_reply(whole.trial(limit, &mut buffer)),
+            Asked::Best { .. } => of_reply(whole.best(&mut buffer)),
+            Asked::Check { cover } => of_check(whole.check(cover)),
+            Asked::Walk { cover, tree, .. } => {
+                of_walk(whole.walk(cover, tree, &mut buffer), &buffer)
+            }
+        };
+        same(said, &buffer, got);
+    }
+    if !is_plain(question) {
         return;
     }
     buffer.copy_from_slice(&got.buffer.0);
