@@ -1,6 +1,6 @@
 -- The tree of one root: what is marked of its union, and what is kept (document 01, step 6).
 -- Assumes nothing.
-use Prim.Native.Nat.{ℕ, _≤_, _<_}
+use Prim.Native.Nat.{ℕ, _+_, _^_, _≤_, _<_}
 use mathlib.Core.Path.{_≡_}
 use mathlib.Core.List.{List, [], _++_}
 use lib.ListN.{length, getD}
@@ -28,6 +28,19 @@ pub record FirstWith (bytes : List ℕ) (bound j r : ℕ) : Type 0 where
   pub earlier : (i : ℕ) → i < r → getD bytes i 0 ≡ j → ⊥
   pub here : r < bound → getD bytes r 0 ≡ j
 
+-- The edges of a list were marked, and r is how many they are, no more than a bound.
+pub record EdgesMarked (edges before after : List ℕ) (bound r : ℕ) : Type 0 where
+  pub marks : Marked (λ e. member e edges) before after
+  pub count : r ≡ length edges
+  pub within : r ≤ bound
+
+-- How many edges a piece in an array may have, and the longest path.
+abbrev pub mostInPiece : ℕ
+mostInPiece = 2 ^ 62
+
+abbrev pub mostOnPath : ℕ
+mostOnPath = 256
+
 -- What marking a piece asks: it is held, and each of its edges has a mark.
 pub record PieceGiven (cuts members : List ℕ) (c room : ℕ) : Type 0 where
   pub held : IsHeld cuts members c
@@ -44,6 +57,11 @@ pub record TreeAsked (g : Graph) (order tree : List ℕ) : Type 0 where
   pub in-order : order ≡ ordered g
   pub room : g .vertices ≤ length tree
 
+-- The same, where the edges to keep are marked, and no more of them than are said.
+pub record KeepAsked (g : Graph) (order marks tree : List ℕ) (most : ℕ) : Type 0 where
+  pub asked : TreeAsked g order tree
+  pub few : length (filter (marked marks) (ordered g)) ≤ most
+
 -- The marked edges were kept, and stand by rising number at the front of the array, r of them.
 pub record TreeKept (g : Graph) (marks before after : List ℕ) (r : ℕ) : Type 0 where
   pub kept : PutTo 0 (rise (keep g apart (filter (marked marks) (ordered g)))) before after r
@@ -57,10 +75,10 @@ pub record ReachGiven (g : Graph) (dist last : List ℕ) (root start : ℕ) (edg
   pub back : (v : ℕ) → Nearest g dist (treeOf start edges) v → BackGiven last root v room
 
 -- The edges of the part were marked, and of the path back from one of its nearest vertices.
-pub record ReachMarked (g : Graph) (dist last : List ℕ) (root start : ℕ) (edges before after : List ℕ) : Type 0 where
+pub record ReachMarked (g : Graph) (dist last : List ℕ) (root start : ℕ) (edges before after : List ℕ) (r : ℕ) : Type 0 where
   pub vertex : ℕ
   pub nearest : Nearest g dist (treeOf start edges) vertex
-  pub marks : Marked (λ e. member e (edges ++ trailOf last root vertex)) before after
+  pub marks : EdgesMarked (edges ++ trailOf last root vertex) before after (mostInPiece + mostOnPath) r
 
 -- What marking root j's part asks: a byte for each place, pieces that are held, and, at a place whose byte is j, a piece that may be marked
 -- with the path to it. Of other places nothing is asked: no path need lead to them.
@@ -78,10 +96,10 @@ pub data AssignedAre (g : Graph) (dist last : List ℕ) (root : ℕ) (starts cut
       → edges ≡ segment cuts members (getD places i 0) ++ trailOf last root v → AssignedAre g dist last root starts cuts members places assignment j edges
 
 -- Those edges were marked.
-pub record AssignedMarked (g : Graph) (dist last : List ℕ) (root : ℕ) (starts cuts members places assignment : List ℕ) (j : ℕ) (before after : List ℕ) : Type 0 where
+pub record AssignedMarked (g : Graph) (dist last : List ℕ) (root : ℕ) (starts cuts members places assignment : List ℕ) (j : ℕ) (before after : List ℕ) (r : ℕ) : Type 0 where
   pub edges : List ℕ
   pub are : AssignedAre g dist last root starts cuts members places assignment j edges
-  pub marks : Marked (λ e. member e edges) before after
+  pub marks : EdgesMarked edges before after (mostInPiece + mostOnPath) r
 
 -- What a root's tree asks: the graph and its order, a piece left at the root, and parts that may be marked.
 pub record RootGiven (g : Graph) (order dist last : List ℕ) (root : ℕ) (starts cuts members : List ℕ) (left : ℕ) (places assignment : List ℕ) (j : ℕ) (tree : List ℕ) : Type 0 where

@@ -10,12 +10,10 @@ use order::order::rise_edges;
 use unions::union::keep_union;
 ghost use Prim.Native.Nat.{_≤_};
 ghost use lib.ListN.{length};
-ghost use Rattle.lists.specs.Lists.{member};
 ghost use Rattle.lists.specs.Segments.{segment};
 ghost use Rattle.graph.specs.Bytes.{graphOf};
 ghost use Rattle.distance.specs.Trail.{trailOf};
-ghost use Rattle.edges.specs.Marked.{Marked};
-ghost use Rattle.rooted_cover.specs.Tree.{FirstWith, PieceGiven, BackGiven, TreeAsked, TreeKept, ReachGiven, ReachMarked, AssignedGiven, AssignedMarked, RootGiven, RootWritten};
+ghost use Rattle.rooted_cover.specs.Tree.{EdgesMarked, mostInPiece, mostOnPath, FirstWith, PieceGiven, BackGiven, KeepAsked, TreeKept, ReachGiven, ReachMarked, AssignedGiven, AssignedMarked, RootGiven, RootWritten};
 
 // The first place below a bound where the byte stands; the bound where there is none.
 fn place_with(bytes: &[u8], bound: usize, j: usize) -> usize
@@ -32,40 +30,50 @@ fn place_with(bytes: &[u8], bound: usize, j: usize) -> usize
     bound
 }
 
-// Marks the edges of piece c.
-fn mark_piece(cuts: &[u16], members: &[u16], c: u16, marks: &mut [u8])
+// Marks the edges of piece c. Says how many.
+fn mark_piece(cuts: &[u16], members: &[u16], c: u16, marks: &mut [u8]) -> usize
     requires { ⌜ PieceGiven (now cuts) (now members) c (length (now marks)) ⌝ }
-    ensures { λ _. ⌜ Marked (λ e. member e (segment (now (cuts .entry)) (now (members .entry)) c)) (now (marks .entry))
-        (now (marks .exit)) ⌝ }
+    ensures { λ r. ⌜ EdgesMarked (segment (now (cuts .entry)) (now (members .entry)) c) (now (marks .entry))
+        (now (marks .exit)) mostInPiece r ⌝ }
 {
-    mark_edges(edges_at(cuts, members, wide(c)), marks);
+    let edges = edges_at(cuts, members, wide(c));
+    mark_edges(edges, marks);
+    edges.len()
 }
 
-// Marks the edges of the path from vertex v back to the root.
-fn mark_back(last: &[u32], root: usize, v: usize, marks: &mut [u8])
+// Marks the edges of the path from vertex v back to the root. Says how many.
+fn mark_back(last: &[u32], root: usize, v: usize, marks: &mut [u8]) -> usize
     requires { ⌜ BackGiven (now last) root v (length (now marks)) ⌝ }
-    ensures { λ _. ⌜ Marked (λ e. member e (trailOf (now (last .entry)) root v)) (now (marks .entry))
-        (now (marks .exit)) ⌝ }
+    ensures { λ r. ⌜ EdgesMarked (trailOf (now (last .entry)) root v) (now (marks .entry)) (now (marks .exit))
+        mostOnPath r ⌝ }
 {
     let mut path = [0u16; 256];
     let r = path_back(last, root, v, &mut path);
     mark_edges(&path[..r], marks);
+    r
 }
 
-// The marked edges in order, kept where their ends are not yet joined, written to the front of the array by rising
-// number. Says how many.
-fn keep_risen(b: &[u8], order: &[u16], marks: &[u8], tree: &mut [u16], classes: &[u8]) -> usize
-    requires { ⌜ TreeAsked (graphOf (now b) (now classes)) (now order) (now tree) ⌝ }
+// The marked edges in order, at most so many, kept where their ends are not yet joined, written to the front of the
+// array by rising number. Says how many.
+fn keep_risen(
+    b: &[u8],
+    order: &[u16],
+    marks: &[u8],
+    tree: &mut [u16],
+    classes: &[u8],
+    most: usize,
+) -> usize
+    requires { ⌜ KeepAsked (graphOf (now b) (now classes)) (now order) (now marks) (now tree) most ⌝ }
     ensures { λ r. ⌜ TreeKept (graphOf (now (b .entry)) (now (classes .entry))) (now (marks .entry)) (now (tree .entry))
         (now (tree .exit)) r ⌝ }
 {
-    let r = keep_union(b, order, marks, tree, classes);
+    let r = keep_union(b, order, marks, tree, classes, most);
     rise_edges(&mut tree[..r]);
     r
 }
 
 // Marks the edges of a part, and of the path from its vertex nearest to the root back to the root, by the distances
-// from the root and the last edges.
+// from the root and the last edges. Says how many, those in both twice.
 fn mark_reach(
     b: &[u8],
     dist: &[u32],
@@ -75,18 +83,18 @@ fn mark_reach(
     edges: &[u16],
     marks: &mut [u8],
     classes: &[u8],
-)
+) -> usize
     requires { ⌜ ReachGiven (graphOf (now b) (now classes)) (now dist) (now last) root start (now edges)
         (length (now marks)) ⌝ }
-    ensures { λ _. ⌜ ReachMarked (graphOf (now (b .entry)) (now (classes .entry))) (now (dist .entry))
-        (now (last .entry)) root start (now (edges .entry)) (now (marks .entry)) (now (marks .exit)) ⌝ }
+    ensures { λ r. ⌜ ReachMarked (graphOf (now (b .entry)) (now (classes .entry))) (now (dist .entry))
+        (now (last .entry)) root start (now (edges .entry)) (now (marks .entry)) (now (marks .exit)) r ⌝ }
 {
     let v = nearest_vertex(b, dist, start, edges, classes);
     mark_edges(edges, marks);
-    mark_back(last, root, v, marks);
+    edges.len() + mark_back(last, root, v, marks)
 }
 
-// Marks the edges of the part that root j has, if it has one, and of the path to it.
+// Marks the edges of the part that root j has, if it has one, and of the path to it. Says how many, those in both twice.
 fn mark_assigned(
     b: &[u8],
     dist: &[u32],
@@ -100,16 +108,16 @@ fn mark_assigned(
     j: usize,
     marks: &mut [u8],
     classes: &[u8],
-)
+) -> usize
     requires { ⌜ AssignedGiven (graphOf (now b) (now classes)) (now dist) (now last) root (now starts) (now cuts)
         (now members) (now places) (now assignment) j (length (now marks)) ⌝ }
-    ensures { λ _. ⌜ AssignedMarked (graphOf (now (b .entry)) (now (classes .entry))) (now (dist .entry))
+    ensures { λ r. ⌜ AssignedMarked (graphOf (now (b .entry)) (now (classes .entry))) (now (dist .entry))
         (now (last .entry)) root (now (starts .entry)) (now (cuts .entry)) (now (members .entry)) (now (places .entry))
-        (now (assignment .entry)) j (now (marks .entry)) (now (marks .exit)) ⌝ }
+        (now (assignment .entry)) j (now (marks .entry)) (now (marks .exit)) r ⌝ }
 {
     let i = place_with(assignment, places.len(), j);
     if places.len() <= i {
-        return;
+        return 0;
     }
     let c = wide(places[i]);
     let start = number_at(starts, c);
@@ -122,7 +130,7 @@ fn mark_assigned(
         edges_at(cuts, members, c),
         marks,
         classes,
-    );
+    )
 }
 
 // The edges of root j's tree, written by rising number to the front of the array: of its part if it has one, a shortest
@@ -150,8 +158,8 @@ pub fn rooted_tree(
         (now (places .entry)) (now (assignment .entry)) j (now (tree .entry)) (now (tree .exit)) r ⌝ }
 {
     let mut marks = [0u8; 2048];
-    mark_piece(cuts, members, left, &mut marks);
-    mark_assigned(
+    let remaining = mark_piece(cuts, members, left, &mut marks);
+    let assigned = mark_assigned(
         b,
         dist,
         last,
@@ -165,5 +173,5 @@ pub fn rooted_tree(
         &mut marks,
         classes,
     );
-    keep_risen(b, order, &marks, tree, classes)
+    keep_risen(b, order, &marks, tree, classes, remaining + assigned)
 }

@@ -33,74 +33,74 @@ pub joined-as : {g : Graph} {e f : ℕ} {a z : List ℕ} {r t : Bool} → e ≡ 
 joined-as {e = e} {f = f} {r = r} {t = t} p q j = let edge : e ≡ f = p in let answer : r ≡ t = q in rw (edge, answer) at j
 
 -- The edges of the list before i were looked at: of those that pass the test, the first `place`, all were taken.
-pub record KeepingMarked (g : Graph) (test : ℕ → Bool) (list label₀ label out₀ out : List ℕ) (r i : ℕ) : Type 0 where
+pub record KeepingMarked (g : Graph) (test : ℕ → Bool) (list label₀ label out₀ out : List ℕ) (r i place : ℕ) : Type 0 where
   pub within : i ≤ length list
-  pub place : ℕ
   pub place-within : place ≤ length (filter test list)
   pub taking : Taking g (filter test list) place label₀ label out₀ out r
   pub rest : drop place (filter test list) ≡ filter test (drop i list)
 
-pub keeping-none : (g : Graph) (test : ℕ → Bool) (list label out : List ℕ) → KeepingMarked g test list label label out out 0 0
+pub keeping-none : (g : Graph) (test : ℕ → Bool) (list label out : List ℕ) → KeepingMarked g test list label label out out 0 0 0
 keeping-none g test list label out =
-    record { within = omega arith; place = 0; place-within = omega arith; taking = taking-none label out; rest = refl }
+    record { within = omega arith; place-within = omega arith; taking = taking-none label out; rest = refl }
 
-module _ {g : Graph} {test : ℕ → Bool} {list label₀ label out₀ out : List ℕ} {r i : ℕ} (k : KeepingMarked g test list label₀ label out₀ out r i) where
-  -- When all edges are looked at, those that pass the test are kept as the definition keeps them.
+module _ {g : Graph} {test : ℕ → Bool} {list label₀ label out₀ out : List ℕ} {r i place : ℕ} (k : KeepingMarked g test list label₀ label out₀ out r i place) where
+  -- When all that pass the test are met, they are kept as the definition keeps them.
+  pub keeping-met : Valid g → length (filter test list) ≤ place → KeptWritten g (filter test list) label₀ label out₀ out r
+  keeping-met valid all = taking-all (k .taking) valid all (k .place-within)
+
+  -- When all edges are looked at, they are.
   pub keeping-all : Valid g → length list ≤ i → KeptWritten g (filter test list) label₀ label out₀ out r
   unfolding filter
   keeping-all valid h =
-      let none : drop (k .place) (filter test list) ≡ [] = k .rest ∙ ap (filter test) (rest-none list i h) in
-      let all : length (filter test list) ≤ k .place =
-      dite (decLt (k .place) (length (filter test list)))
-      (λ l. let n = rest-next (filter test list) (k .place) l in let z : _≡_ {A = ℕ} 0 1 = cc in absurd (omega arith)) (λ l. omega arith) in
-      taking-all (k .taking) valid all (k .place-within)
+      let none : drop place (filter test list) ≡ [] = k .rest ∙ ap (filter test) (rest-none list i h) in
+      let all : length (filter test list) ≤ place =
+      dite (decLt place (length (filter test list)))
+      (λ l. let n = rest-next (filter test list) place l in let z : _≡_ {A = ℕ} 0 1 = cc in absurd (omega arith)) (λ l. omega arith) in
+      keeping-met valid all
 
   pub keeping-few : Valid g → r < g .vertices
   keeping-few valid = taking-few (k .taking) valid
 
   module _ (more : i < length list) where
     -- An edge that does not pass the test is passed by.
-    pub keeping-passed : test (getD list i 0) ≡ false → KeepingMarked g test list label₀ label out₀ out r (i + 1)
+    pub keeping-passed : test (getD list i 0) ≡ false → KeepingMarked g test list label₀ label out₀ out r (i + 1) place
     keeping-passed no-mark =
         record {
           within = omega arith;
-          place = k .place;
           place-within = k .place-within;
           taking = k .taking;
           rest = k .rest ∙ filter-passed test (rest-next list i more) no-mark;
         }
 
     module _ (mark : test (getD list i 0) ≡ true) where
-      next : drop (k .place) (filter test list) ≡ getD list i 0 ∷ filter test (drop (i + 1) list)
+      next : drop place (filter test list) ≡ getD list i 0 ∷ filter test (drop (i + 1) list)
       next = k .rest ∙ filter-taken test (rest-next list i more) mark
 
-      inside : k .place < length (filter test list)
-      inside = next-inside (filter test list) (k .place) next
+      pub inside : place < length (filter test list)
+      inside = next-inside (filter test list) place next
 
-      edge-is : getD (filter test list) (k .place) 0 ≡ getD list i 0
-      edge-is = next-is (filter test list) (k .place) next
+      edge-is : getD (filter test list) place 0 ≡ getD list i 0
+      edge-is = next-is (filter test list) place next
 
       -- One whose ends were joined is not kept,
-      pub keeping-joined : {label₂ : List ℕ} → length label₂ ≡ length label → Joined g (getD list i 0) label label₂ false → KeepingMarked g test list label₀ label₂ out₀ out r (i + 1)
+      pub keeping-joined : {label₂ : List ℕ} → length label₂ ≡ length label → Joined g (getD list i 0) label label₂ false → KeepingMarked g test list label₀ label₂ out₀ out r (i + 1) (place + 1)
       keeping-joined same j =
           record {
             within = omega arith;
-            place = k .place + 1;
             place-within = omega (arith, inside);
             taking = taking-passed (k .taking) inside same (rw edge-is j);
-            rest = next-rest (filter test list) (k .place) next;
+            rest = next-rest (filter test list) place next;
           }
 
       -- and one whose ends were not is.
       pub keeping-more : {label₂ : List ℕ} → length label₂ ≡ length label → Joined g (getD list i 0) label label₂ true → r < length out
-          → KeepingMarked g test list label₀ label₂ out₀ (set out r (getD list i 0)) (r + 1) (i + 1)
+          → KeepingMarked g test list label₀ label₂ out₀ (set out r (getD list i 0)) (r + 1) (i + 1) (place + 1)
       keeping-more {label₂} same j room =
-          let edge-same : getD (filter test list) (k .place) 0 ≡ getD list i 0 = edge-is in
-          let joined : Joined g (getD (filter test list) (k .place) 0) label label₂ true = rw edge-same j in
+          let edge-same : getD (filter test list) place 0 ≡ getD list i 0 = edge-is in
+          let joined : Joined g (getD (filter test list) place 0) label label₂ true = rw edge-same j in
           record {
             within = omega arith;
-            place = k .place + 1;
             place-within = omega (arith, inside);
             taking = rw edge-same at (taking-more (k .taking) inside same joined room);
-            rest = next-rest (filter test list) (k .place) next;
+            rest = next-rest (filter test list) place next;
           }

@@ -18,14 +18,17 @@ use Rattle.rules.specs.Forest.{keep}
 use Rattle.rules.specs.RootedTrial.{unionTree}
 use Rattle.forest_laws.proofs.Ordering.{of-ordered}
 
-module _ (g : Graph) (root : ℕ) (union marks : List ℕ) where
-  pub union-edges : ((e : ℕ) → e < edgeCount g → getD marks e 0 ≡ cond (member e union) 1 0)
-      → rise (keep g apart (filter (marked marks) (ordered g))) ≡ unionTree g root union .edges
-  unfolding unionTree
-  union-edges q =
-      ap (λ l. rise (keep g apart l))
-      (filter-same (marked marks) (λ e. member e union) (ordered g)
-      (λ e m. ap (λ x. eqb x 1) (q e (of-ordered g m)) ∙ bit-says (member e union)))
+-- The marked edges are those of the union,
+pub marked-union : (g : Graph) (union marks : List ℕ) → ((e : ℕ) → e < edgeCount g → getD marks e 0 ≡ cond (member e union) 1 0)
+    → filter (marked marks) (ordered g) ≡ filter (λ e. member e union) (ordered g)
+marked-union g union marks q =
+    filter-same (marked marks) (λ e. member e union) (ordered g) (λ e m. ap (λ x. eqb x 1) (q e (of-ordered g m)) ∙ bit-says (member e union))
+
+-- and so are those kept.
+pub union-edges : (g : Graph) (root : ℕ) (union marks : List ℕ) → ((e : ℕ) → e < edgeCount g → getD marks e 0 ≡ cond (member e union) 1 0)
+    → rise (keep g apart (filter (marked marks) (ordered g))) ≡ unionTree g root union .edges
+unfolding unionTree
+union-edges g root union marks q = ap (λ l. rise (keep g apart l)) (marked-union g union marks q)
 
 -- A union's tree depends only on which edges are in the union.
 pub union-same : (g : Graph) (root : ℕ) (xs ys : List ℕ) → ((e : ℕ) → member e xs ≡ member e ys) → unionTree g root xs ≡ unionTree g root ys

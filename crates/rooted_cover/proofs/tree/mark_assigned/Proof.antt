@@ -19,8 +19,8 @@ module _ {g : Graph} {dist last : List ℕ} {root s₁ s₂ : ℕ} {e₁ e₂ : 
   given-named : {room : ℕ} → ReachGiven g dist last root s₂ e₂ room → ReachGiven g dist last root s₁ e₁ room
   given-named r = rw (p, q) r
 
-marked-as : {g : Graph} {dist last : List ℕ} {root s₁ s₂ : ℕ} {e₁ e₂ before after : List ℕ} → s₁ ≡ s₂ → e₁ ≡ e₂
-    → ReachMarked g dist last root s₁ e₁ before after → ReachMarked g dist last root s₂ e₂ before after
+marked-as : {g : Graph} {dist last : List ℕ} {root s₁ s₂ r : ℕ} {e₁ e₂ before after : List ℕ} → s₁ ≡ s₂ → e₁ ≡ e₂
+    → ReachMarked g dist last root s₁ e₁ before after r → ReachMarked g dist last root s₂ e₂ before after r
 marked-as p q r = rw q at (rw p at r)
 
 -- Where a place was found.

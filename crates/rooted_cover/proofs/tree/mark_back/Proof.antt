@@ -1,8 +1,9 @@
 -- `rooted_cover::tree::mark_back` meets its contract. Assumes nothing.
 use mathlib.Core.Path.{sym, ap, _∙_}
+use native.Mathlib.Omega.{arith}
 use lib.ListN.{length}
 use borrow.Author.Needs.{needs}
-use Rattle.lists.proofs.Put.{put-taken, put-count}
+use Rattle.lists.proofs.Put.{put-taken, put-count, put-fits}
 use Rattle.unions.proofs.TreeMarks.{each-below, marked-named}
 use Rattle.rooted_cover.proofs.tree.mark_back.Statement.{statement}
 use Rattle.rooted_cover.proofs.tree.mark_back.Tie as tie
@@ -26,7 +27,10 @@ same-length : tie.Need-same-length
 same-length c = search needs
 
 returns : tie.Need-returns
-returns c = let m = c .before .before in marked-named (put-taken (m .before .before .before .before .path-back .ensures)) (m .mark-edges .ensures)
+returns c =
+    let m = c .before .before in
+    let p = m .before .before .before .before .path-back .ensures in
+    record { marks = marked-named (put-taken p) (m .mark-edges .ensures); count = put-count p; within = omega (arith, put-fits p) }
 
 pub mark-back-spec : {M : Type 1} → statement M
 mark-back-spec =

@@ -1,5 +1,6 @@
 -- `rooted_cover::tree::mark_piece` meets its contract. Assumes nothing.
-use mathlib.Core.Path.{_≡_}
+use mathlib.Core.Path.{_≡_, ap}
+use lib.ListN.{length}
 use borrow.Author.Needs.{needs}
 use Rattle.lists.specs.Segments.{segment}
 use Rattle.cover.proofs.ChosenBytes.{held-readable, held-edges}
@@ -28,7 +29,9 @@ same-length : tie.Need-same-length
 same-length c = search needs
 
 returns : tie.Need-returns
-returns c = let m = c .before .before in marked-named (taken (m .before)) (m .mark-edges .ensures)
+returns c =
+    let m = c .before .before in
+    record { marks = marked-named (taken (m .before)) (m .mark-edges .ensures); count = ap length (taken (m .before)); within = search needs }
 
 pub mark-piece-spec : {M : Type 1} → statement M
 mark-piece-spec = tie.close (tie.spec wide-requires edges-at-requires mark-edges-requires same-length returns)

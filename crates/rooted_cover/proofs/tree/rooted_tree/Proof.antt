@@ -1,6 +1,7 @@
 -- `rooted_cover::tree::rooted_tree` meets its contract. Assumes nothing.
+use native.Mathlib.Omega.{arith}
 use borrow.Author.Needs.{needs}
-use Rattle.rooted_cover.proofs.RootUnion.{root-written}
+use Rattle.rooted_cover.proofs.RootUnion.{root-few, root-written}
 use Rattle.rooted_cover.proofs.tree.rooted_tree.Statement.{statement}
 use Rattle.rooted_cover.proofs.tree.rooted_tree.Tie as tie
 
@@ -18,13 +19,22 @@ slice-aggregate-mark-assigned : tie.Need-slice-aggregate-mark-assigned
 slice-aggregate-mark-assigned c = search needs
 
 mark-assigned-requires : tie.Need-mark-assigned-requires
-mark-assigned-requires c κs = let p = c .before .before in rw (p .mark-piece .ensures .size) (start p .pre .assigned)
+mark-assigned-requires c κs = let p = c .before .before in rw (p .mark-piece .ensures .marks .size) (start p .pre .assigned)
 
 slice-aggregate-keep-risen : tie.Need-slice-aggregate-keep-risen
 slice-aggregate-keep-risen c = search needs
 
+add-keep-risen : tie.Need-add-keep-risen
+add-keep-risen c = let m = c .before .before .before in omega (arith, m .mark-assigned .ensures .marks .within, m .before .before .before .mark-piece .ensures .within)
+
 keep-risen-requires : tie.Need-keep-risen-requires
-keep-risen-requires c κs = search needs
+keep-risen-requires c κs =
+    let m = c .before .before .before in
+    let p = m .before .before .before in
+    record {
+      asked = start p .pre .asked;
+      few = root-few (start p .pre .asked .valid) (start p .args .left) (p .mark-piece .ensures) (m .mark-assigned .ensures);
+    }
 
 same-length : tie.Need-same-length
 same-length c = search needs
@@ -45,6 +55,7 @@ rooted-tree-spec =
     slice-aggregate-mark-assigned
     mark-assigned-requires
     slice-aggregate-keep-risen
+    add-keep-risen
     keep-risen-requires
     same-length
     returns)

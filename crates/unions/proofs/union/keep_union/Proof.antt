@@ -45,7 +45,8 @@ slice-aggregate-keep-marked c = search needs
 
 keep-marked-requires : tie.Need-keep-marked-requires
 keep-marked-requires c κs =
-    record { labelable = record { valid = s (c .before .before .before) .pre .valid; room = search needs }; room = search needs }
+    let s = s (c .before .before .before) in
+    record { keepable = record { labelable = record { valid = s .pre .valid; room = search needs }; room = search needs }; few = s .pre .few }
 
 same-length : tie.Need-same-length
 same-length c = search needs
