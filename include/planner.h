@@ -123,7 +123,8 @@ uint32_t planner_walk(uint32_t kind, size_t k, const uint8_t *graph, size_t grap
 
 /*
  * Any question: three functions, with the lists that it brings. A program in C or C++ has planner_question for this, further
- * below; these are for callers without a C compiler.
+ * below; these are for callers without a C compiler. A version with a list more has two parameters more here: compile what
+ * calls these three, by planner_question too, with the header of the archive that is linked.
  *
  * `brought` has a bit for each list. A list whose bit is 0 is not read; its pointer is not null even so. A list whose bit is
  * 1 is brought, of no bytes too, but for vans beside an unrooted question, which are not read. Whatever is refused before a

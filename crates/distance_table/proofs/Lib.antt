@@ -9,3 +9,5 @@ pub mod NearestSoFar
 pub mod RowsFilled
 -- the path marked for a part is a shortest one
 pub mod RootPath
+-- roots at one vertex have the same rows of distances
+pub mod SameRows

@@ -1,6 +1,6 @@
 -- The words of the vertices have the roots within the limit, by the table of distances. What stands behind the words stays as it came.
 -- Assumes nothing.
-use Prim.Native.Nat.{ℕ}
+use Prim.Native.Nat.{ℕ, _+_}
 use mathlib.Core.Path.{_≡_, ap, _∙_}
 use mathlib.Core.List.{List, _++_}
 use native.Mathlib.Omega.{arith}
@@ -11,6 +11,7 @@ use Rattle.lists.proofs.OnlyFirst.{only-front}
 use Rattle.lists.proofs.Zeros.{zeros-at}
 use Rattle.graph.specs.Graph.{Graph}
 use Rattle.distance_table.specs.Tabled.{distanceIn}
+use Rattle.distance_table.proofs.SameRows.{rows-alike}
 use Rattle.near.specs.Bits.{bitAt}
 use Rattle.near.specs.Vertices.{NearAsked, NearVertices}
 use Rattle.rooted_state.specs.Prepared.{LimitReady}
@@ -32,12 +33,16 @@ module _ {g : Graph} {roots : List ℕ} {limit : ℕ} {distances words : List �
     pub lent : length (take n words) ≡ n
     lent = length-take-le n words (omega (arith, a .room))
 
-    pub front-asked : NearAsked (length roots) distances (take n words)
+    pub front-asked : NearAsked (length roots) distances (take n words) roots
     front-asked =
         record {
           roots-few = a .ready .given .few;
+          roots-given = omega arith;
           room = rw (lent, n-is) (a .ready .distances-are .room);
           zeros = λ v h. getD-take n words v 0 (omega (arith, lent)) ∙ a .zeros v (omega (arith, lent, a .room));
+          same-rows =
+              λ j h q v l.
+              rw (lent, n-is) (rows-alike (a .ready .distances-are) j (j + 1) (omega arith) h q v (omega (arith, lent)));
         }
 
     pub front-near : (front : List ℕ) → NearVertices (length roots) limit distances (take n words) front → WithinDone g roots limit words (front ++ drop n words)

@@ -17,5 +17,5 @@ pub fn roots_within(
         (now (words .entry)) (now (words .exit)) ⌝ }
 {
     let n = graph::vertex_count(b, classes);
-    near_vertices(distances, roots.len(), limit as u32, &mut words[..n]);
+    near_vertices(distances, roots.len(), limit as u32, &mut words[..n], roots);
 }
