@@ -1,6 +1,7 @@
 // Links libplanner_c.a from where `rt staticlib planner_c` writes it, or from the folder that PLANNER_LIB_DIR names.
 // Without it only the plain Rust version is measured. Beside it, where PLANNER_BEFORE_DIR names a folder, the library of an
-// earlier state: libplanner_before.a, whose names begin with `before_`; it may be of a time before questions had lists.
+// earlier state: libplanner_before.a, whose names begin with `before_`, and its header planner.h; it may be of a time before
+// questions had lists, or before they had vans.
 use std::env;
 use std::fs::read;
 use std::path::PathBuf;
@@ -22,15 +23,27 @@ fn main() {
         println!("cargo:rustc-link-lib=static=planner_c");
     }
     println!("cargo:rerun-if-env-changed=PLANNER_BEFORE_DIR");
-    println!("cargo:rustc-check-cfg=cfg(earlier, earlier_lists)");
+    println!("cargo:rustc-check-cfg=cfg(earlier)");
+    println!("cargo:rustc-check-cfg=cfg(earlier_lists, values(\"none\", \"classes\", \"all\"))");
     if let (true, Ok(folder)) = (archive.exists(), env::var("PLANNER_BEFORE_DIR")) {
         println!("cargo:rustc-cfg=earlier");
+        println!("cargo:rustc-cfg=earlier_lists=\"{}\"", lists(&folder));
         println!("cargo:rustc-link-search=native={folder}");
         println!("cargo:rustc-link-lib=static=planner_before");
-        let library = read(format!("{folder}/libplanner_before.a")).unwrap_or_default();
-        let name = b"before_ask\0";
-        if library.windows(name.len()).any(|bytes| bytes == name) {
-            println!("cargo:rustc-cfg=earlier_lists");
-        }
+    }
+}
+
+/// The lists that the earlier library's questions may bring: its general functions have parameters for no others.
+fn lists(folder: &str) -> &'static str {
+    let has = |file: &str, name: &[u8]| {
+        let bytes = read(format!("{folder}/{file}")).expect(file);
+        bytes.windows(name.len()).any(|bytes| bytes == name)
+    };
+    if !has("libplanner_before.a", b"before_ask\0") {
+        return "none";
+    }
+    match has("planner.h", b"PLANNER_VANS") {
+        true => "all",
+        false => "classes",
     }
 }

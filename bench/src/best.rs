@@ -3,12 +3,13 @@
 use crate::assign::Assigned;
 use crate::question::{admit, answer_cover, is_rooted, Question, BUFFER, NO_COVER};
 use crate::rooted::Placed;
+use crate::roots::Roots;
 use crate::{rooted, unrooted};
 
 /// Answers with the number of a case or of a refusal; the values and the buffer's front are written as the case has them.
 pub fn best(question: Question, values: &mut [u64; 3], buffer: &mut [u8]) -> u32 {
     let Question { kind, k, .. } = question;
-    let graph = match admit(question) {
+    let graph = match admit(&question) {
         Ok(graph) => graph,
         Err(number) => return number,
     };
@@ -16,17 +17,18 @@ pub fn best(question: Question, values: &mut [u64; 3], buffer: &mut [u8]) -> u32
         return 23;
     }
     let (limit, trees) = if is_rooted(kind) {
-        let Ok(mut prepared) = rooted::prepare(&graph, k, u64::MAX) else {
+        let roots = Roots::new(k, question.vans);
+        let Ok(mut prepared) = rooted::prepare(&graph, &roots, u64::MAX) else {
             return NO_COVER;
         };
         // At 0 nothing is split, so that all vertices must be joined to roots by weightless edges, and that is all.
         let at_zero = prepared.heaviest_edge == 0;
         let limit = search(at_zero, graph.total(), |limit| prepared.accepts(limit));
         let Placed { parts, left, assigned, .. } = prepared.place(limit);
-        let Assigned::Roots(roots) = assigned else {
+        let Assigned::Roots(assigned) = assigned else {
             unreachable!("the limit found is accepted");
         };
-        (limit, prepared.trees(parts, left, &roots))
+        (limit, prepared.trees(parts, left, &assigned))
     } else {
         let prepared = unrooted::prepare(&graph);
         if prepared.components > k {

@@ -6,7 +6,7 @@ use crate::question::{admit, is_rooted, Question};
 
 /// Answers 0 for yes, with the heaviest weight in the first value, otherwise with the number of the refusal.
 pub fn check(question: Question, cover: &[u8], values: &mut [u64; 3]) -> u32 {
-    match checked(question, cover) {
+    match checked(&question, cover) {
         Ok(Checked { heaviest, .. }) => {
             values[0] = heaviest;
             0
@@ -68,8 +68,12 @@ impl Filed<'_> {
         (self.field(2 + self.t + i), self.field(2 + self.t + self.q + i))
     }
 
-    /// Whether the starts follow the rule of the kind.
-    fn starts_fit(&self, kind: u32, k: usize, n: usize) -> bool {
+    /// Whether the starts follow the rule of the kind: rooted, they are the list of vans byte by byte, if there is one.
+    fn starts_fit(&self, question: &Question, n: usize) -> bool {
+        let Question { kind, k, .. } = *question;
+        if let Some(list) = question.listed() {
+            return self.t == k && self.bytes[4..4 + 2 * k] == *list;
+        }
         let mut starts = (0..self.t).map(|tree| self.start(tree) as usize);
         if is_rooted(kind) {
             return starts.eq(0..k);
@@ -97,11 +101,10 @@ pub struct Checked<'a> {
 }
 
 /// Checks cover bytes, or refuses them: as a question is, or with 31 to 35.
-pub fn checked<'a>(question: Question, cover: &'a [u8]) -> Result<Checked<'a>, u32> {
-    let Question { kind, k, .. } = question;
+pub fn checked<'a>(question: &Question, cover: &'a [u8]) -> Result<Checked<'a>, u32> {
     let graph = admit(question)?;
     let filed = Filed::read(cover)?;
-    if !filed.starts_fit(kind, k, graph.n) {
+    if !filed.starts_fit(question, graph.n) {
         return Err(32);
     }
     if !filed.entries_fit(graph.edges.len()) {

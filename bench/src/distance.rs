@@ -4,43 +4,48 @@ use std::cmp::Reverse;
 use std::collections::BinaryHeap;
 
 use crate::graph::{Around, Graph};
+use crate::roots::Roots;
 
 /// The distance where no path leads: above every limit.
 const NONE: u32 = u32::MAX;
 
-/// The arcs of the whole graph and the distance of each vertex from each root.
-pub struct Distances {
+/// The arcs of the whole graph and the distance of each vertex from each vertex that is a root, in the order of their places.
+pub struct Distances<'a> {
+    roots: &'a Roots,
     around: Around,
     from: Vec<Vec<u32>>,
 }
 
-impl Distances {
-    /// The distances from the roots 0 to k - 1.
-    pub fn new(graph: &Graph, k: usize) -> Distances {
+impl Distances<'_> {
+    /// The distances from the roots: one search for all trees that start at a vertex.
+    pub fn new<'a>(graph: &Graph, roots: &'a Roots) -> Distances<'a> {
         let around = Around::new(graph, 0..graph.edges.len() as u16);
         let mut heap = BinaryHeap::with_capacity(2 * graph.edges.len() + 1);
-        let from = (0..k as u16).map(|root| from_root(&around, graph.n, root, &mut heap)).collect();
-        Distances { around, from }
+        let from_root = |root| from_root(&around, graph.n, root, &mut heap);
+        let from = roots.vertices().map(from_root).collect();
+        Distances { roots, around, from }
     }
 
-    /// The roots within the limit of each vertex, as bits.
+    /// The trees whose roots are within the limit of each vertex, as bits.
     pub fn near(&self, limit: u64) -> [u32; 256] {
         let limit = limit.min(u64::from(NONE - 1)) as u32;
         let mut near = [0u32; 256];
-        for (root, distances) in self.from.iter().enumerate() {
+        for (place, distances) in self.from.iter().enumerate() {
+            let trees = self.roots.trees(place);
             for (bits, distance) in near.iter_mut().zip(distances) {
-                *bits |= u32::from(*distance <= limit) << root;
+                *bits |= if *distance <= limit { trees } else { 0 };
             }
         }
         near
     }
 
-    /// Adds the edges of a shortest path from a root to the nearest of some vertices, at least one of which it reaches.
-    pub fn path_to(&self, root: usize, vertices: impl Iterator<Item = u16>, path: &mut Vec<u16>) {
-        let distance = &self.from[root];
+    /// Adds the edges of a shortest path from a tree's root to the nearest of some vertices, at least one of which it reaches.
+    pub fn path_to(&self, tree: usize, vertices: impl Iterator<Item = u16>, path: &mut Vec<u16>) {
+        let place = self.roots.place(tree);
+        let (root, distance) = (self.roots.vertex(place), &self.from[place]);
         let nearest = vertices.min_by_key(|&v| distance[v as usize]);
         let end = nearest.expect("a part has vertices");
-        let led_back = self.back(distance, root as u16, end, &mut [false; 256], path);
+        let led_back = self.back(distance, root, end, &mut [false; 256], path);
         assert!(led_back, "a vertex reached");
     }
 

@@ -1,6 +1,7 @@
 //! The order of the edges, joined vertices and the forest.
 
 use crate::graph::Graph;
+use crate::roots::Roots;
 
 /// The edges by weight, then number.
 pub fn order(graph: &Graph) -> Vec<u16> {
@@ -18,9 +19,14 @@ impl Joined {
         Joined((0..n as u16).collect())
     }
 
-    /// The first k of n vertices ("yards") joined, and no others.
-    pub fn rooted(n: usize, k: usize) -> Joined {
-        Joined((0..n as u16).map(|v| if (v as usize) < k { 0 } else { v }).collect())
+    /// Those of n vertices that are roots ("yards") joined, and no others.
+    pub fn rooted(n: usize, roots: &Roots) -> Joined {
+        if let Roots::First(k) = roots {
+            return Joined((0..n as u16).map(|v| if (v as usize) < *k { 0 } else { v }).collect());
+        }
+        let mut joined = Joined::apart(n);
+        roots.vertices().for_each(|root| joined.0[root as usize] = roots.vertex(0));
+        joined
     }
 
     /// The vertex that stands for all that are joined to this one.

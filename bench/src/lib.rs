@@ -18,6 +18,7 @@ pub mod measure;
 pub mod planners;
 pub mod question;
 pub mod rooted;
+pub mod roots;
 pub mod split;
 pub mod trial;
 pub mod unrooted;

@@ -1,6 +1,6 @@
 //! Linked libraries: the functions of `include/planner.h`, by the names that each library exports them under.
 
-use crate::question::Question;
+use crate::question::{Question, CLASSES, VANS};
 
 type Bytes = *const u8;
 type Room = *mut u8;
@@ -16,21 +16,39 @@ type Walk = unsafe extern "C" fn(
 ) -> u32;
 #[rustfmt::skip]
 type Ask = unsafe extern "C" fn(
-    u32, u64, u32, usize, Bytes, usize, u32, Bytes, usize, Values, Room, usize,
+    u32, u64, u32, usize, Bytes, usize, u32, Bytes, usize, Bytes, usize, Values, Room, usize,
 ) -> u32;
 #[rustfmt::skip]
 type Verify = unsafe extern "C" fn(
-    u32, usize, Bytes, usize, u32, Bytes, usize, Bytes, usize, Values,
+    u32, usize, Bytes, usize, u32, Bytes, usize, Bytes, usize, Bytes, usize, Values,
 ) -> u32;
 #[rustfmt::skip]
 type Route = unsafe extern "C" fn(
-    u32, usize, Bytes, usize, u32, Bytes, usize, Bytes, usize, usize, Values, Room, usize,
+    u32, usize, Bytes, usize, u32, Bytes, usize, Bytes, usize, Bytes, usize, usize, Values, Room, usize,
 ) -> u32;
 
-/// What `planner_ask` is asked, and the bit of a list of classes.
+/// The general functions of the states before questions had vans: the same without that list.
+#[cfg(earlier_lists = "classes")]
+mod by_classes {
+    use super::{Bytes, Room, Values};
+
+    #[rustfmt::skip]
+    pub type Ask = unsafe extern "C" fn(
+        u32, u64, u32, usize, Bytes, usize, u32, Bytes, usize, Values, Room, usize,
+    ) -> u32;
+    #[rustfmt::skip]
+    pub type Verify = unsafe extern "C" fn(
+        u32, usize, Bytes, usize, u32, Bytes, usize, Bytes, usize, Values,
+    ) -> u32;
+    #[rustfmt::skip]
+    pub type Route = unsafe extern "C" fn(
+        u32, usize, Bytes, usize, u32, Bytes, usize, Bytes, usize, usize, Values, Room, usize,
+    ) -> u32;
+}
+
+/// What `planner_ask` is asked.
 const TRIAL: u32 = 0;
 const BEST: u32 = 1;
-const CLASSES: u32 = 1;
 
 /// The functions of a library: those of questions without lists, and the general ones, if it has them.
 #[derive(Clone, Copy)]
@@ -43,10 +61,18 @@ pub struct Library {
 }
 
 #[derive(Clone, Copy)]
-struct General {
-    ask: Ask,
-    verify: Verify,
-    route: Route,
+enum General {
+    All {
+        ask: Ask,
+        verify: Verify,
+        route: Route,
+    },
+    #[cfg(earlier_lists = "classes")]
+    Classes {
+        ask: by_classes::Ask,
+        verify: by_classes::Verify,
+        route: by_classes::Route,
+    },
 }
 
 /// The function that a library exports under a name.
@@ -68,7 +94,7 @@ pub fn now() -> Library {
         best: exported!("planner_best": Best),
         check: exported!("planner_check": Check),
         walk: exported!("planner_walk": Walk),
-        general: Some(General {
+        general: Some(General::All {
             ask: exported!("planner_ask": Ask),
             verify: exported!("planner_verify": Verify),
             route: exported!("planner_route": Route),
@@ -84,13 +110,19 @@ pub fn before() -> Library {
         best: exported!("before_best": Best),
         check: exported!("before_check": Check),
         walk: exported!("before_walk": Walk),
-        #[cfg(earlier_lists)]
-        general: Some(General {
+        #[cfg(earlier_lists = "all")]
+        general: Some(General::All {
             ask: exported!("before_ask": Ask),
             verify: exported!("before_verify": Verify),
             route: exported!("before_route": Route),
         }),
-        #[cfg(not(earlier_lists))]
+        #[cfg(earlier_lists = "classes")]
+        general: Some(General::Classes {
+            ask: exported!("before_ask": by_classes::Ask),
+            verify: exported!("before_verify": by_classes::Verify),
+            route: exported!("before_route": by_classes::Route),
+        }),
+        #[cfg(earlier_lists = "none")]
         general: None,
     }
 }
@@ -98,8 +130,14 @@ pub fn before() -> Library {
 // SAFETY of all calls: the functions ask nothing of the numbers; each pointer is to as many bytes as its length says, that of the
 // values to three numbers, of a walk's to two, and what is written is apart from everything else, being borrowed mutably.
 impl Library {
-    pub fn takes_lists(&self) -> bool {
-        self.general.is_some()
+    /// The bits of the lists that it takes.
+    pub fn lists(&self) -> u32 {
+        match self.general {
+            None => 0,
+            Some(General::All { .. }) => CLASSES | VANS,
+            #[cfg(earlier_lists = "classes")]
+            Some(General::Classes { .. }) => CLASSES,
+        }
     }
 
     /// The general functions; questions with lists are put to no library without them.
@@ -114,9 +152,9 @@ impl Library {
         values: &mut [u64; 3],
         buffer: &mut [u8],
     ) -> u32 {
-        let Question { kind, k, sheet, classes } = question;
-        if let Some(classes) = classes {
-            return self.ask(TRIAL, limit, question, classes, values, buffer);
+        let Question { kind, k, sheet, .. } = question;
+        if question.brought() != 0 {
+            return self.ask(TRIAL, limit, question, values, buffer);
         }
         let (graph, length) = (sheet.as_ptr(), sheet.len());
         let (values, room, most) = (values.as_mut_ptr(), buffer.as_mut_ptr(), buffer.len());
@@ -124,55 +162,65 @@ impl Library {
     }
 
     pub fn best(&self, question: Question, values: &mut [u64; 3], buffer: &mut [u8]) -> u32 {
-        let Question { kind, k, sheet, classes } = question;
-        if let Some(classes) = classes {
-            return self.ask(BEST, 0, question, classes, values, buffer);
+        let Question { kind, k, sheet, .. } = question;
+        if question.brought() != 0 {
+            return self.ask(BEST, 0, question, values, buffer);
         }
         let (graph, length) = (sheet.as_ptr(), sheet.len());
         let (values, room, most) = (values.as_mut_ptr(), buffer.as_mut_ptr(), buffer.len());
         unsafe { (self.best)(kind, k, graph, length, values, room, most) }
     }
 
+    #[rustfmt::skip]
     fn ask(
         &self,
         asked: u32,
         limit: u64,
         question: Question,
-        classes: &[u8],
         values: &mut [u64; 3],
         buffer: &mut [u8],
     ) -> u32 {
         let Question { kind, k, sheet, .. } = question;
-        unsafe {
-            (self.general().ask)(
-                asked,
-                limit,
-                kind,
-                k,
-                sheet.as_ptr(),
-                sheet.len(),
-                CLASSES,
-                classes.as_ptr(),
-                classes.len(),
-                values.as_mut_ptr(),
-                buffer.as_mut_ptr(),
-                buffer.len(),
-            )
+        let (graph, length, lists) = (sheet.as_ptr(), sheet.len(), question.brought());
+        let [(classes, m), (vans, twice_k)] = [question.classes, question.vans].map(list);
+        let (values, room, most) = (values.as_mut_ptr(), buffer.as_mut_ptr(), buffer.len());
+        match self.general() {
+            General::All { ask, .. } => unsafe {
+                ask(
+                    asked, limit, kind, k, graph, length, lists, classes, m, vans, twice_k,
+                    values, room, most,
+                )
+            },
+            #[cfg(earlier_lists = "classes")]
+            General::Classes { ask, .. } => unsafe {
+                ask(asked, limit, kind, k, graph, length, lists, classes, m, values, room, most)
+            },
         }
     }
 
+    #[rustfmt::skip]
     pub fn check(&self, question: Question, cover: &[u8], values: &mut [u64; 3]) -> u32 {
-        let Question { kind, k, sheet, classes } = question;
-        let (graph, length) = (sheet.as_ptr(), sheet.len());
+        let Question { kind, k, sheet, .. } = question;
+        let (graph, length, lists) = (sheet.as_ptr(), sheet.len(), question.brought());
         let (filed, size, values) = (cover.as_ptr(), cover.len(), values.as_mut_ptr());
-        let Some(classes) = classes else {
+        if lists == 0 {
             return unsafe { (self.check)(kind, k, graph, length, filed, size, values) };
-        };
-        let (list, m) = (classes.as_ptr(), classes.len());
-        let verify = self.general().verify;
-        unsafe { verify(kind, k, graph, length, CLASSES, list, m, filed, size, values) }
+        }
+        let [(classes, m), (vans, twice_k)] = [question.classes, question.vans].map(list);
+        match self.general() {
+            General::All { verify, .. } => unsafe {
+                verify(
+                    kind, k, graph, length, lists, classes, m, vans, twice_k, filed, size, values,
+                )
+            },
+            #[cfg(earlier_lists = "classes")]
+            General::Classes { verify, .. } => unsafe {
+                verify(kind, k, graph, length, lists, classes, m, filed, size, values)
+            },
+        }
     }
 
+    #[rustfmt::skip]
     pub fn walk(
         &self,
         question: Question,
@@ -181,17 +229,35 @@ impl Library {
         values: &mut [u64; 2],
         buffer: &mut [u8],
     ) -> u32 {
-        let Question { kind, k, sheet, classes } = question;
-        let (graph, length, values) = (sheet.as_ptr(), sheet.len(), values.as_mut_ptr());
-        let (filed, size) = (cover.as_ptr(), cover.len());
+        let Question { kind, k, sheet, .. } = question;
+        let (graph, length, lists) = (sheet.as_ptr(), sheet.len(), question.brought());
+        let (filed, size, values) = (cover.as_ptr(), cover.len(), values.as_mut_ptr());
         let (room, most) = (buffer.as_mut_ptr(), buffer.len());
-        let walk = self.walk;
-        let Some(classes) = classes else {
+        if lists == 0 {
+            let walk = self.walk;
             return unsafe { walk(kind, k, graph, length, filed, size, tree, values, room, most) };
-        };
-        let (list, m, route) = (classes.as_ptr(), classes.len(), self.general().route);
-        unsafe {
-            route(kind, k, graph, length, CLASSES, list, m, filed, size, tree, values, room, most)
+        }
+        let [(classes, m), (vans, twice_k)] = [question.classes, question.vans].map(list);
+        match self.general() {
+            General::All { route, .. } => unsafe {
+                route(
+                    kind, k, graph, length, lists, classes, m, vans, twice_k, filed, size, tree,
+                    values, room, most,
+                )
+            },
+            #[cfg(earlier_lists = "classes")]
+            General::Classes { route, .. } => unsafe {
+                route(
+                    kind, k, graph, length, lists, classes, m, filed, size, tree, values, room,
+                    most,
+                )
+            },
         }
     }
+}
+
+/// The pointer and the length of a list; that of none is to no bytes.
+fn list(bytes: Option<&[u8]>) -> (Bytes, usize) {
+    let bytes = bytes.unwrap_or_default();
+    (bytes.as_ptr(), bytes.len())
 }

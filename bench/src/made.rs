@@ -86,6 +86,22 @@ pub fn surfaced(shape: Shape, size: &Size) -> (Vec<u8>, Vec<u8>) {
     (sheet, (0..size.m).map(class).collect())
 }
 
+/// A list of vans at random vertices; every fourth has the vertex of one before it.
+pub fn spread(size: &Size) -> Vec<u8> {
+    let mut made = Made(size.n as u64);
+    let mut vans: Vec<u16> = Vec::with_capacity(size.k);
+    for van in 0..size.k {
+        let again = van % 4 == 3;
+        vans.push(if again { vans[made.below(van)] } else { made.below(size.n) as u16 });
+    }
+    vans.into_iter().flat_map(u16::to_le_bytes).collect()
+}
+
+/// A list of as many vans, all of them at one vertex.
+pub fn together(size: &Size) -> Vec<u8> {
+    (size.n as u16 / 2).to_le_bytes().repeat(size.k)
+}
+
 /// The sheet bytes of a shape at a size, with made weights.
 fn weighed(
     made: &mut Made,

@@ -1,7 +1,7 @@
 //! Measures the linked planner beside the plain Rust version and prints a table. The word behind the program's name is
 //! the number of rounds (101).
 
-use bench::made::{gated, sheet, surfaced, Shape, Size, SHAPES, SIZES};
+use bench::made::{gated, sheet, spread, surfaced, together, Shape, Size, SHAPES, SIZES};
 use bench::measure::{medians, Asked, Measured};
 use bench::planners::{linked, planners, Planner};
 use bench::question::{Question, ROOTED, UNROOTED};
@@ -61,6 +61,18 @@ enum Graphs {
     Listed,
     /// Random ones with weightless edges.
     Gated,
+    /// Random ones with a list of vans: at random vertices, some of them at the same.
+    Spread,
+    /// The same with all vans at one vertex.
+    Together,
+}
+
+/// The bytes of a graph, and the lists beside them.
+#[derive(Default)]
+struct Bytes {
+    sheet: Vec<u8>,
+    classes: Option<Vec<u8>>,
+    vans: Option<Vec<u8>>,
 }
 
 impl Graphs {
@@ -70,17 +82,27 @@ impl Graphs {
             Graphs::Unlisted => "no list",
             Graphs::Listed => "classes",
             Graphs::Gated => "gates",
+            Graphs::Spread => "vans spread",
+            Graphs::Together => "vans at one",
         }
     }
 
-    /// The graph's bytes at a size, and the list beside them.
-    fn made(self, size: &Size) -> (Vec<u8>, Option<Vec<u8>>) {
-        let (sheet, classes) = match self {
-            Graphs::Of(shape) => return (sheet(shape, size), None),
-            Graphs::Gated => return (gated(Shape::Random, size), None),
-            Graphs::Unlisted | Graphs::Listed => surfaced(Shape::Random, size),
-        };
-        (sheet, matches!(self, Graphs::Listed).then_some(classes))
+    /// What is brought at a size.
+    fn made(self, size: &Size) -> Bytes {
+        let random = Shape::Random;
+        let plain = |sheet| Bytes { sheet, ..Bytes::default() };
+        let by = |vans| Bytes { vans: Some(vans), ..plain(sheet(random, size)) };
+        match self {
+            Graphs::Of(shape) => plain(sheet(shape, size)),
+            Graphs::Gated => plain(gated(random, size)),
+            Graphs::Unlisted => plain(surfaced(random, size).0),
+            Graphs::Listed => {
+                let (sheet, classes) = surfaced(random, size);
+                Bytes { classes: Some(classes), ..plain(sheet) }
+            }
+            Graphs::Spread => by(spread(size)),
+            Graphs::Together => by(together(size)),
+        }
     }
 }
 
@@ -93,8 +115,9 @@ fn main() {
     }
     let mut ratios = all_shapes(rounds);
     single_sizes(rounds);
-    ratios.extend(with_lists(rounds));
+    ratios.extend(with_classes(rounds));
     ratios.extend(with_gates(rounds));
+    ratios.extend(with_vans(rounds));
     println!();
     for (name, _, _) in QUESTIONS {
         let ratios = ratios.iter().filter(|ratio| ratio.0 == name).map(|ratio| ratio.1);
@@ -135,8 +158,8 @@ fn single_sizes(rounds: usize) {
     }
 }
 
-/// Every question on the same graphs without a list and with one; the ratios at full size.
-fn with_lists(rounds: usize) -> Vec<Ratio> {
+/// Every question on the same graphs without classes and with them; the ratios at full size.
+fn with_classes(rounds: usize) -> Vec<Ratio> {
     heading("Random graphs, weights up to 500,000, without and with a list of classes; growth: from a quarter of the edges.");
     let of = |row| [Graphs::Unlisted, Graphs::Listed].map(|graphs| (row, graphs));
     let put = |(row, graphs)| rows(row, graphs, &QUARTER_AND_FULL, rounds);
@@ -150,6 +173,14 @@ fn with_gates(rounds: usize) -> Vec<Ratio> {
     QUESTIONS.into_iter().filter_map(put).collect()
 }
 
+/// Every rooted question with a list of vans; the ratios at full size.
+fn with_vans(rounds: usize) -> Vec<Ratio> {
+    heading("Random graphs with a list of vans, spread (every fourth where another is) and all at one vertex; growth: from a quarter of the edges.");
+    let of = |row| [Graphs::Spread, Graphs::Together].map(|graphs| (row, graphs));
+    let put = |(row, graphs)| rows(row, graphs, &QUARTER_AND_FULL, rounds);
+    QUESTIONS.into_iter().filter(|row| row.2 == ROOTED).flat_map(of).filter_map(put).collect()
+}
+
 /// The rows that ask this, of both kinds.
 fn about(asked: Asked) -> impl Iterator<Item = Row> {
     QUESTIONS.into_iter().filter(move |row| row.1 == asked)
@@ -159,9 +190,9 @@ fn about(asked: Asked) -> impl Iterator<Item = Row> {
 fn rows((name, asked, kind): Row, graphs: Graphs, sizes: &[Size], rounds: usize) -> Option<Ratio> {
     let mut before = Vec::new();
     for size in sizes {
-        let (sheet, classes) = graphs.made(size);
-        let classes = classes.as_deref();
-        let question = Measured::new(asked, Question { kind, k: size.k, sheet: &sheet, classes });
+        let Bytes { sheet, classes, vans } = &graphs.made(size);
+        let (classes, vans) = (classes.as_deref(), vans.as_deref());
+        let question = Measured::new(asked, Question { kind, k: size.k, sheet, classes, vans });
         // The library of an earlier state comes last, and may not take the question.
         let planners: Vec<Planner> =
             planners().into_iter().filter(|planner| question.is_for(planner)).collect();

@@ -52,9 +52,9 @@ impl Measured<'_> {
         }
     }
 
-    /// Whether a planner takes the question. The library of an earlier state may know no lists, or refuse weightless edges.
+    /// Whether a planner takes the question. The library of an earlier state may not know its lists, or refuse weightless edges.
     pub fn is_for(&self, planner: &Planner) -> bool {
-        if self.question.classes.is_some() && !planner.takes_lists() {
+        if self.question.brought() & !planner.lists() != 0 {
             return false;
         }
         let (mut values, mut buffer) = ([0; 3], vec![0; BUFFER]);

@@ -2,7 +2,7 @@
 
 #[cfg(linked)]
 use crate::library::{self, Library};
-use crate::question::Question;
+use crate::question::{Question, CLASSES, VANS};
 use crate::{best, check, trial, walk};
 
 /// A planner.
@@ -55,12 +55,12 @@ impl Planner {
         self.name() == EARLIER
     }
 
-    /// Whether it takes lists; the library of an earlier state may not.
-    pub fn takes_lists(&self) -> bool {
+    /// The bits of the lists that it takes; the library of an earlier state may not take all.
+    pub fn lists(&self) -> u32 {
         match self {
-            Planner::Plain => true,
+            Planner::Plain => CLASSES | VANS,
             #[cfg(linked)]
-            Planner::Linked(_, library) => library.takes_lists(),
+            Planner::Linked(_, library) => library.lists(),
         }
     }
 

@@ -5,20 +5,21 @@ use crate::cover::Tree;
 use crate::distance::Distances;
 use crate::forest::{keep, order, Joined};
 use crate::graph::Graph;
+use crate::roots::Roots;
 use crate::split::{near_parts, split, splits_into, walk, Piece, Walk};
 
 /// What all limits share at which every vertex is joined to a root.
 pub struct Rooted<'a> {
     pub graph: &'a Graph,
-    pub k: usize,
+    roots: &'a Roots,
     /// The weight of the heaviest edge of the forest: below it some vertex is joined to no root.
     pub heaviest_edge: u64,
     pub walk: Walk,
-    distances: Option<Distances>,
+    distances: Option<Distances<'a>>,
     near: Vec<u32>,
 }
 
-/// What is found at a limit: the parts, what is left at each root, the roots near each part as bits, and their assignment.
+/// What is found at a limit: the parts, what is left at each vertex, the trees near each part as bits, and their assignment.
 pub struct Placed {
     pub parts: Vec<Piece>,
     pub left: Vec<Vec<u16>>,
@@ -27,29 +28,33 @@ pub struct Placed {
 }
 
 /// Prepares the limits up to one, or gives the lowest vertex that is joined to no root at it.
-pub fn prepare(graph: &Graph, k: usize, limit: u64) -> Result<Rooted<'_>, u16> {
-    let mut joined = Joined::rooted(graph.n, k);
-    let mut kept = keep(graph, &order(graph), limit, &mut joined, graph.n - k);
-    if kept.len() < graph.n - k {
-        let alone = (k as u16..graph.n as u16).find(|&v| joined.find(v) != 0);
+pub fn prepare<'a>(graph: &'a Graph, roots: &'a Roots, limit: u64) -> Result<Rooted<'a>, u16> {
+    let mut joined = Joined::rooted(graph.n, roots);
+    let due = graph.n - roots.count();
+    let mut kept = keep(graph, &order(graph), limit, &mut joined, due);
+    if kept.len() < due {
+        let home = joined.find(roots.vertex(0));
+        let alone = (0..graph.n as u16).find(|&v| joined.find(v) != home);
         return Err(alone.expect("too few edges leave a vertex alone"));
     }
     let heaviest_edge = kept.last().map_or(0, |&e| graph.key(e) >> 16);
     kept.sort_unstable();
-    let walk = walk(graph, &kept, 0..k as u16);
-    Ok(Rooted { graph, k, heaviest_edge, walk, distances: None, near: Vec::new() })
+    let walk = walk(graph, &kept, roots.vertices());
+    Ok(Rooted { graph, roots, heaviest_edge, walk, distances: None, near: Vec::new() })
 }
 
-impl Rooted<'_> {
+impl<'a> Rooted<'a> {
     /// The distances, made at their first use.
-    fn distances(&mut self) -> &Distances {
-        let (graph, k) = (self.graph, self.k);
-        self.distances.get_or_insert_with(|| Distances::new(graph, k))
+    fn distances(&mut self) -> &Distances<'a> {
+        let (graph, roots) = (self.graph, self.roots);
+        self.distances.get_or_insert_with(|| Distances::new(graph, roots))
     }
 
     /// Whether a limit above 0 is accepted.
     pub fn accepts(&mut self, limit: u64) -> bool {
-        if limit < self.heaviest_edge || !splits_into(&self.walk, self.graph.n, limit, self.k) {
+        if limit < self.heaviest_edge
+            || !splits_into(&self.walk, self.graph.n, limit, self.roots.k())
+        {
             return false;
         }
         let near = self.distances().near(limit);
@@ -69,24 +74,24 @@ impl Rooted<'_> {
         Placed { parts, left, near, assigned }
     }
 
-    /// The trees of an assignment.
-    pub fn trees(&mut self, parts: Vec<Piece>, left: Vec<Vec<u16>>, roots: &[u8]) -> Vec<Tree> {
-        let graph = self.graph;
-        let mut unions = left;
-        unions.truncate(self.k);
+    /// The trees of an assignment, which gives the tree of each part.
+    pub fn trees(&mut self, parts: Vec<Piece>, left: Vec<Vec<u16>>, assigned: &[u8]) -> Vec<Tree> {
+        let (graph, roots) = (self.graph, self.roots);
+        let mut unions = roots.shares(left);
         let mut joined = Joined::apart(graph.n);
-        for (part, &root) in parts.iter().zip(roots) {
+        for (part, &tree) in parts.iter().zip(assigned) {
             let ends = |&e: &u16| {
                 let edge = graph.edges[e as usize];
                 [edge.a, edge.b]
             };
-            let union = &mut unions[root as usize];
+            let union = &mut unions[tree as usize];
             union.extend(&part.edges);
             let vertices = part.edges.iter().flat_map(ends);
-            self.distances().path_to(root as usize, vertices, union);
+            self.distances().path_to(tree as usize, vertices, union);
             thin(graph, union, &mut joined);
         }
-        unions.into_iter().zip(0..).map(|(edges, start)| Tree::new(start, edges)).collect()
+        let start = |tree| roots.vertex(roots.place(tree));
+        unions.into_iter().zip(0..).map(|(edges, tree)| Tree::new(start(tree), edges)).collect()
     }
 }
 

@@ -62,7 +62,7 @@ pub fn splits_into(walk: &Walk, n: usize, threshold: u64, most: usize) -> bool {
     parts <= most
 }
 
-/// The set of roots near each part, as bits, given the roots near each vertex; at a threshold above 0.
+/// The trees whose roots are near each part, as bits, given those near each vertex; at a threshold above 0.
 pub fn near_parts(walk: &Walk, threshold: u64, near: &[u32; 256], parts: &mut Vec<u32>) {
     parts.clear();
     let mut left = [(0u64, 0u32); 256];

@@ -7,13 +7,14 @@ use crate::question::{
     admit, answer_cover, is_rooted, Question, BUFFER, LIMIT, NEEDS, PARTS, STOP,
 };
 use crate::rooted::Placed;
+use crate::roots::Roots;
 use crate::split::Piece;
 use crate::{rooted, unrooted};
 
 /// Answers with the number of a case or of a refusal; the values and the buffer's front are written as the case has them.
 pub fn trial(question: Question, limit: u64, values: &mut [u64; 3], buffer: &mut [u8]) -> u32 {
     let Question { kind, k, .. } = question;
-    let graph = match admit(question) {
+    let graph = match admit(&question) {
         Ok(graph) => graph,
         Err(number) => return number,
     };
@@ -24,7 +25,8 @@ pub fn trial(question: Question, limit: u64, values: &mut [u64; 3], buffer: &mut
         return 23;
     }
     if is_rooted(kind) {
-        return rooted_trial(&graph, k, limit, values, buffer);
+        let roots = Roots::new(k, question.vans);
+        return rooted_trial(&graph, &roots, limit, values, buffer);
     }
     let prepared = unrooted::prepare(&graph);
     let needs = prepared.needs(limit);
@@ -38,12 +40,12 @@ pub fn trial(question: Question, limit: u64, values: &mut [u64; 3], buffer: &mut
 /// Answers a rooted trial.
 fn rooted_trial(
     graph: &Graph,
-    k: usize,
+    roots: &Roots,
     limit: u64,
     values: &mut [u64; 3],
     buffer: &mut [u8],
 ) -> u32 {
-    let mut prepared = match rooted::prepare(graph, k, limit) {
+    let mut prepared = match rooted::prepare(graph, roots, limit) {
         Ok(prepared) => prepared,
         Err(vertex) => {
             values[0] = u64::from(vertex);
@@ -52,8 +54,8 @@ fn rooted_trial(
     };
     let Placed { parts, left, near, assigned } = prepared.place(limit);
     match assigned {
-        Assigned::Roots(roots) => {
-            let trees = prepared.trees(parts, left, &roots);
+        Assigned::Roots(assigned) => {
+            let trees = prepared.trees(parts, left, &assigned);
             answer_cover(graph, limit, &trees, values, buffer)
         }
         Assigned::Deficient(set) => {

@@ -19,7 +19,7 @@ pub fn walk(
     values: &mut [u64; 2],
     buffer: &mut [u8],
 ) -> u32 {
-    match walked(question, cover, tree, buffer) {
+    match walked(&question, cover, tree, buffer) {
         Ok(said) => {
             *values = said;
             0
@@ -30,7 +30,7 @@ pub fn walk(
 
 /// The values of a walk, which is written, or the number of the refusal.
 fn walked(
-    question: Question,
+    question: &Question,
     cover: &[u8],
     tree: usize,
     buffer: &mut [u8],

@@ -1,83 +1,18 @@
-//! The quick version against `reference/`, an implementation that shares no code with it, with lists and without: the same case
-//! and values, and every byte where the rules fix it; where they leave a choice, the reference's judge says whether it is an
-//! allowed one.
+//! The quick version against `reference/`, an implementation that shares no code with it, with classes and without.
 
-use bench::best::best;
-use bench::check::check;
-use bench::question::{Question, BUFFER, ROOTED, UNROOTED};
-use bench::trial::trial;
+mod held;
+
+use bench::question::BUFFER;
+use held::{checked, judged_with};
 use reference::brought::Brought;
-use reference::check::check_with;
 use reference::districts::{Asked, Record};
-use reference::judge::{self, Reply};
 use reference::made_filings::filings;
 use reference::made_gates::gates;
 use reference::made_shapes::{any_weights, graph, POSITIVE, SEARCHED, SHAPES};
 use reference::made_surfaces::surfaced;
 use reference::made_trials::trials;
-use reference::question::{Answer, Kind};
+use reference::question::Kind;
 use reference::random::Random;
-
-/// What stands in the values and the buffer before a question.
-const VALUE: u64 = 0x1111_2222_3333_4444;
-const FILL: u8 = 0xa5;
-
-/// The question of a kind for k trees on what is brought.
-fn question(kind: Kind, k: usize, brought: Brought) -> Question {
-    let number = if kind == Kind::Rooted { ROOTED } else { UNROOTED };
-    Question { kind: number, k, sheet: brought.sheet, classes: brought.classes }
-}
-
-/// A question's number, values and buffer.
-type Got = (u32, [u64; 3], Vec<u8>);
-
-fn asked(room: usize, question: impl Fn(&mut [u64; 3], &mut [u8]) -> u32) -> Got {
-    let (mut values, mut buffer) = ([VALUE; 3], vec![FILL; room]);
-    let case = question(&mut values, &mut buffer);
-    (case, values, buffer)
-}
-
-/// The answer of a case; values past those of the case are as they came.
-fn answer(case: u32, values: [u64; 3], buffer: &[u8]) -> Result<Answer, String> {
-    let [a, b, c] = values;
-    let (answer, used) = match case {
-        0 => (Answer::Cover { limit: a, heaviest: b }, 3),
-        1 => (Answer::Stop(a as usize), 1),
-        2 => (Answer::Parts { parts: a as usize, roots: b as usize }, 2),
-        3 => (Answer::Needs(a), 1),
-        4 => (Answer::NoCover, 0),
-        _ => (Answer::Refused(case as u16), 0),
-    };
-    if values[used..].iter().any(|&value| value != VALUE) {
-        return Err("a value past those of the case was written".into());
-    }
-    if case == 0 && c != u64::from(buffer[0]) {
-        return Err(format!("{c} trees are named, {} written", buffer[0]));
-    }
-    Ok(answer)
-}
-
-/// Judges a trial, or with no limit the best limit.
-fn judged_with(
-    kind: Kind,
-    k: usize,
-    limit: Option<u64>,
-    brought: Brought,
-    room: usize,
-) -> Result<u32, String> {
-    let question = question(kind, k, brought);
-    let (case, values, buffer) = asked(room, |values, buffer| match limit {
-        Some(limit) => trial(question, limit, values, buffer),
-        None => best(question, values, buffer),
-    });
-    let answer = answer(case, values, &buffer)?;
-    let reply = Reply { answer: &answer, before: &vec![FILL; room], after: &buffer };
-    match limit {
-        Some(limit) => judge::trial_with(kind, brought, k as u64, limit, reply)?,
-        None => judge::best_with(kind, brought, k as u64, reply)?,
-    }
-    Ok(case)
-}
 
 /// The same without lists.
 fn judged(
@@ -88,20 +23,6 @@ fn judged(
     room: usize,
 ) -> Result<u32, String> {
     judged_with(kind, k, limit, Brought::plain(sheet), room)
-}
-
-/// Checks cover bytes, which must be answered as by the reference; gives the number.
-fn checked(kind: Kind, k: usize, brought: Brought, cover: &[u8]) -> Result<u32, String> {
-    let mut values = [VALUE; 3];
-    let said = check(question(kind, k, brought), cover, &mut values);
-    let (number, first) = match check_with(kind, brought, k as u64, cover) {
-        Ok(heaviest) => (0, heaviest),
-        Err(number) => (u32::from(number), VALUE),
-    };
-    if (said, values) != (number, [first, VALUE, VALUE]) {
-        return Err(format!("{number} {first} is due, not {said} {values:?}"));
-    }
-    Ok(said)
 }
 
 #[test]
@@ -242,7 +163,7 @@ fn records_with_lists_are_answered_as_the_reference_allows() {
 fn measured_lists() {
     for size in &bench::made::SIZES[2..] {
         let (sheet, classes) = bench::made::surfaced(bench::made::Shape::Random, size);
-        let brought = Brought { sheet: &sheet, classes: Some(&classes) };
+        let brought = Brought { classes: Some(&classes), ..Brought::plain(&sheet) };
         for kind in [Kind::Rooted, Kind::Unrooted] {
             assert_eq!(judged_with(kind, size.k, None, brought, BUFFER), Ok(0), "{size:?}");
         }

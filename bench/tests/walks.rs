@@ -18,18 +18,28 @@ use reference::walk::walk_with;
 const VALUE: u64 = 0x1111_2222_3333_4444;
 const FILL: u8 = 0xa5;
 
-/// Asks every planner for a tree of a filing, with so many bytes of room, and gives the number due.
-fn asked_with(filing: &Filing, classes: Option<&[u8]>, tree: usize, room: usize) -> u16 {
-    let Filing { kind, k, ref sheet, ref cover } = *filing;
+/// A cover filed with what is brought.
+#[derive(Clone, Copy)]
+struct Filed<'a> {
+    kind: Kind,
+    k: usize,
+    brought: Brought<'a>,
+    cover: &'a [u8],
+}
+
+/// Asks every planner for a tree of a filed cover, with so many bytes of room, and gives the number due.
+fn asked_with(filed: Filed, tree: usize, room: usize) -> u16 {
+    let Filed { kind, k, brought, cover } = filed;
     let mut right = vec![FILL; room];
-    let said = walk_with(kind, Brought { sheet, classes }, k as u64, cover, tree, &mut right);
+    let said = walk_with(kind, brought, k as u64, cover, tree, &mut right);
     let (number, due) = match said {
         Ok((stops, length)) => (0, [stops as u64, length]),
         Err(number) => (number, [VALUE; 2]),
     };
     for planner in linked().into_iter().chain([Planner::Plain]) {
         let (mut values, mut buffer) = ([VALUE; 2], vec![FILL; room]);
-        let question = Question { kind: kind as u32, k, sheet, classes };
+        let Brought { sheet, classes, vans } = brought;
+        let question = Question { kind: kind as u32, k, sheet, classes, vans };
         let case = planner.walk(question, cover, tree, &mut values, &mut buffer);
         assert_eq!((case, values), (number.into(), due), "{kind:?} k {k} tree {tree} room {room}");
         assert!(buffer == right, "{kind:?} k {k} tree {tree} room {room}");
@@ -39,7 +49,8 @@ fn asked_with(filing: &Filing, classes: Option<&[u8]>, tree: usize, room: usize)
 
 /// The same without lists.
 fn asked(filing: &Filing, tree: usize, room: usize) -> u16 {
-    asked_with(filing, None, tree, room)
+    let Filing { kind, k, ref sheet, ref cover } = *filing;
+    asked_with(Filed { kind, k, brought: Brought::plain(sheet), cover }, tree, room)
 }
 
 /// Asks for every tree with enough room, and for trees and rooms that are refused; gives the number due of the first tree.
@@ -71,10 +82,10 @@ fn made_filings() {
 fn made_filings_with_lists() {
     let mut met = [0; 64];
     for record in surfaced() {
-        let Asked::Check { cover } = record.asked else { continue };
-        let filing = Filing { kind: record.kind, k: record.k, sheet: record.sheet, cover };
+        let Asked::Check { cover } = &record.asked else { continue };
+        let filed = Filed { kind: record.kind, k: record.k, brought: record.brought(), cover };
         for (tree, room) in [(0, WALK_BUFFER), (0, WALK_BUFFER - 1), (33, WALK_BUFFER)] {
-            met[usize::from(asked_with(&filing, record.classes.as_deref(), tree, room))] += 1;
+            met[usize::from(asked_with(filed, tree, room))] += 1;
         }
     }
     for case in [0, 11, 12, 13, 14, 15, 16, 53, 54, 21, 31, 32, 33, 34, 35, 51, 52] {

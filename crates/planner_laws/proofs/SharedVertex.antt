@@ -23,16 +23,12 @@ use Rattle.rules.specs.Forest.{keep, forest}
 use Rattle.rules.specs.Grow.{none, Rooted, growFrom, grow}
 use Rattle.rules.specs.Split.{Pieces, splitAt, split, allParts}
 use Rattle.rules.specs.RootedTrial.{Choices, rootedPieces, rootedParts, leftAt, assignedEdges, unionTree, rootedCover}
-use Rattle.split_laws.proofs.Repeats.{again-bare}
+use Rattle.split_laws.proofs.Repeats.{branchless, again-bare}
 
--- A root without branches, and no pieces.
-abbrev branchless : Rooted
-branchless = record { root = 0; branches = none }
-
+-- No pieces, which is what a root without branches has.
 abbrev noPieces : Pieces
 noPieces = record { parts = []; left = [] }
 
--- The first has none but the second.
 branchless-split : (g : Graph) (H : ℕ) (t : Rooted) → t .branches ≡ none → split g H t ≡ noPieces
 unfolding split splitAt
 branchless-split g H t q = rw q refl

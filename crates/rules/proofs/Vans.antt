@@ -122,3 +122,9 @@ module _ (kind : Kind) (k : ℕ) (sheet : List ℕ) (classes : Option (List ℕ)
     pub same-walk : (cover : List ℕ) (tree room : ℕ) → askWalk numbered cover tree room ≡ askWalk without cover tree room
     unfolding askWalk walkFault
     same-walk cover tree room = rw (same-check-fault cover) refl
+
+-- A roving question does not read a list: what is refused of it and whom the cover is for are the same whatever is brought, and so is every reply.
+pub roving-unread : (k : ℕ) (sheet : List ℕ) (classes vans : Option (List ℕ)) → let q : Question = record { kind = roving; k = k; sheet = sheet; classes = classes; vans = vans } in
+    (questionFault q ≡ questionFault (without roving k sheet classes)) × (crewsIn q ≡ crewsIn (without roving k sheet classes))
+unfolding questionFault crewFault tooManyRoots vanFault
+roving-unread k sheet classes vans = (refl, refl)

@@ -14,7 +14,7 @@ use Rattle.rules.specs.CoverBytes.{treesIn, entriesIn, startIn, entryTre
 use Rattle.rules.specs.Labels.{Labels, apart, joined, endsJoined, mergeEdge, mergeAll}
 use Rattle.rules.specs.Distance.{treeVertices}
 
--- 32: the number of trees and the starts keep the kind's rule.
+-- 32: the number of trees and the starts keep the kind's rule. (Document 02, A.5: "Rule 32 compares starts with the list.")
 unfoldable pub startsRight : Crews → List ℕ → Bool
 startsRight (rooted roots) b = eqb (treesIn b) (length roots) && all (λ j. eqb (startIn b j) (getD roots j 0)) (below (treesIn b))
 startsRight (unrooted k) b = leb 1 (treesIn b) && leb (treesIn b) k

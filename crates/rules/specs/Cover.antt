@@ -48,7 +48,7 @@ pub data Crews : Type 0 where
   rooted : List ℕ → Crews
   unrooted : ℕ → Crews
 
--- "A yard cover has k trees, tree j starting at stop j. A roving cover has 1 to k trees."
+-- "A yard cover has k trees, tree j starting at stop j" (document 02, A.5: "at the j-th" of a list). "A roving cover has 1 to k trees."
 abbrev pub Starts : Crews → List Tree → Type 0
 Starts (rooted roots) trees = map (λ (t : Tree). t .start) trees ≡ roots
 Starts (unrooted k) trees = (1 ≤ length trees) × (length trees ≤ k)

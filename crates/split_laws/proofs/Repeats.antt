@@ -23,6 +23,10 @@ children-bare g node v (d ∷ es) passed met = go (leadsOn g passed v d) refl _ 
     go true t x ih = let a = leads-on passed v d t in absurd (a .1 (met d (farEnd g d v) (List·Memᴰ·head refl) (a .0)))
     go false t x ih = ih
 
+-- A root without branches.
+abbrev pub branchless : Rooted
+branchless = record { root = 0; branches = none }
+
 module _ (g : Graph) (edges : List ℕ) where
   -- The vertex is done with. (Without any depth nothing is grown.)
   abbrev Done : ℕ → List ℕ → ℕ → Type 0
@@ -37,9 +41,6 @@ module _ (g : Graph) (edges : List ℕ) where
   -- It stays so.
   done-on : (v r : ℕ) (passed : List ℕ) → Done (g .vertices) passed v → Done (g .vertices) (growNode (g .vertices) g edges r passed .passed) v
   done-on v r passed done h e w m j = kept (node-grows g edges (g .vertices) r passed) w (List·Memᴰ·tail (done h e w m j))
-
-  abbrev branchless : Rooted
-  branchless = record { root = 0; branches = none }
 
   -- A root that is done with gets no branches,
   done-bare : (roots passed : List ℕ) (r : ℕ) → Done (g .vertices) passed r → (j : ℕ) → j < length roots → getD roots j 0 ≡ r
