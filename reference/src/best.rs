@@ -70,7 +70,7 @@ pub fn search(kind: Kind, graph: &Graph, crews: impl Crews) -> Option<(u64, Vec<
 }
 
 /// The cover of a trial, if it is accepted.
-fn accepted(kind: Kind, graph: &Graph, roots: &[usize], limit: u64) -> Option<Vec<Tree>> {
+pub fn accepted(kind: Kind, graph: &Graph, roots: &[usize], limit: u64) -> Option<Vec<Tree>> {
     match run(kind, graph, roots, limit) {
         Outcome::Cover(trees) => Some(trees),
         _ => None,

@@ -3,13 +3,14 @@
 //! A record, every field lowest byte first:
 //!
 //! ```text
-//! question      2 bytes: 1 rooted trial, 2 unrooted trial, 3 rooted best, 4 unrooted best, 5 rooted check, 6 unrooted check
+//! question      2 bytes: 1 rooted trial, 2 unrooted trial, 3 rooted best, 4 unrooted best, 5 rooted check, 6 unrooted check,
+//!               7 rooted with a number of trials, 8 unrooted with one
 //! k             2 bytes
-//! limit         4 bytes, unread in 3 to 6
+//! limit         4 bytes, unread in 3 to 6; in 7 and 8 it is the number of trials
 //! room          2 bytes: how many bytes the lent buffer has, unread in 5 and 6
 //! whole         2 bytes: 1 if the reply is printed whole, 0 if the rules leave a choice in it
 //! sheet length  2 bytes
-//! cover length  2 bytes, 0 in 1 to 4
+//! cover length  2 bytes, 0 in all but 5 and 6
 //! lists         2 bytes, a bit for each list that may be brought beside the sheet: 1 classes, 2 vans; every other bit is 0
 //! class length  2 bytes, 0 where no list of classes is brought
 //! van length    2 bytes, 0 where no list of vans is brought
@@ -22,7 +23,7 @@
 //!
 //! A list of no bytes is not the same as no list: where the length of a list is 0, `lists` says which of the two is brought.
 //!
-//! The reply to 1 to 4 is printed as the program `rounds` prints it, rows of trees included, if the record says `whole`
+//! The reply to 1 to 4, 7 and 8 is printed as the program `rounds` prints it, rows of trees included, if the record says `whole`
 //! or the reply is neither a cover nor "too low parts". Otherwise it is one of
 //!
 //! ```text
@@ -31,8 +32,13 @@
 //! ```
 //!
 //! where `yes` stands if the check of a filed cover, asked with the record's kind, graph, lists and k, says yes to the
-//! bytes written and names the reply's heaviest weight; otherwise `no`. The reply to 5 and 6 is `yes HEAVIEST` or
-//! `refused NUMBER`. Words and numbers stand one blank apart.
+//! bytes written and names the reply's heaviest weight; otherwise `no`. Behind the reply to 7 and 8 there is always the line
+//!
+//! ```text
+//! known TRIALS FLOOR SPENT   the trials made, the floor, and 1 if spent, else 0; all 0 behind `no cover` and `refused NUMBER`
+//! ```
+//!
+//! The reply to 5 and 6 is `yes HEAVIEST` or `refused NUMBER`. Words and numbers stand one blank apart.
 
 use crate::brought::Brought;
 use crate::bytes::{put_four, put_two};
@@ -41,14 +47,27 @@ use crate::cover::{decode, filed_length, gather};
 use crate::fixed::is_fixed;
 use crate::question::{Answer, Kind};
 use crate::rounds::text as text_of;
+use crate::within::{best_within_with, Known};
 use crate::{best, trial};
 
 /// What is asked.
 #[derive(Clone, Debug, PartialEq, Eq)]
 pub enum Asked {
-    Trial { limit: u64, room: usize },
-    Best { room: usize },
-    Check { cover: Vec<u8> },
+    Trial {
+        limit: u64,
+        room: usize,
+    },
+    Best {
+        room: usize,
+    },
+    /// The best limit as far as a number of trials comes to it.
+    Within {
+        trials: u64,
+        room: usize,
+    },
+    Check {
+        cover: Vec<u8>,
+    },
 }
 
 /// A question to the planner or to the check.
@@ -88,10 +107,21 @@ impl Record {
 
     /// The planner's answer, which is written to the buffer; nothing for a check.
     pub fn answer(&self, buffer: &mut [u8]) -> Option<Answer> {
+        self.reply(buffer).map(|(answer, _)| answer)
+    }
+
+    /// The same with what is known besides, where a number of trials is given.
+    pub fn reply(&self, buffer: &mut [u8]) -> Option<(Answer, Option<Known>)> {
         let (kind, brought, k) = (self.kind, self.brought(), self.k as u64);
         match self.asked {
-            Asked::Trial { limit, .. } => Some(trial::trial_with(kind, brought, k, limit, buffer)),
-            Asked::Best { .. } => Some(best::best_with(kind, brought, k, buffer)),
+            Asked::Trial { limit, .. } => {
+                Some((trial::trial_with(kind, brought, k, limit, buffer), None))
+            }
+            Asked::Best { .. } => Some((best::best_with(kind, brought, k, buffer), None)),
+            Asked::Within { trials, .. } => {
+                let (answer, known) = best_within_with(kind, brought, k, trials, buffer).parted();
+                Some((answer, Some(known)))
+            }
             Asked::Check { .. } => None,
         }
     }
@@ -99,7 +129,7 @@ impl Record {
     /// The length of the lent buffer.
     pub fn room(&self) -> usize {
         match self.asked {
-            Asked::Trial { room, .. } | Asked::Best { room } => room,
+            Asked::Trial { room, .. } | Asked::Best { room } | Asked::Within { room, .. } => room,
             Asked::Check { .. } => 0,
         }
     }
@@ -125,6 +155,7 @@ pub fn encode(records: &[Record]) -> Vec<u8> {
             Asked::Trial { limit, .. } => (1, *limit, &[][..]),
             Asked::Best { .. } => (3, 77, &[][..]),
             Asked::Check { cover } => (5, 77, &cover[..]),
+            Asked::Within { trials, .. } => (7, *trials, &[][..]),
         };
         put_two(&mut out, first + usize::from(record.kind == Kind::Unrooted));
         put_two(&mut out, record.k);
@@ -162,8 +193,14 @@ fn record_text(record: &Record) -> String {
         };
     }
     let mut buffer = vec![0; record.room()];
-    let answer = record.answer(&mut buffer).expect("a trial or a best limit is answered");
-    answer_text(record, record.is_whole(&answer), &answer, &buffer)
+    let (answer, known) = record.reply(&mut buffer).expect("all but checks are answered");
+    let text = answer_text(record, record.is_whole(&answer), &answer, &buffer);
+    text + &known.map_or(String::new(), known_text)
+}
+
+/// The line that stands behind an answer to a number of trials.
+pub fn known_text(known: Known) -> String {
+    format!("known {} {} {}\n", known.trials, known.floor, u8::from(known.spent))
 }
 
 /// What is printed of a planner's answer to a record and of the buffer it leaves, whole or without what is free.

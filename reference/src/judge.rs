@@ -1,4 +1,4 @@
-//! Judging another implementation's reply to a trial or a best-limit question.
+//! Judging another implementation's reply to a trial, a best-limit question or one with a number of trials.
 //!
 //! Where the rules leave a choice free (assignment, shortest path, the parts shown) any allowed
 //! choice passes; everything else must be exactly what the rules say.
@@ -13,7 +13,7 @@ use crate::judge_tree::FiledTree;
 use crate::question::{Answer, Kind};
 use crate::rooted::{plan, Plan};
 use crate::trial::{file, run, Outcome};
-use crate::{best as search, trial as at_limit};
+use crate::{best as search, trial as at_limit, within};
 
 /// What the replying side did: its answer, and the lent buffer before and after.
 #[derive(Clone, Copy, Debug)]
@@ -55,12 +55,40 @@ pub fn best_with(kind: Kind, brought: Brought, k: u64, reply: Reply) -> Result<(
         Ok(admitted) => admitted,
         Err(number) => return exactly(&Answer::Refused(number), reply.before, reply),
     };
-    let Some((limit, _)) = search::search(kind, &graph, &roots) else {
-        return exactly(&Answer::NoCover, reply.before, reply);
+    let limit = search::search(kind, &graph, &roots).map(|(limit, _)| limit);
+    search_on(kind, &graph, &roots, limit, reply)
+}
+
+/// Judges a reply to a question with a number of trials p, but for the trials, the floor and "spent", which are not in it; the
+/// error says what is wrong with it.
+pub fn within_with(
+    kind: Kind,
+    brought: Brought,
+    k: u64,
+    p: u64,
+    reply: Reply,
+) -> Result<(), String> {
+    same_length(reply)?;
+    let (graph, roots) = match within::admit(kind, brought, k, p, reply.before.len()) {
+        Ok(admitted) => admitted,
+        Err(number) => return exactly(&Answer::Refused(number), reply.before, reply),
     };
-    match reply.answer {
-        Answer::Cover { .. } => trial_on(kind, &graph, &roots, limit, reply),
-        other => Err(format!("a cover at limit {limit} is due, not {other:?}")),
+    let high = within::stand(kind, &graph, &roots, p).map(|at| at.high);
+    search_on(kind, &graph, &roots, high, reply)
+}
+
+/// Judges a reply to an admitted search that comes to a limit, or finds that there is no cover.
+fn search_on(
+    kind: Kind,
+    graph: &Graph,
+    roots: &[usize],
+    limit: Option<u64>,
+    reply: Reply,
+) -> Result<(), String> {
+    match (limit, reply.answer) {
+        (None, _) => exactly(&Answer::NoCover, reply.before, reply),
+        (Some(limit), Answer::Cover { .. }) => trial_on(kind, graph, roots, limit, reply),
+        (Some(limit), other) => Err(format!("a cover at limit {limit} is due, not {other:?}")),
     }
 }
 

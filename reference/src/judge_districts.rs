@@ -1,4 +1,4 @@
-//! Judging the replies in full that the program `districts` writes to its records of trials and best limits, one behind the
+//! Judging the replies in full that the program `districts` writes to its records of trials and of searches, one behind the
 //! other in the order of the records. What is printed of a check says all, so no reply in full stands for it.
 
 use crate::districts::{Asked, Record};
@@ -27,6 +27,7 @@ pub fn judge_reply(record: &Record, full: &Full) -> Result<(), String> {
     match record.asked {
         Asked::Trial { limit, .. } => judge::trial_with(kind, brought, k, limit, reply),
         Asked::Best { .. } => judge::best_with(kind, brought, k, reply),
+        Asked::Within { trials, .. } => judge::within_with(kind, brought, k, trials, reply),
         Asked::Check { .. } => Err("a check has no reply in full".into()),
     }
 }

@@ -1,6 +1,6 @@
 //! The records of the program `districts`: every row of document 01's list of small districts, made sheets of each kind, the
 //! deepest trees, the made trials and the made filings, those about weightless edges; behind them those that bring a list of
-//! classes, and last those that bring a list of vans.
+//! classes, those that bring a list of vans, and last those with a number of trials.
 
 use crate::cover::{encode as cover_bytes, Tree};
 use crate::districts::{Asked, Record};
@@ -14,6 +14,7 @@ use crate::made_shapes::{POSITIVE, SEARCHED, SHAPES};
 use crate::made_surfaces::surfaced;
 use crate::made_trials::trials;
 use crate::made_vans::listed_vans;
+use crate::made_within::within;
 use crate::question::{Kind, LIMIT};
 use crate::random::Random;
 
@@ -43,6 +44,7 @@ pub fn records() -> Vec<Record> {
     all.extend(gates());
     all.extend(surfaced());
     all.extend(listed_vans());
+    all.extend(within());
     all
 }
 

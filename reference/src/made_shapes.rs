@@ -105,6 +105,16 @@ pub const CROWD: &[(usize, usize, u64)] = &[
 /// A path on which a search that rounds up ends at 8 for two trees without roots, and one that rounds down at 10.
 pub const UNEVEN: &[(usize, usize, u64)] = &[(1, 5, 7), (0, 3, 7), (5, 4, 6), (4, 0, 9), (3, 2, 8)];
 
+/// For two trees with roots one trial more makes the heaviest tree heavier: at limit 5 nothing is split, at 2 edges 1 and 4 are
+/// parts, and root 0, which has edge 0 left, has 2 to go to the second.
+pub const RISING_ROOTED: &[(usize, usize, u64)] =
+    &[(0, 2, 1), (3, 4, 2), (0, 1, 2), (2, 0, 3), (1, 3, 2)];
+
+/// The same for three trees without roots: at limit 6 edge 3 and what is left below it are a part alone, at 5 edge 4 is dropped
+/// and all the others bunch to one part.
+pub const RISING_UNROOTED: &[(usize, usize, u64)] =
+    &[(5, 0, 4), (2, 1, 5), (3, 0, 3), (1, 0, 1), (1, 4, 6)];
+
 /// A graph with the number of trees to ask for: vertices, k, edges.
 pub type ForTrees = (usize, usize, &'static [(usize, usize, u64)]);
 

@@ -174,7 +174,7 @@ fn checks(random: &mut Random, graph: &Graph, vans: &[usize]) -> Vec<Record> {
 }
 
 /// Vans on n vertices: all at one of them, at two, each at another, or anywhere and perhaps more than there are vertices.
-fn any_vans(random: &mut Random, n: usize, way: usize) -> Vec<usize> {
+pub fn any_vans(random: &mut Random, n: usize, way: usize) -> Vec<usize> {
     let pair = [random.below(n), random.below(n)];
     match way % 4 {
         0 => vec![pair[0]; random.between(2, 4)],

@@ -11,7 +11,8 @@
 //! rest             1 byte: 1 if the buffer is otherwise as it came, else 0
 //! ```
 //!
-//! The buffer comes filled with `FILL`.
+//! What is known besides the cover after a number of trials is not in it: the compared text says all of that. The buffer comes
+//! filled with `FILL`.
 
 use crate::bytes::{four, put_four, put_two, two};
 use crate::cover::filed_length;

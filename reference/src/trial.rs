@@ -79,7 +79,7 @@ pub fn file(graph: &Graph, limit: u64, outcome: &Outcome, buffer: &mut [u8]) -> 
 }
 
 /// Writes trees as cover bytes over the first bytes of the buffer.
-fn write(trees: &[Tree], buffer: &mut [u8]) {
+pub fn write(trees: &[Tree], buffer: &mut [u8]) {
     let bytes = encode(trees);
     buffer[..bytes.len()].copy_from_slice(&bytes);
 }

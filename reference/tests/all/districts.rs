@@ -116,6 +116,10 @@ fn a_record_as_bytes() {
         let due = [&[0, 0, 1, 0, 1, 0, 2, 0], &lists[..], &[0; 2], behind].concat();
         assert_eq!((&bytes[..4], &bytes[8..]), (&[5, 0, 2, 0][..], &due[..]), "{lists:?}");
     }
+    let asked = Asked::Within { trials: 65_538, room: 32_708 };
+    let record = Record::plain(asked, Kind::Unrooted, 2, &[9]);
+    let front = [8, 0, 2, 0, 2, 0, 1, 0, 0xc4, 0x7f, 1, 0, 1, 0, 0, 0];
+    assert_eq!(encode(&[record]), [&front[..], &[0; 8], &[9]].concat());
     let asked = Asked::Trial { limit: 5, room: 32_708 };
     let free = Record::plain(asked, Kind::Rooted, 2, &sheet_n());
     assert_eq!(encode(&[free])[10..12], [0, 0]);
@@ -152,13 +156,41 @@ fn the_text_on_sheet_n() {
 }
 
 #[test]
+fn the_text_of_a_number_of_trials_on_sheet_n() {
+    // Kind, k, p and the text due.
+    let rows: [(Kind, usize, u64, &str); 9] = [
+        (Kind::Rooted, 2, 2, "cover 11 6 2\ntree 0 6 0 1\ntree 1 0\nknown 2 1 1\n"),
+        (Kind::Rooted, 2, 3, "cover 5 yes 2\nknown 3 1 1\n"),
+        (Kind::Rooted, 2, 5, "cover 5 yes 2\nknown 5 4 1\n"),
+        (Kind::Rooted, 2, 6, "cover 4 6 2\ntree 0 6 0 1\ntree 1 0\nknown 6 4 0\n"),
+        (Kind::Rooted, 2, 33, "cover 4 6 2\ntree 0 6 0 1\ntree 1 0\nknown 6 4 0\n"),
+        (
+            Kind::Unrooted,
+            4,
+            9,
+            "cover 0 0 4\ntree 0 0\ntree 1 0\ntree 2 0\ntree 3 0\nknown 1 0 0\n",
+        ),
+        (Kind::Unrooted, 1, 4, "cover 8 11 1\ntree 0 11 0 1 2\nknown 4 6 1\n"),
+        (Kind::Unrooted, 1, 34, "refused 56\nknown 0 0 0\n"),
+        (Kind::Rooted, 5, 1, "refused 21\nknown 0 0 0\n"),
+    ];
+    let of = |kind, k, trials, sheet: &[u8]| {
+        Record::plain(Asked::Within { trials, room: BUFFER }, kind, k, sheet)
+    };
+    for (kind, k, p, due) in rows {
+        assert_eq!(text(&[of(kind, k, p, &sheet_n())]), due, "{kind:?} k {k} p {p}");
+    }
+    assert_eq!(text(&[of(Kind::Rooted, 1, 2, &sheet(2, &[]))]), "no cover\nknown 0 0 0\n");
+}
+
+#[test]
 fn the_records_are_many_and_meet_every_line() {
     let sheets = |kind| {
         let here = made().iter().filter(|record| record.kind == kind);
         here.map(|record| &record.sheet).collect::<BTreeSet<_>>().len()
     };
     assert!(BOTH.iter().all(|&kind| sheets(kind) > 300));
-    assert!(encode(made()).len() < 4_000_000);
+    assert!(encode(made()).len() < 4_300_000);
     let mut met: BTreeMap<String, usize> = BTreeMap::new();
     for line in text(made()).lines() {
         let words: Vec<&str> = line.split(' ').collect();
@@ -170,7 +202,7 @@ fn the_records_are_many_and_meet_every_line() {
         };
         *met.entry(opening).or_default() += 1;
     }
-    for number in [11, 12, 13, 14, 15, 16, 53, 54, 21, 55, 22, 23, 31, 32, 33, 34, 35] {
+    for number in [11, 12, 13, 14, 15, 16, 53, 54, 21, 55, 22, 23, 56, 31, 32, 33, 34, 35] {
         assert!(met.contains_key(&format!("refused {number}")), "{number} of {met:?}");
     }
     for word in

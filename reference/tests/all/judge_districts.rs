@@ -182,6 +182,30 @@ fn a_limit_that_was_not_searched_for_does_not_pass() {
     assert!(said_no > 150, "{said_no}");
 }
 
+/// The reply of the best limit, of one trial more and of p 2 passes exactly where high is the same; so does "no cover", and the
+/// refusal of a wrong number of trials is none of them.
+#[test]
+fn a_number_of_trials_is_kept_to() {
+    let mut said_no = [0; 4];
+    for record in made() {
+        let Asked::Within { trials, room } = record.asked else { continue };
+        let due = own(record);
+        let others = [
+            Asked::Best { room },
+            Asked::Within { trials: (trials + 1).min(33), room },
+            Asked::Within { trials: 2, room },
+            Asked::Within { trials: 0, room },
+        ];
+        for (other, said_no) in others.into_iter().zip(&mut said_no) {
+            let full = own(&Record { asked: other, ..record.clone() });
+            let is_same = full.case == due.case && full.values.first() == due.values.first();
+            assert_eq!(judge_reply(record, &full).is_ok(), is_same, "{full:?} to {record:?}");
+            *said_no += usize::from(!is_same);
+        }
+    }
+    assert!(said_no.iter().all(|&count| count > 150), "{said_no:?}");
+}
+
 #[test]
 fn a_reply_is_read_as_it_was_written() {
     let full = Full { case: 2, values: vec![1 << 40, 7], front: vec![9, 8, 7], rest: 1 };

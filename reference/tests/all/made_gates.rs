@@ -30,6 +30,7 @@ fn question(record: &Record) -> &'static str {
         Asked::Trial { limit: 1, .. } => "trial at 1",
         Asked::Trial { .. } => "trial",
         Asked::Best { .. } => "best",
+        Asked::Within { .. } => "within",
         Asked::Check { .. } => "check",
     }
 }

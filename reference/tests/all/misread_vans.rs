@@ -226,11 +226,11 @@ const OF_STARTS: [Wrong; 6] = [
     ),
 ];
 
-/// 0 for a trial, 1 for a best limit, 2 for a check.
+/// 0 for a trial, 1 for a search, 2 for a check.
 fn place(record: &Record) -> usize {
     match record.asked {
         Asked::Trial { .. } => 0,
-        Asked::Best { .. } => 1,
+        Asked::Best { .. } | Asked::Within { .. } => 1,
         Asked::Check { .. } => 2,
     }
 }

@@ -9,9 +9,12 @@ pub mod readings;
 pub mod replies;
 pub mod surfaces;
 pub mod vans;
+pub mod within;
 pub mod wrong_gates;
+pub mod wrong_searches;
 pub mod wrong_van_lists;
 pub mod wrong_vans;
+pub mod wrong_within;
 
 use std::sync::OnceLock;
 

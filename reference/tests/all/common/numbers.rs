@@ -11,6 +11,7 @@ pub fn question(record: &Record) -> usize {
         Asked::Trial { .. } => 1,
         Asked::Best { .. } => 3,
         Asked::Check { .. } => 5,
+        Asked::Within { .. } => 7,
     };
     first + usize::from(record.kind == Kind::Unrooted)
 }

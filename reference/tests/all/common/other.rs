@@ -18,7 +18,7 @@ pub fn other_reply(record: &Record) -> Option<Full> {
     let own = own_reply(record)?;
     let limit = match (&record.asked, own.case) {
         (Asked::Trial { limit, .. }, 0 | 2) => *limit,
-        (Asked::Best { .. }, 0) => own.values[0],
+        (Asked::Best { .. } | Asked::Within { .. }, 0) => own.values[0],
         _ => return Some(own),
     };
     if record.kind == Kind::Unrooted {

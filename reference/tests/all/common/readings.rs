@@ -10,6 +10,7 @@ use reference::judge_districts::judge_reply;
 use reference::question::{Answer, Kind, BUFFER, LIMIT};
 use reference::replies::{full_of, FILL};
 use reference::trial::{file, run, Outcome};
+use reference::within::TRIALS;
 
 /// The graph and the roots of a record, or the number that it is refused with before a trial or a check.
 pub type Admitted = Result<(Graph, Vec<usize>), u16>;
@@ -52,11 +53,13 @@ fn admitted(reading: &Reading, record: &Record) -> Admitted {
     Ok((graph, roots))
 }
 
-/// 22 and 23 of a record.
+/// 22, 23 and 56 of a record.
 pub fn of_limit_and_room(record: &Record) -> Result<(), u16> {
     match record.asked {
         Asked::Trial { limit, .. } if limit > LIMIT => Err(22),
-        Asked::Trial { room, .. } | Asked::Best { room } if room < BUFFER => Err(23),
+        Asked::Check { .. } => Ok(()),
+        _ if record.room() < BUFFER => Err(23),
+        Asked::Within { trials, .. } if !TRIALS.contains(&trials) => Err(56),
         _ => Ok(()),
     }
 }
@@ -76,8 +79,14 @@ impl Reading {
         }
     }
 
-    /// The best limit with its cover; nothing where no cover is thought to exist.
-    fn search(&self, kind: Kind, graph: &Graph, roots: &[usize]) -> Option<(u64, Vec<Tree>)> {
+    /// The limit that p trials come to, with its cover; nothing where no cover is thought to exist.
+    fn search(
+        &self,
+        kind: Kind,
+        graph: &Graph,
+        roots: &[usize],
+        p: u64,
+    ) -> Option<(u64, Vec<Tree>)> {
         if !(self.exists)(kind, graph, roots) {
             return None;
         }
@@ -86,7 +95,10 @@ impl Reading {
         }
         let (mut low, mut high) = (0, graph.total());
         let mut cover = self.accepted(kind, graph, roots, high)?;
-        while high - low > 1 {
+        for _ in 2..p {
+            if high - low <= 1 {
+                break;
+            }
             let middle = (low + high) / 2;
             match self.accepted(kind, graph, roots, middle) {
                 Some(trees) => (high, cover) = (middle, trees),
@@ -96,7 +108,7 @@ impl Reading {
         Some((high, cover))
     }
 
-    /// The planner's answer to a record of a trial or a best limit, which is written to the buffer.
+    /// The planner's answer to a record of a trial or a search, which is written to the buffer.
     fn answer(&self, record: &Record, buffer: &mut [u8]) -> Answer {
         let (graph, roots) = match (self.admitted)(self, record) {
             Ok(admitted) => admitted,
@@ -105,7 +117,11 @@ impl Reading {
         if let Asked::Trial { limit, .. } = record.asked {
             return file(&graph, limit, &(self.run)(record.kind, &graph, &roots, limit), buffer);
         }
-        match self.search(record.kind, &graph, &roots) {
+        let p = match record.asked {
+            Asked::Within { trials, .. } => trials,
+            _ => u64::MAX,
+        };
+        match self.search(record.kind, &graph, &roots, p) {
             Some((limit, trees)) => file(&graph, limit, &Outcome::Cover(trees), buffer),
             None => Answer::NoCover,
         }
