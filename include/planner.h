@@ -27,12 +27,19 @@ extern "C" {
 /* The least length of a walk's buffer, in bytes: room for any walk. */
 #define PLANNER_WALK_BUFFER 1022u
 
-/* What planner_trial, planner_best and planner_ask answer, with the values; every other number is that of a refusal. */
+/* The most trials that planner_within is asked for: so many are never spent. */
+#define PLANNER_MOST_TRIALS 33u
+
+/*
+ * What planner_trial, planner_best, planner_ask and planner_within answer, with the values; every other number is that of a
+ * refusal.
+ */
 #define PLANNER_COVER 0u         /* values: the limit, the heaviest weight, the number of trees. A cover is written. */
 #define PLANNER_TOO_LOW_STOP 1u  /* values: the lowest vertex joined to no root. */
 #define PLANNER_TOO_LOW_PARTS 2u /* values: T parts, D roots near any of them, D < T. The parts are written. */
 #define PLANNER_TOO_LOW_NEEDS 3u /* values: the number of trees needed, which is above k. */
 #define PLANNER_NO_COVER 4u      /* no values: no cover of the kind exists at any limit. */
+#define PLANNER_SPENT 5u         /* planner_within alone: a cover, but limits are left to try. A cover is written. */
 
 /*
  * The bytes. All fields are unsigned, lowest byte first; vertices, edges and trees are numbered from 0.
@@ -55,16 +62,16 @@ extern "C" {
  * from one vertex the first has what is left there, and each of the others is a part and a path to it, or has no edges. An
  * unrooted question carries no such list: one that is brought beside it is not read, whatever its length.
  *
- * For the seven functions of the library: any input is answered. Each pointer is to as many bytes as its length says,
- * `values` to exactly three numbers, those of planner_walk and planner_route to exactly two; no pointer is null even where a
- * length is 0, and what is written overlaps nothing else: nothing tests this. Only the values of the answer's case are
- * written, from the first on; of the buffer only the front that a walk fills, or that the cover or the parts fill, as cover
- * bytes, whose length is 4 + 2t + 4q by the t and q that they begin with. All else, and all of both at a refusal, is left as
- * it came.
+ * For the eight functions of the library: any input is answered. Each pointer is to as many bytes as its length says,
+ * `values` to exactly three numbers, those of planner_walk and planner_route to exactly two, those of planner_within to
+ * exactly six; no pointer is null even where a length is 0, and what is written overlaps nothing else: nothing tests this.
+ * Only the values of the answer's case are written, from the first on; of the buffer only the front that a walk fills, or
+ * that the cover or the parts fill, as cover bytes, whose length is 4 + 2t + 4q by the t and q that they begin with. All
+ * else, and all of both at a refusal, is left as it came.
  *
- * Stack: planner_trial, planner_best and planner_ask take up to 320 KiB, planner_walk and planner_route, refused or not, up
- * to 12 KiB; planner_check, planner_verify, and a refusal by the first three, up to 4 KiB. Measured, with some room to
- * spare, and not proved: a stack that is too small ends the program. No memory is allocated.
+ * Stack: planner_trial, planner_best, planner_ask and planner_within take up to 320 KiB, planner_walk and planner_route,
+ * refused or not, up to 12 KiB; planner_check, planner_verify, and a refusal by the first four, up to 4 KiB. Measured, with
+ * some room to spare, and not proved: a stack that is too small ends the program. No memory is allocated.
  */
 
 /* Questions without lists: four functions. */
@@ -87,7 +94,7 @@ uint32_t planner_trial(uint32_t kind, size_t k, uint64_t limit, const uint8_t *g
 /*
  * The best limit: PLANNER_COVER, whose heaviest tree weighs at most four times that of any cover of the kind for k;
  * PLANNER_NO_COVER, exactly where none exists; or a refusal as of a trial, without 22. The limit is 0 exactly where a trial
- * accepts 0.
+ * accepts 0. No cover of the kind for k has a heaviest tree lighter than the limit.
  *
  * The longest walk (planner_walk) of its trees is at most eight times as long as the longest of any closed walks that
  * together come to every vertex: rooted, one from each root; unrooted, at most k, from anywhere. These may cross any edge
@@ -122,9 +129,9 @@ uint32_t planner_walk(uint32_t kind, size_t k, const uint8_t *graph, size_t grap
                       size_t cover_length, size_t tree, uint64_t *values, uint8_t *buffer, size_t buffer_length);
 
 /*
- * Any question: three functions, with the lists that it brings. A program in C or C++ has planner_question for this, further
+ * Any question: four functions, with the lists that it brings. A program in C or C++ has planner_question for this, further
  * below; these are for callers without a C compiler. A version with a list more has two parameters more here: compile what
- * calls these three, by planner_question too, with the header of the archive that is linked.
+ * calls these four, by planner_question too, with the header of the archive that is linked.
  *
  * `brought` has a bit for each list. A list whose bit is 0 is not read; its pointer is not null even so. A list whose bit is
  * 1 is brought, of no bytes too, but for vans beside an unrooted question, which are not read. Whatever is refused before a
@@ -143,6 +150,28 @@ uint32_t planner_walk(uint32_t kind, size_t k, const uint8_t *graph, size_t grap
 uint32_t planner_ask(uint32_t asked, uint64_t limit, uint32_t kind, size_t k, const uint8_t *graph, size_t graph_length,
                      uint32_t brought, const uint8_t *classes, size_t classes_length, const uint8_t *vans,
                      size_t vans_length, uint64_t *values, uint8_t *buffer, size_t buffer_length);
+
+/*
+ * The best limit's question with a number of trials, 2 to PLANNER_MOST_TRIALS: a limit and its cover before the search ends.
+ * The search tries 0, then the sum of all weights, then halves what lies between the last limit that was too low and the
+ * last that was accepted, and stops after so many trials.
+ *
+ * PLANNER_COVER or PLANNER_SPENT, with six values: the limit, which is the least that was accepted; the heaviest weight, at
+ * most four times the limit; the number of trees; the trials made; the floor; 1 if the trials are spent, 0 if not. No cover
+ * of the kind for k has a heaviest tree lighter than the floor. It is one more than the largest limit tried that was too
+ * low, or 0, as the limit is, where 0 was accepted, by one trial.
+ *
+ * PLANNER_COVER, not spent: limit, cover and heaviest weight are those of the best limit, with all that is said of them, and
+ * the floor is the limit. PLANNER_SPENT: limits between the floor and the limit are left to try; what is said of
+ * planner_best, but for the floor, does not hold of it. PLANNER_MOST_TRIALS trials are never spent. With more trials the
+ * floor never falls and the limit never rises; the heaviest weight may do either.
+ *
+ * PLANNER_NO_COVER, exactly where none exists, is found before any trial. Refused as the best limit is, and last of these
+ * numbers: 56 trials is below 2 or above PLANNER_MOST_TRIALS.
+ */
+uint32_t planner_within(size_t trials, uint32_t kind, size_t k, const uint8_t *graph, size_t graph_length,
+                        uint32_t brought, const uint8_t *classes, size_t classes_length, const uint8_t *vans,
+                        size_t vans_length, uint64_t *values, uint8_t *buffer, size_t buffer_length);
 
 /* The check of a filed cover; answers and values are as of planner_check. */
 uint32_t planner_verify(uint32_t kind, size_t k, const uint8_t *graph, size_t graph_length, uint32_t brought,
@@ -216,6 +245,17 @@ static inline uint32_t planner_trial_of(const planner_question *q, uint64_t limi
 static inline uint32_t planner_best_of(const planner_question *q, uint64_t *values, uint8_t *buffer,
                                        size_t buffer_length) {
     return planner_ask_of(q, PLANNER_BEST, 0, values, buffer, buffer_length);
+}
+
+static inline uint32_t planner_within_of(const planner_question *q, size_t trials, uint64_t *values, uint8_t *buffer,
+                                         size_t buffer_length) {
+    static uint8_t none = 0;
+    const planner_list graph = planner_list_of(q->graph, q->graph_length);
+    const planner_list classes = planner_list_of(q->classes.bytes, q->classes.length);
+    const planner_list vans = planner_list_of(q->vans.bytes, q->vans.length);
+    return planner_within(trials, q->kind, q->k, graph.bytes, graph.length, planner_brought(q), classes.bytes,
+                          classes.length, vans.bytes, vans.length, values, buffer != NULL ? buffer : &none,
+                          buffer != NULL ? buffer_length : 0);
 }
 
 static inline uint32_t planner_check_of(const planner_question *q, const uint8_t *cover, size_t cover_length,

@@ -4,7 +4,7 @@ use Prim.Native.Nat.{_≤_}
 use native.Mathlib.Omega.{arith}
 use Rattle.graph_check.specs.declared.Cause.the-variants as cause
 use Rattle.admit.specs.declared.refusal.Refusal.{Refusal}
-use Rattle.admit.specs.declared.refusal.Refusal.the-variants.{Sheet, Classes, Adjusted, Crews, Vans, Limit, Room, Length, Starts, Entries, Trees, Vertices, TreeNumber, WalkRoom}
+use Rattle.admit.specs.declared.refusal.Refusal.the-variants.{Sheet, Classes, Adjusted, Crews, Vans, Limit, Room, Trials, Length, Starts, Entries, Trees, Vertices, TreeNumber, WalkRoom}
 use Rattle.admit.specs.Refusals.{numberOf}
 
 pub numbers-begin : (f : Refusal) → 11 ≤ numberOf f
@@ -20,6 +20,7 @@ numbers-begin Crews = omega arith
 numbers-begin Vans = omega arith
 numbers-begin Limit = omega arith
 numbers-begin Room = omega arith
+numbers-begin Trials = omega arith
 numbers-begin Length = omega arith
 numbers-begin Starts = omega arith
 numbers-begin Entries = omega arith

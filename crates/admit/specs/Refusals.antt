@@ -5,7 +5,7 @@ use mathlib.Core.Option.{some, none}
 use Rattle.graph.specs.Fault.{Fault}
 use Rattle.graph_check.specs.Check as sheet
 use Rattle.admit.specs.declared.refusal.Refusal.{Refusal}
-use Rattle.admit.specs.declared.refusal.Refusal.the-variants.{Sheet, Classes, Adjusted, Crews, Vans, Limit, Room, Length, Starts, Entries, Trees, Vertices, TreeNumber, WalkRoom}
+use Rattle.admit.specs.declared.refusal.Refusal.the-variants.{Sheet, Classes, Adjusted, Crews, Vans, Limit, Room, Trials, Length, Starts, Entries, Trees, Vertices, TreeNumber, WalkRoom}
 use Rattle.admit.specs.declared.Admitted.{Admitted}
 use Rattle.admit.specs.declared.Admitted.the-variants.{Refused, Fits}
 
@@ -17,6 +17,7 @@ numberOf Crews = 21
 numberOf Vans = 55
 numberOf Limit = 22
 numberOf Room = 23
+numberOf Trials = 56
 numberOf Length = 31
 numberOf Starts = 32
 numberOf Entries = 33

@@ -5,6 +5,9 @@ ghost use Rattle.admit.specs.Refusals.{numberOf};
 // "B is 0 to 2,048,000,000".
 pub const MOST_LIMIT: u64 = 2048000000;
 
+// The most trials that a search may be asked for: so many are enough on every graph.
+pub const MOST_TRIALS: usize = 33;
+
 // The least length of a buffer, in bytes: room for any cover.
 pub const LEAST_ROOM: usize = 32708;
 
@@ -27,6 +30,8 @@ pub enum Refusal {
     Limit,
     // The buffer is too small.
     Room,
+    // The number of trials is too small or too large.
+    Trials,
     // A filed cover: its length is not that of so many trees and entries.
     Length,
     // Its number of trees or a start breaks the kind's rule, or a start is no vertex.
@@ -55,6 +60,7 @@ pub fn number(refusal: Refusal) -> u32
         Refusal::Vans => 55,
         Refusal::Limit => 22,
         Refusal::Room => 23,
+        Refusal::Trials => 56,
         Refusal::Length => 31,
         Refusal::Starts => 32,
         Refusal::Entries => 33,

@@ -1,4 +1,4 @@
-// A question about a graph, prepared once and answered: a trial at a limit, or the best limit.
+// A question about a graph, prepared once and answered: a trial at a limit, or the search for the best limit.
 use crate::ask_rooted::ask_rooted;
 use crate::ask_unrooted::ask_unrooted;
 use admit::crews::Kind;
@@ -6,26 +6,28 @@ use admit::vans::put_roots;
 use answers::answer_at;
 use answers::no_cover;
 use replies::Reply;
-use search::limit::best_limit;
+use replies::Told;
+use replies::UNTRIED;
+use search::limit::find_limit;
 ghost use lib.ListN.{length};
 ghost use Rattle.graph.specs.Bytes.{graphOf};
 ghost use Rattle.admit.specs.Brought.{brought};
 ghost use Rattle.admit.specs.Crews.{crewsOf};
-ghost use Rattle.asking.specs.declared.ask.Asked.the-variants.{Best};
+ghost use Rattle.asking.specs.declared.ask.Asked.the-variants.{Within};
 ghost use Rattle.prepare.specs.Crews.{crewsWith};
 ghost use Rattle.answers.specs.Answers.{AnswerAsked};
-ghost use Rattle.asking.specs.Asking.{Answered, AskedReady, CrewsAsked};
+ghost use Rattle.asking.specs.Asking.{Answered, AskedReady, SearchReady, CrewsAsked};
 
 // What is asked.
 pub enum Asked {
     // A trial at a limit.
     At(u64),
-    // The best limit.
-    Best,
+    // The search for the best limit, with at most so many trials.
+    Within(usize),
 }
 
-// The answer at the best limit, or that no cover exists.
-fn answer_best(
+// The answer at the limit that is found with at most so many trials, or that no cover exists, which is known before any.
+fn answer_within(
     kind: Kind,
     k: usize,
     b: &[u8],
@@ -38,18 +40,22 @@ fn answer_best(
     lasts: &[u32],
     total: &[u64],
     until: &[u16],
+    trials: usize,
     buf: &mut [u8],
     classes: &[u8],
-) -> Reply
-    requires { ⌜ AnswerAsked kind k (graphOf (now b) (now classes)) (now roots) (now order) (now kept) (now bounds)
-        (now arcs) (now distances) (now lasts) (now total) (now until) (length (now buf)) ⌝ }
-    ensures { λ r. ⌜ Answered Best (graphOf (now (b .entry)) (now (classes .entry))) (crewsWith kind k
+) -> Told
+    requires { ⌜ SearchReady kind k (graphOf (now b) (now classes)) (now roots) (now order) (now kept) (now bounds)
+        (now arcs) (now distances) (now lasts) (now total) (now until) trials (length (now buf)) ⌝ }
+    ensures { λ r. ⌜ Answered (Within trials) (graphOf (now (b .entry)) (now (classes .entry))) (crewsWith kind k
         (now (roots .entry))) (now (buf .entry)) (now (buf .exit)) r ⌝ }
 {
     if no_cover(kind, k, b, roots, kept, classes) {
-        return Reply::NoCover;
+        return Told {
+            reply: Reply::NoCover,
+            known: UNTRIED,
+        };
     }
-    let limit = best_limit(
+    let found = find_limit(
         kind,
         k,
         b,
@@ -61,14 +67,15 @@ fn answer_best(
         distances,
         total,
         until,
+        trials,
         classes,
     );
-    answer_at(
+    let reply = answer_at(
         kind,
         k,
         b,
         roots,
-        limit,
+        found.high,
         order,
         kept,
         bounds,
@@ -79,7 +86,12 @@ fn answer_best(
         until,
         buf,
         classes,
-    )
+    );
+    let known = found.known;
+    Told {
+        reply: reply,
+        known: known,
+    }
 }
 
 // The answer, over everything that was prepared. What crews of the other kind read is empty.
@@ -99,19 +111,41 @@ pub(crate) fn answer_asked(
     until: &[u16],
     buf: &mut [u8],
     classes: &[u8],
-) -> Reply
+) -> Told
     requires { ⌜ AskedReady kind k (graphOf (now b) (now classes)) (now roots) asked (now order) (now kept) (now bounds)
         (now arcs) (now distances) (now lasts) (now total) (now until) (length (now buf)) ⌝ }
     ensures { λ r. ⌜ Answered asked (graphOf (now (b .entry)) (now (classes .entry))) (crewsWith kind k
         (now (roots .entry))) (now (buf .entry)) (now (buf .exit)) r ⌝ }
 {
     match asked {
-        Asked::At(limit) => answer_at(
+        Asked::At(limit) => {
+            let reply = answer_at(
+                kind,
+                k,
+                b,
+                roots,
+                limit,
+                order,
+                kept,
+                bounds,
+                arcs,
+                distances,
+                lasts,
+                total,
+                until,
+                buf,
+                classes,
+            );
+            Told {
+                reply: reply,
+                known: UNTRIED,
+            }
+        }
+        Asked::Within(trials) => answer_within(
             kind,
             k,
             b,
             roots,
-            limit,
             order,
             kept,
             bounds,
@@ -120,22 +154,7 @@ pub(crate) fn answer_asked(
             lasts,
             total,
             until,
-            buf,
-            classes,
-        ),
-        Asked::Best => answer_best(
-            kind,
-            k,
-            b,
-            roots,
-            order,
-            kept,
-            bounds,
-            arcs,
-            distances,
-            lasts,
-            total,
-            until,
+            trials,
             buf,
             classes,
         ),
@@ -153,7 +172,7 @@ pub fn ask_crews(
     classes: &[u8],
     given: bool,
     vans: &[u8],
-) -> Reply
+) -> Told
     requires { ⌜ CrewsAsked kind k (brought given (now vans)) (graphOf (now b) (now classes)) asked
         (length (now buf)) ⌝ }
     ensures { λ r. ⌜ Answered asked (graphOf (now (b .entry)) (now (classes .entry)))

@@ -4,7 +4,7 @@ use crate::ask::Asked;
 use crate::ask::answer_asked;
 use admit::crews::Kind;
 use prepare::prepare_rooted;
-use replies::Reply;
+use replies::Told;
 ghost use lib.ListN.{length};
 ghost use Rattle.graph.specs.Bytes.{graphOf};
 ghost use Rattle.rules.specs.Cover.{rooted};
@@ -25,7 +25,7 @@ fn ask_rooted_in(
     lasts: &mut [u32],
     buf: &mut [u8],
     classes: &[u8],
-) -> Reply
+) -> Told
     requires { ⌜ RootedLent (graphOf (now b) (now classes)) (now roots) asked (now order) (now kept) (now bounds)
         (now all) (now arcs) (now distances) (now lasts) (length (now buf)) ⌝ }
     ensures { λ r. ⌜ RootedAnswered asked (graphOf (now (b .entry)) (now (classes .entry))) (now (roots .entry))
@@ -66,7 +66,7 @@ fn ask_rooted_in(
 }
 
 // Lends arrays that a small graph and few crews fit in.
-fn ask_rooted_small(b: &[u8], roots: &[u16], asked: Asked, buf: &mut [u8], classes: &[u8]) -> Reply
+fn ask_rooted_small(b: &[u8], roots: &[u16], asked: Asked, buf: &mut [u8], classes: &[u8]) -> Told
     requires { ⌜ RootedSmall (graphOf (now b) (now classes)) (now roots) asked (length (now buf)) ⌝ }
     ensures { λ r. ⌜ Answered asked (graphOf (now (b .entry)) (now (classes .entry))) (rooted (now (roots .entry)))
         (now (buf .entry)) (now (buf .exit)) r ⌝ }
@@ -95,7 +95,7 @@ fn ask_rooted_small(b: &[u8], roots: &[u16], asked: Asked, buf: &mut [u8], class
 }
 
 // Lends arrays that every graph and all crews fit in.
-fn ask_rooted_full(b: &[u8], roots: &[u16], asked: Asked, buf: &mut [u8], classes: &[u8]) -> Reply
+fn ask_rooted_full(b: &[u8], roots: &[u16], asked: Asked, buf: &mut [u8], classes: &[u8]) -> Told
     requires { ⌜ RootedAsked (graphOf (now b) (now classes)) (now roots) asked (length (now buf)) ⌝ }
     ensures { λ r. ⌜ Answered asked (graphOf (now (b .entry)) (now (classes .entry))) (rooted (now (roots .entry)))
         (now (buf .entry)) (now (buf .exit)) r ⌝ }
@@ -143,7 +143,7 @@ pub(crate) fn ask_rooted(
     asked: Asked,
     buf: &mut [u8],
     classes: &[u8],
-) -> Reply
+) -> Told
     requires { ⌜ RootedAsked (graphOf (now b) (now classes)) (now roots) asked (length (now buf)) ⌝ }
     ensures { λ r. ⌜ Answered asked (graphOf (now (b .entry)) (now (classes .entry))) (rooted (now (roots .entry)))
         (now (buf .entry)) (now (buf .exit)) r ⌝ }

@@ -4,7 +4,7 @@ use crate::ask::Asked;
 use crate::ask::answer_asked;
 use admit::crews::Kind;
 use prepare::prepare_unrooted;
-use replies::Reply;
+use replies::Told;
 ghost use lib.ListN.{length};
 ghost use Rattle.graph.specs.Bytes.{graphOf};
 ghost use Rattle.rules.specs.Cover.{unrooted};
@@ -20,7 +20,7 @@ fn ask_unrooted_in(
     order: &mut [u16],
     buf: &mut [u8],
     classes: &[u8],
-) -> Reply
+) -> Told
     requires { ⌜ UnrootedLent k (graphOf (now b) (now classes)) asked (length (now keys)) (length (now spare))
         (length (now order)) (length (now buf)) ⌝ }
     ensures { λ r. ⌜ UnrootedAnswered asked k (graphOf (now (b .entry)) (now (classes .entry))) (now (keys .entry))
@@ -60,7 +60,7 @@ fn ask_unrooted_in(
 }
 
 // Lends arrays that 512 edges fit in.
-fn ask_unrooted_small(k: usize, b: &[u8], asked: Asked, buf: &mut [u8], classes: &[u8]) -> Reply
+fn ask_unrooted_small(k: usize, b: &[u8], asked: Asked, buf: &mut [u8], classes: &[u8]) -> Told
     requires { ⌜ UnrootedSmall k (graphOf (now b) (now classes)) asked (length (now buf)) ⌝ }
     ensures { λ r. ⌜ Answered asked (graphOf (now (b .entry)) (now (classes .entry))) (unrooted k) (now (buf .entry))
         (now (buf .exit)) r ⌝ }
@@ -72,7 +72,7 @@ fn ask_unrooted_small(k: usize, b: &[u8], asked: Asked, buf: &mut [u8], classes:
 }
 
 // Lends arrays that the edges of every graph fit in.
-fn ask_unrooted_full(k: usize, b: &[u8], asked: Asked, buf: &mut [u8], classes: &[u8]) -> Reply
+fn ask_unrooted_full(k: usize, b: &[u8], asked: Asked, buf: &mut [u8], classes: &[u8]) -> Told
     requires { ⌜ UnrootedAsked k (graphOf (now b) (now classes)) asked (length (now buf)) ⌝ }
     ensures { λ r. ⌜ Answered asked (graphOf (now (b .entry)) (now (classes .entry))) (unrooted k) (now (buf .entry))
         (now (buf .exit)) r ⌝ }
@@ -84,13 +84,7 @@ fn ask_unrooted_full(k: usize, b: &[u8], asked: Asked, buf: &mut [u8], classes: 
 }
 
 // The answer to a question by k crews without roots.
-pub(crate) fn ask_unrooted(
-    k: usize,
-    b: &[u8],
-    asked: Asked,
-    buf: &mut [u8],
-    classes: &[u8],
-) -> Reply
+pub(crate) fn ask_unrooted(k: usize, b: &[u8], asked: Asked, buf: &mut [u8], classes: &[u8]) -> Told
     requires { ⌜ UnrootedAsked k (graphOf (now b) (now classes)) asked (length (now buf)) ⌝ }
     ensures { λ r. ⌜ Answered asked (graphOf (now (b .entry)) (now (classes .entry))) (unrooted k) (now (buf .entry))
         (now (buf .exit)) r ⌝ }

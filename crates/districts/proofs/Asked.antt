@@ -4,13 +4,14 @@ use Prim.Native.Nat.{ℕ, _≤_}
 use mathlib.Core.List.{List}
 use lib.ListN.{length}
 use Rattle.graph.specs.Graph.{Graph}
-use Rattle.rules.specs.Questions.{Question, graphIn, askTrial, askBest}
+use Rattle.rules.specs.Questions.{Question, graphIn, askTrial, askWithin}
 use Rattle.replies.specs.declared.Reply.{Reply}
+use Rattle.replies.specs.declared.Told.{Told}
 use Rattle.asking.specs.declared.ask.Asked.{Asked}
-use Rattle.asking.specs.declared.ask.Asked.the-variants.{At, Best}
-use Rattle.planner.specs.Promise.{TrialPromise, BestPromise, AskPromise}
+use Rattle.asking.specs.declared.ask.Asked.the-variants.{At, Within}
+use Rattle.planner.specs.Promise.{TrialPromise, WithinPromise, AskPromise}
 use Rattle.reply_text.specs.Replies.{TextAsked}
-use Rattle.reply_text.proofs.PrintableReplies.{ask-trial-printable, ask-best-printable}
+use Rattle.reply_text.proofs.PrintableReplies.{ask-trial-printable, ask-within-printable}
 
 module _ {q : Question} {before after : List ℕ} {r : Reply} {room : ℕ} where
   trial-asked : {limit : ℕ} → TrialPromise q limit before after r → 65536 ≤ room → TextAsked (graphIn q) r after room
@@ -23,19 +24,20 @@ module _ {q : Question} {before after : List ℕ} {r : Reply} {room : ℕ} where
         enough = enough;
       }
 
-  best-asked : BestPromise q before after r → 65536 ≤ room → TextAsked (graphIn q) r after room
-  best-asked p enough =
+module _ {q : Question} {before after : List ℕ} {t : Told} {room : ℕ} where
+  within-asked : {n : ℕ} → WithinPromise q n before after t → 65536 ≤ room → TextAsked (graphIn q) (t .reply) after room
+  within-asked {n} p enough =
       record {
-        ruled = askBest q (length before) (p .choices);
+        ruled = askWithin q n (length before) (p .choices) .reply;
         earlier = before;
-        replied = p .rule;
-        printable = ask-best-printable q (length before) (p .choices) (p .means);
+        replied = p .rule .replied;
+        printable = ask-within-printable q (length before) (p .choices) n (p .means);
         enough = enough;
       }
 
-pub ask-asked : (asked : Asked) (q : Question) (before : List ℕ) {after : List ℕ} {r : Reply} {room : ℕ} → AskPromise asked q before after r → 65536 ≤ room → TextAsked (graphIn q) r after room
-ask-asked (At limit) q before p enough = trial-asked p enough
-ask-asked Best q before p enough = best-asked p enough
+pub ask-asked : (asked : Asked) (q : Question) (before : List ℕ) {after : List ℕ} (t : Told) {room : ℕ} → AskPromise asked q before after t → 65536 ≤ room → TextAsked (graphIn q) (t .reply) after room
+ask-asked (At limit) q before t p enough = trial-asked (p .promise) enough
+ask-asked (Within n) q before t p enough = within-asked p enough
 
 -- More room does no harm.
 pub wide-asked : {g : Graph} {buf : List ℕ} {reply : Reply} {room more : ℕ} → TextAsked g reply buf room → 65536 ≤ more → TextAsked g reply buf more

@@ -1,16 +1,18 @@
 // Puts document 01's small districts and made graphs to the planner and to the check, and prints what the rules fix of
 // the answers. Standard input holds records, one behind the other: the question (2 bytes: 1 rooted trial, 2 unrooted
-// trial, 3 rooted best, 4 unrooted best, 5 rooted check, 6 unrooted check), k (2), the limit (4), how long the lent
-// buffer is (2), whether the reply is printed whole (2: 1 if it is), the length of the graph's bytes (2) and of the
-// filed cover's (2), which lists are brought (2, a bit for each: 1 the class bytes, 2 the vans), the length of the class
-// list (2), of the list of vans (2) and of a list to come (2, zeros), all lowest byte first, then these bytes: the
-// graph's, the cover's, the class list, the list of vans.
+// trial, 3 rooted best, 4 unrooted best, 5 rooted check, 6 unrooted check, 7 rooted and 8 unrooted best with a number of
+// trials), k (2), the limit or the number of trials (4), how long the lent buffer is (2), whether the reply is printed
+// whole (2: 1 if it is), the length of the graph's bytes (2) and of the filed cover's (2), which lists are brought (2, a
+// bit for each: 1 the class bytes, 2 the vans), the length of the class list (2), of the list of vans (2) and of a list
+// to come (2, zeros), all lowest byte first, then these bytes: the graph's, the cover's, the class list, the list of
+// vans.
 // What it must print was printed by an unrelated implementation. The replies in full go to standard error, as bytes,
 // for a judge that knows which choices are free.
 mod text;
 
 use admit::brought::Lists;
 use admit::crews::Kind;
+use admit::refusal::MOST_TRIALS;
 use asking::ask::Asked;
 use gate_replies::full::filled;
 use gate_replies::full::room;
@@ -18,7 +20,10 @@ use gate_replies::full::write_full;
 use libc::STDERR_FILENO;
 use libc::STDIN_FILENO;
 use libc::STDOUT_FILENO;
+use replies::Known;
 use replies::Reply;
+use replies::Told;
+use text::write_known;
 use text::write_text;
 use text::write_verdict;
 ghost use Prim.Native.Nat.{_^_, _≤_, _<_};
@@ -66,8 +71,15 @@ fn file_reply(reply: Reply, buf: &[u8])
     io::write_all(STDERR_FILENO, &out[..end]);
 }
 
-// The planner's reply to a trial, or to the question for the best limit. It can be printed.
-fn reply_to(
+// Prints what is known besides a reply.
+fn print_known(known: Known) {
+    let mut out = room();
+    let end = write_known(known.trials as u64, known.floor, known.spent, &mut out);
+    io::write_all(STDOUT_FILENO, &out[..end]);
+}
+
+// What the planner tells of a trial, or of the search for the best limit. Its reply can be printed.
+fn told_to(
     asked: Asked,
     kind: Kind,
     k: usize,
@@ -76,16 +88,17 @@ fn reply_to(
     lists: Lists,
     classes: &[u8],
     vans: &[u8],
-) -> Reply
-    ensures { λ r. ⌜ TextAsked (graphIn (asksWith kind k (now (b .entry)) lists (now (classes .entry)) (now (vans .entry)))) r
+) -> Told
+    ensures { λ r. ⌜ TextAsked (graphIn (asksWith kind k (now (b .entry)) lists (now (classes .entry)) (now (vans .entry)))) (r .reply)
         (now (buf .exit)) 65536 ⌝ }
 {
     planner::question::ask(asked, kind, k, b, buf, lists, classes, vans)
 }
 
-// Asks the planner, and prints and files the reply.
+// Asks the planner, and prints and files the reply; prints what is known besides, where that is asked for.
 fn answer(
     asked: Asked,
+    besides: bool,
     whole: bool,
     kind: Kind,
     k: usize,
@@ -97,14 +110,20 @@ fn answer(
 )
     requires { ⌜ length (now buf) ≤ 65536 ⌝ }
 {
-    let reply = reply_to(asked, kind, k, b, buf, lists, classes, vans);
+    let told = told_to(asked, kind, k, b, buf, lists, classes, vans);
+    let reply = told.reply;
     print_reply(whole, kind, k, b, reply, buf, lists, classes, vans);
     file_reply(reply, buf);
+    if besides {
+        let known = told.known;
+        print_known(known);
+    }
 }
 
 // Has the planner asked with a filled buffer of the length that the record names.
 fn ask(
     asked: Asked,
+    besides: bool,
     whole: bool,
     lent: usize,
     kind: Kind,
@@ -119,6 +138,7 @@ fn ask(
     let mut buf = filled();
     answer(
         asked,
+        besides,
         whole,
         kind,
         k,
@@ -151,55 +171,25 @@ fn answer_record(
     classes: &[u8],
     vans: &[u8],
 )
-    requires { ⌜ lent < 2 ^ 16 ⌝ }
+    requires { ⌜ (lent < 2 ^ 16) × (question < 2 ^ 16) ⌝ }
 {
-    match question {
-        1 => ask(
-            Asked::At(limit),
-            whole,
-            lent,
-            Kind::Rooted,
-            k,
-            b,
-            lists,
-            classes,
-            vans,
-        ),
-        2 => ask(
-            Asked::At(limit),
-            whole,
-            lent,
-            Kind::Unrooted,
-            k,
-            b,
-            lists,
-            classes,
-            vans,
-        ),
-        3 => ask(
-            Asked::Best,
-            whole,
-            lent,
-            Kind::Rooted,
-            k,
-            b,
-            lists,
-            classes,
-            vans,
-        ),
-        4 => ask(
-            Asked::Best,
-            whole,
-            lent,
-            Kind::Unrooted,
-            k,
-            b,
-            lists,
-            classes,
-            vans,
-        ),
-        5 => check(Kind::Rooted, k, b, filed, lists, classes, vans),
-        _ => check(Kind::Unrooted, k, b, filed, lists, classes, vans),
+    let kind = kind_of(question);
+    let at = Asked::At(limit);
+    let best = Asked::Within(MOST_TRIALS);
+    let within = Asked::Within(limit as usize);
+    match (question + 1) / 2 {
+        1 => ask(at, false, whole, lent, kind, k, b, lists, classes, vans),
+        2 => ask(best, false, whole, lent, kind, k, b, lists, classes, vans),
+        3 => check(kind, k, b, filed, lists, classes, vans),
+        _ => ask(within, true, whole, lent, kind, k, b, lists, classes, vans),
+    }
+}
+
+// The kind of a question by its number: odd ones are rooted.
+fn kind_of(question: usize) -> Kind {
+    match question % 2 {
+        1 => Kind::Rooted,
+        _ => Kind::Unrooted,
     }
 }
 

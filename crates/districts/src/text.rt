@@ -5,7 +5,11 @@ use admit::crews::Kind;
 use filed::check::Verdict;
 use gate_replies::fixed::write_fixed;
 use replies::Reply;
+use replies::bit;
+use reply_text::lines::put_last;
 use reply_text::lines::put_line;
+use reply_text::lines::put_spaced;
+use reply_text::lines::put_word;
 use reply_text::reply::write_refused;
 use reply_text::reply::write_reply;
 ghost use Prim.Native.Nat.{_≤_};
@@ -15,7 +19,7 @@ ghost use Rattle.rules.specs.Questions.{graphIn};
 ghost use Rattle.admit.specs.Crews.{asksWith};
 ghost use Rattle.filed.specs.Promise.{says};
 ghost use Rattle.reply_text.specs.Replies.{TextAsked};
-ghost use Rattle.districts.specs.Text.{DistrictWritten, verdictText};
+ghost use Rattle.districts.specs.Text.{DistrictWritten, knownText, verdictText};
 
 // The whole text of a reply, or what the rules fix of it, as the first bytes of `out`. Says how many.
 pub(crate) fn write_text(
@@ -38,6 +42,17 @@ pub(crate) fn write_text(
         return write_reply(b, reply, buf, out, read_list(lists.classes, classes));
     }
     write_fixed(kind, k, b, reply, buf, out, lists, classes, vans)
+}
+
+// `known` trials floor, and 1 where they are spent, 0 where not, as the first bytes of `out`. Says how many.
+pub(crate) fn write_known(trials: u64, floor: u64, spent: bool, out: &mut [u8]) -> usize
+    requires { ⌜ 70 ≤ length (now out) ⌝ }
+    ensures { λ r. ⌜ PutTo 0 (knownText trials floor spent) (now (out .entry)) (now (out .exit)) r ⌝ }
+{
+    let behind_word = put_word(b"known", out, 0);
+    let behind_trials = put_spaced(trials, out, behind_word);
+    let behind_floor = put_spaced(floor, out, behind_trials);
+    put_last(bit(spent), out, behind_floor)
 }
 
 // The check's answer, as the first bytes of `out`. Says how many.

@@ -1,14 +1,14 @@
 -- A reply in full, as bytes: "case, count of values, values, length, front, rest".
 -- Assumes nothing.
 use Prim.Native.Nat.{ℕ, min}
-use mathlib.Core.Bool.{Bool, true, _&&_, cond}
+use mathlib.Core.Bool.{Bool, true, _&&_}
 use mathlib.Core.List.{List, [], _∷_, _++_}
 use lib.ListN.{length, take, drop}
 use lib.Dec.{eqb}
 use Rattle.rules.specs.CoverBytes.{coverLength}
 use Rattle.replies.specs.declared.Reply.{Reply}
 use Rattle.replies.specs.declared.Reply.the-variants.{Refused, Cover, Stop, Parts, Needs, NoCover}
-use Rattle.replies.specs.Replies.{Said, says}
+use Rattle.replies.specs.Replies.{Said, says, bitOf}
 use Rattle.gate_replies.specs.Fields.{field, fields}
 
 -- What a reply says: the number of its case (2 bytes), how many values (2), and these (8 each).
@@ -33,13 +33,9 @@ unfoldable pub untouched : List ℕ → Bool
 untouched [] = true
 untouched (x ∷ xs) = eqb x 165 && untouched xs
 
--- True as 1 and false as 0.
-abbrev pub bit : Bool → ℕ
-bit is = cond is 1 0
-
 -- What the reply says, how many bytes it wrote (4 bytes), these, and whether the rest of the buffer is as it came (1).
 unfoldable pub fullOf : Said → List ℕ → List ℕ → List ℕ
-fullOf s front rest = headOf s ++ (field 4 (length front) ++ (front ++ field 1 (bit (untouched rest))))
+fullOf s front rest = headOf s ++ (field 4 (length front) ++ (front ++ field 1 (bitOf (untouched rest))))
 
 -- The same of a reply and the buffer that it was given with.
 unfoldable pub fullReply : Reply → List ℕ → List ℕ

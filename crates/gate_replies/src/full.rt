@@ -4,13 +4,14 @@ use crate::fields::put_field;
 use crate::fields::put_values;
 use cover::read::cover_length;
 use replies::Reply;
+use replies::bit;
 use reply_text::lines::put_word;
 ghost use mathlib.Core.Path.{_≡_};
 ghost use Prim.Native.Nat.{_+_, _*_, _≤_};
 ghost use lib.ListN.{length, replicate};
 ghost use Rattle.lists.specs.Put.{PutTo};
 ghost use Rattle.replies.specs.Replies.{said, says};
-ghost use Rattle.gate_replies.specs.Full.{headOf, announcedIn, frontLength, untouched, bit, fullOf, fullReply};
+ghost use Rattle.gate_replies.specs.Full.{headOf, announcedIn, frontLength, untouched, fullOf, fullReply};
 
 // What every byte of a lent buffer is before a question.
 const FILL: u8 = 165;
@@ -102,13 +103,6 @@ fn is_untouched(rest: &[u8]) -> bool
     true
 }
 
-// 1 for true, 0 for false.
-fn number_of(is: bool) -> u64
-    ensures { λ r. ⌜ r ≡ bit is ⌝ }
-{
-    if is { 1 } else { 0 }
-}
-
 // The reply in full, as the first bytes: what it says, the front of its buffer, which it wrote, and whether the rest of
 // that is as it came.
 fn write_front(reply: Reply, front: &[u8], rest: &[u8], out: &mut [u8]) -> usize
@@ -119,7 +113,7 @@ fn write_front(reply: Reply, front: &[u8], rest: &[u8], out: &mut [u8]) -> usize
     let behind_said = put_said(reply, out);
     let behind_length = put_field(4, front.len() as u64, out, behind_said);
     let behind_front = put_word(front, out, behind_length);
-    put_field(1, number_of(is_untouched(rest)), out, behind_front)
+    put_field(1, bit(is_untouched(rest)), out, behind_front)
 }
 
 // The reply in full, from the buffer that it was given with.

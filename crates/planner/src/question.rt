@@ -6,14 +6,17 @@ use admit::brought::NO_LISTS;
 use admit::crews::Kind;
 use admit::refusal::LEAST_ROOM;
 use admit::refusal::MOST_LIMIT;
+use admit::refusal::MOST_TRIALS;
 use admit::refusal::Refusal;
 use asking::ask::Asked;
 use asking::ask::ask_crews;
 use replies::Reply;
+use replies::Told;
+use replies::UNTRIED;
 ghost use mathlib.Core.Path.{_≡_};
 ghost use Rattle.admit.specs.Crews.{asks, asksWith};
 ghost use Rattle.admit.specs.Refusals.{faultIn};
-ghost use Rattle.planner.specs.Promise.{LimitTested, faultOf, TrialPromise, BestPromise, AskPromise};
+ghost use Rattle.planner.specs.Promise.{LimitTested, TrialsTested, faultOf, TrialPromise, BestPromise, AskPromise};
 
 // Whether the limit, where one is given, is not too large.
 fn limit_right(asked: Asked) -> bool
@@ -21,7 +24,17 @@ fn limit_right(asked: Asked) -> bool
 {
     match asked {
         Asked::At(limit) => limit <= MOST_LIMIT,
-        Asked::Best => true,
+        Asked::Within(_) => true,
+    }
+}
+
+// Whether the number of trials, where one is given, is neither too small nor too large.
+fn trials_right(asked: Asked) -> bool
+    ensures { λ r. ⌜ TrialsTested asked r ⌝ }
+{
+    match asked {
+        Asked::At(_) => true,
+        Asked::Within(trials) => 2 <= trials && trials <= MOST_TRIALS,
     }
 }
 
@@ -49,12 +62,16 @@ fn test(
             if room < LEAST_ROOM {
                 return Admitted::Refused(Refusal::Room);
             }
+            if !trials_right(asked) {
+                return Admitted::Refused(Refusal::Trials);
+            }
             Admitted::Fits
         }
     }
 }
 
-// Either question, with the lists that are brought.
+// Either question, with the lists that are brought: a trial at a limit, or the search for the best limit with at most so
+// many trials (document 02, A.6).
 pub fn ask(
     asked: Asked,
     kind: Kind,
@@ -64,12 +81,15 @@ pub fn ask(
     lists: Lists,
     classes: &[u8],
     vans: &[u8],
-) -> Reply
+) -> Told
     ensures { λ r. ⌜ AskPromise asked (asksWith kind k (now (b .entry)) lists (now (classes .entry))
         (now (vans .entry))) (now (buf .entry)) (now (buf .exit)) r ⌝ }
 {
     match test(kind, k, asked, b, buf.len(), lists, classes, vans) {
-        Admitted::Refused(f) => Reply::Refused(f),
+        Admitted::Refused(f) => Told {
+            reply: Reply::Refused(f),
+            known: UNTRIED,
+        },
         Admitted::Fits => {
             if lists.classes {
                 return ask_crews(kind, k, b, asked, buf, classes, lists.vans, vans);
@@ -83,13 +103,26 @@ pub fn ask(
 pub fn trial(kind: Kind, k: usize, limit: u64, b: &[u8], buf: &mut [u8]) -> Reply
     ensures { λ r. ⌜ TrialPromise (asks kind k (now (b .entry))) limit (now (buf .entry)) (now (buf .exit)) r ⌝ }
 {
-    ask(Asked::At(limit), kind, k, b, buf, NO_LISTS, &[], &[])
+    let told = ask(Asked::At(limit), kind, k, b, buf, NO_LISTS, &[], &[]);
+    let reply = told.reply;
+    reply
 }
 
 // "The best limit", without lists: a cover whose heaviest tree weighs at most four times that of any cover's, or that
-// there is none.
+// there is none. It is the search with as many trials as may be asked for, which are never spent.
 pub fn best(kind: Kind, k: usize, b: &[u8], buf: &mut [u8]) -> Reply
     ensures { λ r. ⌜ BestPromise (asks kind k (now (b .entry))) (now (buf .entry)) (now (buf .exit)) r ⌝ }
 {
-    ask(Asked::Best, kind, k, b, buf, NO_LISTS, &[], &[])
+    let told = ask(
+        Asked::Within(MOST_TRIALS),
+        kind,
+        k,
+        b,
+        buf,
+        NO_LISTS,
+        &[],
+        &[],
+    );
+    let reply = told.reply;
+    reply
 }

@@ -1,21 +1,24 @@
 // The planner as a library that a C or a Rust program links: `include/planner.h` declares it. Four functions take a
-// question without lists; beside them three general ones take what a question may bring beside its graph.
+// question without lists; beside them four general ones take what a question may bring beside its graph.
 pub mod said;
 
 use crate::said::asked_of;
 use crate::said::kind_of;
 use crate::said::lists_of;
+use crate::said::number_told;
 use crate::said::put_heaviest;
+use crate::said::put_told;
 use crate::said::put_values;
 use crate::said::put_walk;
 use admit::brought::NO_LISTS;
+use asking::ask::Asked;
 use closed_walk::walk::walk;
 use filed::check::check;
 use planner::question::ask;
 use replies::number_of;
 ghost use Rattle.admit.specs.Crews.{asks, asksWith};
-ghost use Rattle.planner_c.specs.Numbers.{kindOf, askedOf, listsOf};
-ghost use Rattle.planner_c.specs.Promise.{AskExported, TrialExported, BestExported, CheckExported, WalkExported};
+ghost use Rattle.planner_c.specs.Numbers.{kindOf, listsOf};
+ghost use Rattle.planner_c.specs.Promise.{AskExported, TrialExported, BestExported, WithinExported, CheckExported, WalkExported};
 
 // A trial at a limit, with its reply as a number and values.
 #[no_mangle]
@@ -112,12 +115,12 @@ pub extern "C" fn planner_ask(
     values: &mut [u64; 3],
     buffer: &mut [u8],
 ) -> u32
-    ensures { λ r. ⌜ AskExported (askedOf asked limit) (asksWith (kindOf kind) k (now (graph .entry)) (listsOf brought)
+    ensures { λ r. ⌜ AskExported asked limit (asksWith (kindOf kind) k (now (graph .entry)) (listsOf brought)
         (now (classes .entry)) (now (vans .entry))) (now (values .entry)) (now (values .exit)) (now (buffer .entry))
         (now (buffer .exit)) r ⌝ }
 {
     let question = asked_of(asked, limit);
-    let reply = ask(
+    let told = ask(
         question,
         kind_of(kind),
         k,
@@ -127,8 +130,41 @@ pub extern "C" fn planner_ask(
         classes,
         vans,
     );
+    let reply = told.reply;
     put_values(reply, values);
     number_of(reply)
+}
+
+// The best limit's question with a number of trials, with the lists that are brought: its reply as a number and values,
+// six of a cover.
+#[no_mangle]
+pub extern "C" fn planner_within(
+    trials: usize,
+    kind: u32,
+    k: usize,
+    graph: &[u8],
+    brought: u32,
+    classes: &[u8],
+    vans: &[u8],
+    values: &mut [u64; 6],
+    buffer: &mut [u8],
+) -> u32
+    ensures { λ r. ⌜ WithinExported (asksWith (kindOf kind) k (now (graph .entry)) (listsOf brought)
+        (now (classes .entry)) (now (vans .entry))) trials (now (values .entry)) (now (values .exit))
+        (now (buffer .entry)) (now (buffer .exit)) r ⌝ }
+{
+    let told = ask(
+        Asked::Within(trials),
+        kind_of(kind),
+        k,
+        graph,
+        buffer,
+        lists_of(brought),
+        classes,
+        vans,
+    );
+    put_told(told, values);
+    number_told(told)
 }
 
 // The check of a filed cover, with the lists that are brought.

@@ -39,7 +39,7 @@ use Rattle.planner_laws.proofs.ComponentEdges.{component-roots, compone
 use Rattle.planner_laws.proofs.SomeChoices.{good-choices}
 use Rattle.planner_laws.proofs.TrialBounds.{trialTrees}
 use Rattle.planner_laws.proofs.BothKinds.{trial-bounds}
-use Rattle.planner_laws.proofs.BestLimit.{allWeights}
+use Rattle.planner_laws.proofs.FirstBounds.{allWeights}
 
 module _ (g : Graph) where
   -- A limit above the sum of all weights.

@@ -61,10 +61,12 @@ pub mod BothKinds
 pub mod SomeChoices
 -- the search between a refused and an accepted limit
 pub mod SearchSteps
--- the best limit is accepted, and at most every cover's heaviest
-pub mod BestLimit
--- it is within document 01's range
-pub mod BestRange
+-- where it begins: the sum of all weights is accepted
+pub mod FirstBounds
+-- the trials that it makes, stopped after some (document 02, A.6)
+pub mod TrialsMade
+-- what is known after them; where they are not spent, high is the best limit, and at most every cover's heaviest
+pub mod FewTrials
 -- limit 0 is accepted exactly where weightless edges join every vertex to a root, or into at most k components (document 02, A.4)
 pub mod ZeroLimit
 -- a limit above the sum of all weights is accepted where "no cover" is not said

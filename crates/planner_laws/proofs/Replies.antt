@@ -1,4 +1,5 @@
--- What the replies mean: that of a trial, with good choices at its limit, and that of the best-limit question, with good choices at the best limit.
+-- What the replies mean: that of a trial, with good choices at its limit, and that of the best limit's question, with a number of trials or without one,
+-- with good choices at the limit replied.
 -- Assumes nothing.
 use Prim.Native.Nat.{ℕ, _*_, _≤_, _<_}
 use mathlib.Core.Path.{_≡_, refl, sym, ap, _∙_, subst}
@@ -11,17 +12,19 @@ use lib.Dec.{leb}
 use Rattle.graph.specs.Graph.{Graph}
 use Rattle.graph.specs.Valid.{Valid}
 use Rattle.rules.specs.Cover.{Tree, heaviest, Crews, rooted, unrooted, IsCover}
-use Rattle.rules.specs.Reply.{Reply, covered, too-low-parts, too-low-needs, no-cover}
+use Rattle.rules.specs.Reply.{Reply, refused, covered, too-low-stop, too-low-parts, too-low-needs, no-cover}
 use Rattle.rules.specs.RootedTrial.{Choices, stopOr, unjoinedAt, isAssignable, rootedTrial}
 use Rattle.rules.specs.UnrootedTrial.{needed, unrootedTrial}
-use Rattle.rules.specs.Search.{noVertex, accepts, trial, noCover, bestLimit, best}
+use Rattle.rules.specs.Search.{noVertex, accepts, trial, noCover, Bounds, bestLimit, best}
+use Rattle.rules.specs.FewTrials.{standing, Known, known, Told, untried, beforeTrials, within}
+use Rattle.rules.specs.Questions.{mostTrials}
 use Rattle.rules.specs.Weightless.{WeightlessJoined}
 use Rattle.rules.specs.Fit.{GoodFor, CrewsFit}
-use Rattle.planner_laws.specs.Meaning.{NoneWithin, NoneAtAll, AtZero, TrialSays, TrialMeans, BestSays, BestMeans}
+use Rattle.planner_laws.specs.Meaning.{NoneWithin, NoneAtAll, AtZero, TrialSays, TrialMeans, BestSays, BestMeans, WithinSays, WithinMeans}
 use Rattle.planner_laws.proofs.AboveSum.{some-cover}
 use Rattle.planner_laws.proofs.NoCover.{no-cover-none}
 use Rattle.planner_laws.proofs.TrialBounds.{trialTrees, CoverWithin, TrialBounds}
-use Rattle.planner_laws.proofs.BestLimit.{zero-is-best, best-accepted, best-cover, best-factor}
+use Rattle.planner_laws.proofs.FewTrials.{standing-zero, unspent-best, unspent-same, valid-unspent, floor-least, high-accepted, high-cover, unspent-least, unspent-factor}
 use Rattle.planner_laws.proofs.Eightfold.{eightfold}
 use Rattle.planner_laws.proofs.SomeChoices.{good-choices}
 use Rattle.planner_laws.proofs.ZeroLimit.{zero-accepts}
@@ -124,25 +127,45 @@ trial-means {g} crews fit bounds limit c good = record {
   at-zero = λ z. trial-zero fit bounds limit c good (λ w. (z, subst (λ l. accepts g crews l ≡ true) (sym z) (zero-accepts g crews fit .1 w)));
 }
 
--- THE BEST LIMIT
+-- THE BEST LIMIT, AND THE SEARCH STOPPED AFTER SOME TRIALS
 
--- The reply of the best-limit question means what the documents say of it.
-pub best-means : {g : Graph} → Valid g → (crews : Crews) → CrewsFit g crews → TrialBounds g crews → (c : Choices) → GoodFor g crews (bestLimit g crews) c → BestMeans g crews (best g crews c)
-unfolding best
-best-means {g} valid crews fit bounds c good = go (noCover g crews) refl
+-- What is told where some cover exists.
+abbrev foundWithin : Graph → Crews → ℕ → Choices → Told
+foundWithin g crews p c = record { reply = trial g crews (standing g crews p .high) c; known = known g crews p }
+
+-- The reply of the best limit's question with p trials means what the documents say of it.
+pub within-means : {g : Graph} → Valid g → (crews : Crews) → CrewsFit g crews → TrialBounds g crews → (p : ℕ) (c : Choices) → GoodFor g crews (standing g crews p .high) c
+    → WithinMeans g crews p (within g crews p c)
+unfolding within untried
+within-means {g} valid crews fit bounds p c good = go (noCover g crews) refl
   where
-    four : {trees : List Tree} → IsCover g crews trees → (others : List Tree) → IsCover g crews others
-        → heaviest g (trialTrees g crews (bestLimit g crews) c) ≤ 4 * heaviest g others
-    four cover others o = omega (arith, best-factor bounds cover c good others o)
+    -- 33 trials are never spent.
+    never-spent : p ≡ mostTrials → known g crews p .spent ≡ false
+    never-spent q = subst (λ n. known g crews n .spent ≡ false) (sym q) (valid-unspent valid crews)
 
-    found : (trees : List Tree) → IsCover g crews trees → BestMeans g crews (trial g crews (bestLimit g crews) c)
-    found trees cover =
-        let ours = best-cover bounds cover c good .cover in
-        let accepted = best-accepted bounds cover in
+    four : {trees : List Tree} → IsCover g crews trees → known g crews p .spent ≡ false → (others : List Tree) → IsCover g crews others
+        → heaviest g (trialTrees g crews (standing g crews p .high) c) ≤ 4 * heaviest g others
+    four cover s others o = omega (arith, unspent-factor bounds cover p c good s others o)
+
+    covers : (trees : List Tree) → IsCover g crews trees → WithinMeans g crews p (foundWithin g crews p c)
+    covers trees cover =
+        let ours = high-cover bounds cover p c good in
+        let accepted = high-accepted bounds cover p in
         record {
-          says = rw (accepted-covered g crews (bestLimit g crews) c accepted)
-              (record { carries = record { cover = ours; carried = refl }; factor-four = four cover; within-eight = eightfold valid ours (four cover) });
-          at-zero = trial-zero fit bounds (bestLimit g crews) c good (λ w. (zero-is-best g crews (zero-accepts g crews fit .1 w), accepted));
+          says = rw (accepted-covered g crews (standing g crews p .high) c accepted)
+              (record {
+                carries = record { cover = ours .cover; carried = refl };
+                floor-least = floor-least bounds cover p;
+                factor-four = omega (arith, ours .light);
+                unspent = λ s. record {
+                  carries = record { cover = ours .cover; carried = refl };
+                  limit-least = unspent-least bounds cover p c good s;
+                  factor-four = four cover s;
+                  within-eight = eightfold valid (ours .cover) (four cover s);
+                };
+              });
+          at-zero = trial-zero fit bounds (standing g crews p .high) c good (λ w. (ap (λ (b : Bounds). b .high) (standing-zero g crews p (zero-accepts g crews fit .1 w)), accepted));
+          enough = never-spent;
         }
 
     -- Where there is no cover, none is at limit 0.
@@ -154,7 +177,7 @@ best-means {g} valid crews fit bounds c good = go (noCover g crews) refl
     uncovered : (h : ℕ) (trees : List Tree) → no-cover ≡ covered 0 h trees → ⊥
     uncovered h trees q = let z : _≡_ {A = ℕ} 0 1 = cc in omega arith
 
-    go : (t : Bool) → noCover g crews ≡ t → BestMeans g crews (cond t no-cover (trial g crews (bestLimit g crews) c))
+    go : (t : Bool) → noCover g crews ≡ t → WithinMeans g crews p (cond t (beforeTrials no-cover) (foundWithin g crews p c))
     go true e =
         let never : NoneAtAll g crews = no-cover-none g crews e in
         record {
@@ -163,5 +186,26 @@ best-means {g} valid crews fit bounds c good = go (noCover g crews) refl
             exactly = (λ r. let (h, trees, q) = r in absurd (uncovered h trees q), λ w. absurd (missing never w));
             weighs-nothing = λ h trees q. absurd (uncovered h trees q);
           };
+          enough = λ _. refl;
         }
-    go false e = let (trees, cover) = some-cover valid crews fit e in found trees cover
+    go false e = let (trees, cover) = some-cover valid crews fit e in covers trees cover
+
+-- A reply that is not spent says what the best limit's does.
+unspent-says : (g : Graph) (crews : Crews) (reply : Reply) (k : Known) → k .spent ≡ false → WithinSays g crews reply k → BestSays g crews reply
+unspent-says g crews (refused n) k s w = w
+unspent-says g crews (covered limit h trees) k s w = w .unspent s
+unspent-says g crews (too-low-stop v) k s w = w
+unspent-says g crews (too-low-parts T D parts) k s w = w
+unspent-says g crews (too-low-needs C) k s w = w
+unspent-says g crews no-cover k s w = w
+
+-- So the reply of the best-limit question, which is that after 33 trials, means what the documents say of it.
+pub best-means : {g : Graph} → Valid g → (crews : Crews) → CrewsFit g crews → TrialBounds g crews → (c : Choices) → GoodFor g crews (bestLimit g crews) c → BestMeans g crews (best g crews c)
+best-means {g} valid crews fit bounds c good =
+    let high-best = unspent-best g crews mostTrials (valid-unspent valid crews) in
+    let w = within-means valid crews fit bounds mostTrials c (subst (λ limit. GoodFor g crews limit c) (sym high-best) good) in
+    let same = unspent-same g crews mostTrials c (w .enough refl) in
+    record {
+      says = subst (BestSays g crews) same (unspent-says g crews (within g crews mostTrials c .reply) (within g crews mostTrials c .known) (w .enough refl) (w .says));
+      at-zero = subst (AtZero g crews) same (w .at-zero);
+    }

@@ -2,17 +2,21 @@
 -- Assumes nothing.
 use Prim.Native.Nat.{ℕ}
 use mathlib.Core.Path.{_≡_}
+use mathlib.Core.Bool.{Bool, false, cond}
 use mathlib.Core.List.{List, [], _∷_}
 use lib.ListN.{length}
 use Rattle.graph.specs.Graph.{Graph}
 use Rattle.rules.specs.Cover as cover
 use Rattle.rules.specs.Reply as rules
+use Rattle.rules.specs.FewTrials as few
 use Rattle.rules.specs.RootedTrial.{Choices}
 use Rattle.rules.specs.Search.{trial}
 use Rattle.rules.specs.Questions.{bufferAfter}
 use Rattle.rules.specs.Fit.{GoodFor}
 use Rattle.admit.specs.Refusals.{numberOf}
 use Rattle.replies.specs.declared.Reply.{Reply}
+use Rattle.replies.specs.declared.Known.{Known}
+use Rattle.replies.specs.declared.Told.{Told}
 use Rattle.replies.specs.declared.Reply.the-variants.{Refused, Cover, Stop, Parts, Needs, NoCover}
 
 -- The number of a case and its values. A refusal says its own number, from 11 on, and no value; the other cases are numbered from 0:
@@ -47,6 +51,23 @@ says NoCover = said 4 []
 pub record Replied (reply : rules.Reply) (before after : List ℕ) (r : Reply) : Type 0 where
   pub same : says r ≡ saidOf reply
   pub buffer : after ≡ bufferAfter reply before
+
+-- 1 for true, 0 for false.
+abbrev pub bitOf : Bool → ℕ
+bitOf is = cond is 1 0
+
+-- What is known, as the rules have it.
+abbrev pub knownOf : Known → few.Known
+knownOf k = record { trials = k .trials; floor = k .floor; spent = k .spent }
+
+-- A reply before any trial: nothing is known besides it.
+abbrev pub alone : Reply → Told
+alone reply = record { reply = reply; known = record { trials = 0; floor = 0; spent = false } }
+
+-- The reply and the buffer are what the rules make of them, and what is known besides is what they say.
+pub record Tells (told : few.Told) (before after : List ℕ) (t : Told) : Type 0 where
+  pub replied : Replied (told .reply) before after (t .reply)
+  pub known : knownOf (t .known) ≡ told .known
 
 -- The answer of a trial at a limit, by free choices of which holds what document 01 says.
 pub record Answers (g : Graph) (crews : cover.Crews) (limit : ℕ) (before after : List ℕ) (r : Reply) : Type 0 where

@@ -1,7 +1,8 @@
-// What a trial or a best-limit question is answered, by cause, with document 01's number and values of each answer.
+// What a trial or a best-limit question is answered, by cause, with document 01's number and values of each answer; and
+// what is known besides after some trials.
 use admit::refusal::Refusal;
 ghost use mathlib.Core.Path.{_≡_};
-ghost use Rattle.replies.specs.Replies.{says};
+ghost use Rattle.replies.specs.Replies.{says, bitOf};
 
 // The reply. What is written besides, the cover or the parts, stands in the buffer.
 pub enum Reply {
@@ -19,6 +20,27 @@ pub enum Reply {
     NoCover,
 }
 
+// What is known after some trials of a search: how many were made; a floor, below which no cover's heaviest tree is; and
+// whether they are spent while limits are left to try.
+pub struct Known {
+    pub trials: usize,
+    pub floor: u64,
+    pub spent: bool,
+}
+
+// Before any trial.
+pub const UNTRIED: Known = Known {
+    trials: 0,
+    floor: 0,
+    spent: false,
+};
+
+// A reply, and what is known besides it.
+pub struct Told {
+    pub reply: Reply,
+    pub known: Known,
+}
+
 // Document 01's number of a refusal; the other cases are numbered from 0.
 pub fn number_of(reply: Reply) -> u32
     ensures { λ r. ⌜ r ≡ says reply .number ⌝ }
@@ -31,4 +53,11 @@ pub fn number_of(reply: Reply) -> u32
         Reply::Needs(_) => 3,
         Reply::NoCover => 4,
     }
+}
+
+// 1 for true, 0 for false.
+pub fn bit(is: bool) -> u64
+    ensures { λ r. ⌜ r ≡ bitOf is ⌝ }
+{
+    if is { 1 } else { 0 }
 }

@@ -27,6 +27,8 @@ pub mod RootedTrial
 pub mod UnrootedTrial
 -- "The best limit":
 pub mod Search
+-- the same search, stopped after some trials (document 02, "A.6 A limit before the phone call ends")
+pub mod FewTrials
 -- "Who causes which number":
 -- the check of a filed cover
 pub mod CheckCover

@@ -19,6 +19,7 @@ use Rattle.rules.specs.CheckCover.{coverFault}
 use Rattle.rules.specs.Reply.{Verdict, yes, number, Reply, refused, covered, too-low-stop, too-low-parts, too-low-needs, no-cover}
 use Rattle.rules.specs.RootedTrial.{Choices}
 use Rattle.rules.specs.Search.{trial, best}
+use Rattle.rules.specs.FewTrials.{Told, beforeTrials, within}
 
 -- What a check of a graph's bytes refuses.
 unfoldable pub numberIn : sheet.Answer → Fault
@@ -42,6 +43,13 @@ leastRoom = 32708
 
 unfoldable pub roomFault : ℕ → Fault
 roomFault room = faultIf (ltb room leastRoom) 23
+
+-- 56 (document 02, A.6): "p below 2 or above 33".
+abbrev pub mostTrials : ℕ
+mostTrials = 33
+
+unfoldable pub trialsFault : ℕ → Fault
+trialsFault p = faultIf (ltb p 2 || ltb mostTrials p) 56
 
 -- A "yard" question, whose crews have a root each, or a "roving" one.
 pub data Kind : Type 0 where
@@ -140,6 +148,15 @@ unfoldable pub askBest : Question → ℕ → Choices → Reply
 askBest q room c =
     let answer = best (graphIn q) (crewsIn q) c in
     refusedOr refused (bestFault q room) answer
+
+-- The best-limit question with p trials. 56 is "last of the planner's numbers".
+unfoldable pub withinFault : Question → ℕ → ℕ → Fault
+withinFault q p room = firstFault (questionFault q ∷ roomFault room ∷ trialsFault p ∷ [])
+
+unfoldable pub askWithin : Question → ℕ → ℕ → Choices → Told
+askWithin q p room c =
+    let answer = within (graphIn q) (crewsIn q) p c in
+    refusedOr (λ n. beforeTrials (refused n)) (withinFault q p room) answer
 
 -- The check of a filed cover's bytes.
 unfoldable pub checkFault : Question → List ℕ → Fault

@@ -55,7 +55,7 @@ searched accepted (suc trials) b =
 
 -- The limit where the search ends: 0 where that is accepted, else between 0 and the sum of all weights.
 -- As many trials as that sum are more than enough, since each narrows the bounds. The sum itself is not tried here: it is accepted wherever a
--- cover exists (`sum-accepted` in planner_laws/proofs/BestLimit.antt).
+-- cover exists (`sum-accepted` in planner_laws/proofs/FirstBounds.antt).
 unfoldable pub bestLimit : Graph → Crews → ℕ
 bestLimit g crews =
     let sum = totalWeight g (ordered g) in

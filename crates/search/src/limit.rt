@@ -1,16 +1,30 @@
-// The search for the best limit (document 01, "The best limit"): each trial in it only decides.
+// The search for the best limit (document 01, "The best limit"), which may be stopped after some trials (document 02,
+// A.6): each trial in it only decides.
 use crate::decide::accepts_at;
 use admit::crews::Kind;
 use cover::heaviest::edges_weight;
+use replies::Known;
 use steps::put_steps;
 ghost use mathlib.Core.Path.{_≡_};
 ghost use Rattle.graph.specs.Bytes.{graphOf};
-ghost use Rattle.rules.specs.Search.{bestLimit};
 ghost use Rattle.prepare.specs.Crews.{crewsWith};
-ghost use Rattle.search.specs.Searching.{searchEnd, SearchAsked, BestAsked, SteppedAsked, StepsGiven, StepsFor};
+ghost use Rattle.search.specs.Searching.{SearchEnded, foundAfter, SearchAsked, FindAsked, SteppedAsked, StepsGiven, StepsFor};
+
+// Where a search stands: low was not accepted, high was, and so many limits between them were tried.
+pub struct Standing {
+    pub low: u64,
+    pub high: u64,
+    pub turns: usize,
+}
+
+// What a search found: the least limit that it saw accepted, and what is known besides.
+pub struct Found {
+    pub high: u64,
+    pub known: Known,
+}
 
 // Halves what lies between low, which was not accepted, and high, which was, until they are neighbours or the trials
-// are used up. Says high.
+// are used up.
 fn search(
     kind: Kind,
     k: usize,
@@ -24,19 +38,16 @@ fn search(
     sum: u64,
     budget: usize,
     classes: &[u8],
-) -> u64
+) -> Standing
     requires { ⌜ SearchAsked kind k (graphOf (now b) (now classes)) (now roots) (now kept) (now distances) (now total)
         (now until) (now steps) sum ⌝ }
-    ensures { λ r. ⌜ r ≡ searchEnd (graphOf (now (b .entry)) (now (classes .entry))) (crewsWith kind k
-        (now (roots .entry))) sum budget ⌝ }
+    ensures { λ r. ⌜ SearchEnded (graphOf (now (b .entry)) (now (classes .entry))) (crewsWith kind k
+        (now (roots .entry))) sum budget r ⌝ }
 {
     let mut low = 0;
     let mut high = sum;
     let mut left = budget;
-    while 0 < left {
-        if high - low <= 1 {
-            return high;
-        }
+    while 0 < left && 1 < high - low {
         left -= 1;
         let middle = (low + high) / 2;
         if accepts_at(
@@ -57,11 +68,15 @@ fn search(
         }
         low = middle;
     }
-    high
+    Standing {
+        low: low,
+        high: high,
+        turns: budget - left,
+    }
 }
 
-// The best limit by the steps: 0 where that is accepted, and otherwise where the search ends. 31 trials are enough for
-// any sum of weights.
+// The search by the steps, with at most so many trials: 0 comes first, where that is accepted it is the limit; the sum
+// of all weights counts as the second, but is not run, since it is accepted wherever there is a cover.
 fn search_limit(
     kind: Kind,
     k: usize,
@@ -73,12 +88,13 @@ fn search_limit(
     total: &[u64],
     until: &[u16],
     steps: &[u64],
+    trials: usize,
     classes: &[u8],
-) -> u64
+) -> Found
     requires { ⌜ SteppedAsked kind k (graphOf (now b) (now classes)) (now roots) (now order) (now kept) (now distances)
-        (now total) (now until) (now steps) ⌝ }
-    ensures { λ r. ⌜ r ≡ bestLimit (graphOf (now (b .entry)) (now (classes .entry))) (crewsWith kind k
-        (now (roots .entry))) ⌝ }
+        (now total) (now until) (now steps) trials ⌝ }
+    ensures { λ r. ⌜ r ≡ foundAfter (graphOf (now (b .entry)) (now (classes .entry))) (crewsWith kind k
+        (now (roots .entry))) trials ⌝ }
 {
     if accepts_at(
         kind,
@@ -93,10 +109,17 @@ fn search_limit(
         steps,
         classes,
     ) {
-        return 0;
+        return Found {
+            high: 0,
+            known: Known {
+                trials: 1,
+                floor: 0,
+                spent: false,
+            },
+        };
     }
     let sum = edges_weight(b, order, classes);
-    search(
+    let end = search(
         kind,
         k,
         b,
@@ -107,9 +130,17 @@ fn search_limit(
         until,
         steps,
         sum,
-        31,
+        trials - 2,
         classes,
-    )
+    );
+    Found {
+        high: end.high,
+        known: Known {
+            trials: end.turns + 2,
+            floor: end.low + 1,
+            spent: 1 < end.high - end.low,
+        },
+    }
 }
 
 // Writes the steps of the whole forest's trees, by which crews with roots decide. Says how many they are.
@@ -132,8 +163,8 @@ fn write_steps(
     }
 }
 
-// The best limit. The steps of the whole forest's trees are written once, for all trials of the search.
-pub fn best_limit(
+// The search, with at most so many trials. The steps of the whole forest's trees are written once, for all of them.
+pub fn find_limit(
     kind: Kind,
     k: usize,
     b: &[u8],
@@ -145,12 +176,13 @@ pub fn best_limit(
     distances: &[u32],
     total: &[u64],
     until: &[u16],
+    trials: usize,
     classes: &[u8],
-) -> u64
-    requires { ⌜ BestAsked kind k (graphOf (now b) (now classes)) (now roots) (now order) (now kept) (now bounds)
-        (now arcs) (now distances) (now total) (now until) ⌝ }
-    ensures { λ r. ⌜ r ≡ bestLimit (graphOf (now (b .entry)) (now (classes .entry))) (crewsWith kind k
-        (now (roots .entry))) ⌝ }
+) -> Found
+    requires { ⌜ FindAsked kind k (graphOf (now b) (now classes)) (now roots) (now order) (now kept) (now bounds)
+        (now arcs) (now distances) (now total) (now until) trials ⌝ }
+    ensures { λ r. ⌜ r ≡ foundAfter (graphOf (now (b .entry)) (now (classes .entry))) (crewsWith kind k
+        (now (roots .entry))) trials ⌝ }
 {
     let mut steps = [0u64; 256];
     let count = write_steps(kind, b, roots, bounds, arcs, &mut steps, classes);
@@ -165,6 +197,7 @@ pub fn best_limit(
         total,
         until,
         &steps[..count],
+        trials,
         classes,
     )
 }

@@ -1,4 +1,5 @@
 -- `planner_c::planner_ask` meets its contract: what the planner promises, said in numbers. Assumes nothing.
+use Rattle.planner_c.proofs.Values.{asked-exported}
 use borrow.Author.Needs.{needs}
 use Rattle.planner_c.proofs.planner_ask.Statement.{statement}
 use Rattle.planner_c.proofs.planner_ask.Tie as tie
@@ -30,12 +31,9 @@ returns c =
     let answered = put .before .before .before .before in
     let listed = answered .before in
     let named = listed .before .before in
-    record {
-      reply = answered .ask .result;
-      promise = rw (named .before .asked-of .ensures, named .kind-of .ensures, listed .lists-of .ensures) at (answered .ask .ensures);
-      number = c .number-of .ensures;
-      puts = put .put-values .ensures;
-    }
+    let s = let d = named .before .before in d .before .before .before .before in
+    let p = rw (named .before .asked-of .ensures, named .kind-of .ensures, listed .lists-of .ensures) at (answered .ask .ensures) in
+    asked-exported (s .args .asked) (s .args .limit) _ _ _ (answered .ask .result) p (c .number-of .ensures) (put .put-values .ensures)
 
 pub planner-ask-spec : {M : Type 1} → statement M
 planner-ask-spec =

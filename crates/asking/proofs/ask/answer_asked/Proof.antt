@@ -11,13 +11,16 @@ answer-at-requires : tie.Need-answer-at-requires
 answer-at-requires c κs =
     let m = c .before .before in
     let s = let d = m .before .before .before .before .before in let e = d .before .before .before .before in e .before .before .before .before .before in
-    record { answer = s .pre .answer; limit-most = rw (m .asked .given .1) at (s .pre .limit-fits) }
+    record { answer = s .pre .answer; limit-most = rw (m .asked .given .1) at (s .pre .asked-fits) }
 
-enum-told : tie.Need-enum-told
-enum-told c = search needs
+enum-known-asked-2 : tie.Need-enum-known-asked-2
+enum-known-asked-2 c = search needs
 
-answer-best-requires : tie.Need-answer-best-requires
-answer-best-requires c κs = search needs
+answer-within-requires : tie.Need-answer-within-requires
+answer-within-requires c κs =
+    let m = c .before .before in
+    let s = let d = m .before .before .before .before .before in let e = d .before .before .before .before in e .before .before .before .before .before in
+    record { answer = s .pre .answer; some-trials = rw (m .asked2 .given .1) at (s .pre .asked-fits) }
 
 same-length : tie.Need-same-length
 same-length c = search needs
@@ -34,7 +37,8 @@ same-length-2 c = search needs
 returns-2 : tie.Need-returns-2
 returns-2 c =
     let a = c .before .before in
-    rw (a .before .before .enum-told .given .1) (a .answer-best .ensures)
+    let m = a .before .before .before in
+    rw (m .asked2 .given .1) (a .answer-within .ensures)
 
 pub answer-asked-spec : {M : Type 1} → statement M
 answer-asked-spec =
@@ -42,8 +46,8 @@ answer-asked-spec =
     (tie.spec
     enum-known-asked
     answer-at-requires
-    enum-told
-    answer-best-requires
+    enum-known-asked-2
+    answer-within-requires
     same-length
     returns
     same-length-2

@@ -37,7 +37,7 @@ answer-asked-requires c κs =
     let question = (let d = p .before .before .before .before in let e = d .before .before .before .before in let f = e .before .before .before .before in let g = f .before .before .before .before in g .before .before .before) .pre .question in
     record {
       answer = rooted-ready (p .prepare-rooted .ensures .prepared) (question .given .few) (question .room-most);
-      limit-fits = question .limit-fits;
+      asked-fits = question .asked-fits;
     }
 
 same-length : tie.Need-same-length

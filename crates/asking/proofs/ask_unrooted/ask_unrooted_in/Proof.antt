@@ -60,7 +60,7 @@ answer-asked-requires c κs =
     let p = prepared (let d = c .before .before .before .before in d .before .before .before .before) in
     let asked = (let d = p .before .before .before .before in let e = d .before .before .before .before in e .before .before .before .before .before) .pre .question in
     let ready = p .prepare-unrooted .ensures in
-    record { answer = unrooted-ready (ready .in-order) (ready .history) (asked .crews-few) (asked .room-most); limit-fits = asked .limit-fits }
+    record { answer = unrooted-ready (ready .in-order) (ready .history) (asked .crews-few) (asked .room-most); asked-fits = asked .asked-fits }
 
 same-length : tie.Need-same-length
 same-length c = search needs

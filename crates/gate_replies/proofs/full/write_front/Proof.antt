@@ -8,7 +8,8 @@ use Rattle.lists.specs.Put.{PutTo}
 use Rattle.lists.proofs.Put.{put-behind}
 use Rattle.replies.specs.Replies.{says}
 use Rattle.gate_replies.specs.Fields.{field}
-use Rattle.gate_replies.specs.Full.{headOf, bit, fullOf}
+use Rattle.gate_replies.specs.Full.{headOf, fullOf}
+use Rattle.replies.specs.Replies.{bitOf}
 use Rattle.gate_replies.proofs.FieldLaws.{field-length}
 use Rattle.gate_replies.proofs.FullReplies.{head-few}
 use Rattle.gate_replies.proofs.BehindRoom.{behind-room}
@@ -57,8 +58,8 @@ put-word-requires c κs =
 is-untouched-requires : tie.Need-is-untouched-requires
 is-untouched-requires c κs = search needs
 
-number-of-requires : tie.Need-number-of-requires
-number-of-requires c κs = search needs
+bit-requires : tie.Need-bit-requires
+bit-requires c κs = search needs
 
 put-field-requires-2 : tie.Need-put-field-requires-2
 put-field-requires-2 c κs =
@@ -90,7 +91,7 @@ returns c =
     let l = w .before .before .before .before in
     put-behind (said-before l .put-said .ensures)
     (put-behind (l .put-field .ensures)
-    (put-behind (w .put-word .ensures) (rw (n .number-of .ensures ∙ ap bit (u .is-untouched .ensures)) at (r .put-field2 .ensures))))
+    (put-behind (w .put-word .ensures) (rw (n .bit .ensures ∙ ap bitOf (u .is-untouched .ensures)) at (r .put-field2 .ensures))))
 
 pub write-front-spec : {M : Type 1} → statement M
 write-front-spec =
@@ -100,7 +101,7 @@ write-front-spec =
     put-field-requires
     put-word-requires
     is-untouched-requires
-    number-of-requires
+    bit-requires
     put-field-requires-2
     same-length
     returns)

@@ -14,7 +14,7 @@ returns : tie.Need-returns
 returns c = rw (c .before .asked .given .1) (limit-tested _)
 
 returns-2 : tie.Need-returns-2
-returns-2 c = rw (c .enum-told .given .1) limit-none
+returns-2 c = rw (c .enum-told .given .1) (limit-none _)
 
 pub limit-right-spec : {M : Type 1} → statement M
 limit-right-spec = tie.close (tie.spec enum-known-asked enum-told returns returns-2)

@@ -1,4 +1,4 @@
--- `planner::question::test` meets its contract: what every question brings, the limit, then the buffer decide.
+-- `planner::question::test` meets its contract: what every question brings, the limit, the buffer, then the trials decide.
 -- Assumes nothing.
 use mathlib.Core.Path.{_≡_, sym, ap, _∙_}
 use mathlib.Core.Option.{none}
@@ -8,7 +8,7 @@ use Rattle.rules.specs.Questions.{Question, questionFault}
 use Rattle.admit.specs.Crews.{asksWith}
 use Rattle.admit.specs.Refusals.{faultIn}
 use Rattle.planner.specs.Promise.{limitFaultOf}
-use Rattle.planner.proofs.Promised.{question-refused, limit-refused, room-refused, nothing-refused}
+use Rattle.planner.proofs.Promised.{question-refused, limit-refused, room-refused, trials-refused, nothing-refused}
 use borrow.Author.Needs.{needs}
 use Rattle.planner.proofs.question.test.Statement.{statement}
 use Rattle.planner.proofs.question.test.Tie as tie
@@ -56,16 +56,41 @@ returns-2 c =
     let e = x .before .before in
     room-refused (start (t e) .args .asked) (q (t e)) (start (t e) .args .room) (quiet e) (within x) (c .if2 .taken)
 
+trials-right-requires : tie.Need-trials-right-requires
+trials-right-requires c κs = search needs
+
 returns-3 : tie.Need-returns-3
 returns-3 c =
-    let a = c .before .before .before in
-    question-refused (start a .args .asked) (q a) (start a .args .room) (sym (ap faultIn (c .before .f .given .1)) ∙ a .admit .ensures)
+    let l = c .before .trials-right in
+    let r = c .before .before in
+    let x = r .before in
+    let e = x .before .before in
+    trials-refused (start (t e) .args .asked) (q (t e)) (start (t e) .args .room) (quiet e) (within x) (omega (arith, r .if2 .left)) (l .ensures .wrong (not-true (l .result) (c .if3 .taken)))
 
 returns-4 : tie.Need-returns-4
 returns-4 c =
-    let x = c .before in
+    let a = c .before .before .before in
+    question-refused (start a .args .asked) (q a) (start a .args .room) (sym (ap faultIn (c .before .f .given .1)) ∙ a .admit .ensures)
+
+returns-5 : tie.Need-returns-5
+returns-5 c =
+    let l = c .before .trials-right in
+    let r = c .before .before in
+    let x = r .before in
     let e = x .before .before in
-    nothing-refused (start (t e) .args .asked) (q (t e)) (start (t e) .args .room) (quiet e) (within x) (omega (arith, c .if2 .left))
+    nothing-refused (start (t e) .args .asked) (q (t e)) (start (t e) .args .room) (quiet e) (within x) (omega (arith, r .if2 .left)) (l .ensures .right (not-false (l .result) (c .if3 .left)))
 
 pub test-spec : {M : Type 1} → statement M
-test-spec = tie.close (tie.spec admit-requires enum-known-f enum-told limit-right-requires returns returns-2 returns-3 returns-4)
+test-spec =
+    tie.close
+    (tie.spec
+    admit-requires
+    enum-known-f
+    enum-told
+    limit-right-requires
+    returns
+    returns-2
+    trials-right-requires
+    returns-3
+    returns-4
+    returns-5)

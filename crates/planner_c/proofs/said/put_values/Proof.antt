@@ -1,5 +1,6 @@
 -- `planner_c::said::put_values` meets its contract: each arm stores the values of its case. Assumes nothing.
 use native.Mathlib.Omega.{arith}
+use lib.ListN.{length-set}
 use Rattle.planner_c.proofs.Values.{puts-one, puts-two, puts-three, puts-no-value}
 use borrow.Author.Needs.{needs}
 use Rattle.planner_c.proofs.said.put_values.Statement.{statement}
@@ -12,7 +13,7 @@ slice-write-values : tie.Need-slice-write-values
 slice-write-values c = search needs
 
 slice-write-values-2 : tie.Need-slice-write-values-2
-slice-write-values-2 c = search needs
+slice-write-values-2 c = simp length-set (omega (arith, c .before .before .before .pre))
 
 slice-write-values-3 : tie.Need-slice-write-values-3
 slice-write-values-3 c = search needs
@@ -30,7 +31,7 @@ slice-write-values-5 : tie.Need-slice-write-values-5
 slice-write-values-5 c = search needs
 
 slice-write-values-6 : tie.Need-slice-write-values-6
-slice-write-values-6 c = search needs
+slice-write-values-6 c = simp length-set (omega (arith, c .before .before .before .pre))
 
 enum-known-reply-4 : tie.Need-enum-known-reply-4
 enum-known-reply-4 c = search needs

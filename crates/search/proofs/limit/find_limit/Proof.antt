@@ -1,11 +1,11 @@
--- `search::limit::best_limit` meets its contract: the steps are written, and the search goes by them. Assumes nothing.
+-- `search::limit::find_limit` meets its contract: the steps are written, and the search goes by them. Assumes nothing.
 use mathlib.Core.Path.{sym}
 use Prim.Native.Nat.{ℕ}
 use lib.ListN.{length-replicate}
 use lib.Seq.{length-take-le}
 use borrow.Author.Needs.{needs}
-use Rattle.search.proofs.limit.best_limit.Statement.{statement}
-use Rattle.search.proofs.limit.best_limit.Tie as tie
+use Rattle.search.proofs.limit.find_limit.Statement.{statement}
+use Rattle.search.proofs.limit.find_limit.Tie as tie
 
 -- Where there is an array for the steps: what was asked.
 abbrev start : tie.After-steps → tie.Start
@@ -30,13 +30,13 @@ slice-aggregate-search-limit : tie.Need-slice-aggregate-search-limit
 slice-aggregate-search-limit c = let w = c .before .before in sym (length-take-le _ _ (w .write-steps .ensures .fits))
 
 search-limit-requires : tie.Need-search-limit-requires
-search-limit-requires c κs = let w = c .before .before in let p = start (w .before) .pre in record { crews = p .crews; in-order = p .in-order; stepped = w .write-steps .ensures .stepped }
+search-limit-requires c κs = let w = c .before .before in let p = start (w .before) .pre in record { crews = p .crews; in-order = p .in-order; stepped = w .write-steps .ensures .stepped; some-trials = p .some-trials }
 
 returns : tie.Need-returns
 returns c = search needs
 
-pub best-limit-spec : {M : Type 1} → statement M
-best-limit-spec =
+pub find-limit-spec : {M : Type 1} → statement M
+find-limit-spec =
     tie.close
     (tie.spec
     slice-aggregate-write-steps

@@ -2,9 +2,10 @@
 -- ended. The measure is how many trials are left. Assumes nothing.
 use mathlib.Core.Path.{sym, _∙_}
 use native.Mathlib.Omega.{arith}
+use borrow.Author.Tests.{ltb-true, ltb-false}
 use Rattle.graph.specs.Bytes.{graphOf}
 use Rattle.prepare.specs.Crews.{crewsWith}
-use Rattle.search.proofs.SearchLoop.{SearchUnderway, search-begins, high-moves, low-moves, ends-near, ends-spent}
+use Rattle.search.proofs.SearchLoop.{SearchUnderway, search-begins, high-moves, low-moves, ends}
 use borrow.Author.Needs.{needs}
 use Rattle.search.proofs.limit.search.Statement.{statement}
 use Rattle.search.proofs.limit.search.Tie as tie
@@ -26,9 +27,6 @@ loop-holds c = search-begins _ _ _ _
 sub-if1 : tie.Need-sub-if1 Inv-loop μ-loop
 sub-if1 c = omega (arith, c .before .loop .inv .in-order)
 
-returns : tie.Need-returns Inv-loop μ-loop
-returns c = ends-near (c .before .before .loop .inv) (c .if1 .taken)
-
 sub-left : tie.Need-sub-left Inv-loop μ-loop
 sub-left c = search needs
 
@@ -46,7 +44,7 @@ loop-less c = omega (arith, c .before .before .before .loop-test .taken)
 loop-again : tie.Need-loop-again Inv-loop μ-loop
 loop-again c =
     let o = c .before .before in
-    high-moves (o .before .before .loop .inv) (o .before .loop-test .taken) (omega (arith, o .if1 .left)) (sym (c .before .accepts-at .ensures) ∙ c .if2 .taken)
+    high-moves (o .before .before .loop .inv) (o .before .loop-test .taken) (ltb-true 1 _ (o .if1 .taken)) (sym (c .before .accepts-at .ensures) ∙ c .if2 .taken)
 
 loop-less-2 : tie.Need-loop-less-2 Inv-loop μ-loop
 loop-less-2 c = omega (arith, c .before .before .before .loop-test .taken)
@@ -54,10 +52,13 @@ loop-less-2 c = omega (arith, c .before .before .before .loop-test .taken)
 loop-again-2 : tie.Need-loop-again-2 Inv-loop μ-loop
 loop-again-2 c =
     let o = c .before .before in
-    low-moves (o .before .before .loop .inv) (o .before .loop-test .taken) (omega (arith, o .if1 .left)) (sym (c .before .accepts-at .ensures) ∙ c .if2 .left)
+    low-moves (o .before .before .loop .inv) (o .before .loop-test .taken) (ltb-true 1 _ (o .if1 .taken)) (sym (c .before .accepts-at .ensures) ∙ c .if2 .left)
 
-returns-2 : tie.Need-returns-2 Inv-loop μ-loop
-returns-2 c = ends-spent (c .before .loop .inv) (omega (arith, c .loop-test .left))
+sub-t22 : tie.Need-sub-t22 Inv-loop μ-loop
+sub-t22 c = c .before .loop .inv .left-most
+
+returns : tie.Need-returns Inv-loop μ-loop
+returns c = ends (c .before .loop .inv) (λ near. ltb-false 1 _ (near .1 .left)) (λ spent. omega (arith, spent .left)) (c .loop-test .came)
 
 pub search-spec : {M : Type 1} → statement M
 search-spec =
@@ -67,7 +68,6 @@ search-spec =
     μ-loop
     loop-holds
     sub-if1
-    returns
     sub-left
     add-middle
     accepts-at-requires
@@ -75,4 +75,5 @@ search-spec =
     loop-again
     loop-less-2
     loop-again-2
-    returns-2)
+    sub-t22
+    returns)
