@@ -1,7 +1,7 @@
 // Links libplanner_c.a from where `rt staticlib planner_c` writes it, or from the folder that PLANNER_LIB_DIR names.
 // Without it only the plain Rust version is measured. Beside it, where PLANNER_BEFORE_DIR names a folder, the library of an
 // earlier state: libplanner_before.a, whose names begin with `before_`, and its header planner.h; it may be of a time before
-// questions had lists, or before they had vans.
+// questions had lists, before they had vans, or before few trials were asked for.
 use std::env;
 use std::fs::read;
 use std::path::PathBuf;
@@ -24,10 +24,14 @@ fn main() {
     }
     println!("cargo:rerun-if-env-changed=PLANNER_BEFORE_DIR");
     println!("cargo:rustc-check-cfg=cfg(earlier)");
+    println!("cargo:rustc-check-cfg=cfg(earlier_within)");
     println!("cargo:rustc-check-cfg=cfg(earlier_lists, values(\"none\", \"classes\", \"all\"))");
     if let (true, Ok(folder)) = (archive.exists(), env::var("PLANNER_BEFORE_DIR")) {
         println!("cargo:rustc-cfg=earlier");
         println!("cargo:rustc-cfg=earlier_lists=\"{}\"", lists(&folder));
+        if has(&folder, "libplanner_before.a", b"before_within\0") {
+            println!("cargo:rustc-cfg=earlier_within");
+        }
         println!("cargo:rustc-link-search=native={folder}");
         println!("cargo:rustc-link-lib=static=planner_before");
     }
@@ -35,15 +39,17 @@ fn main() {
 
 /// The lists that the earlier library's questions may bring: its general functions have parameters for no others.
 fn lists(folder: &str) -> &'static str {
-    let has = |file: &str, name: &[u8]| {
-        let bytes = read(format!("{folder}/{file}")).expect(file);
-        bytes.windows(name.len()).any(|bytes| bytes == name)
-    };
-    if !has("libplanner_before.a", b"before_ask\0") {
+    if !has(folder, "libplanner_before.a", b"before_ask\0") {
         return "none";
     }
-    match has("planner.h", b"PLANNER_VANS") {
+    match has(folder, "planner.h", b"PLANNER_VANS") {
         true => "all",
         false => "classes",
     }
+}
+
+/// Whether a name stands in a file of a folder.
+fn has(folder: &str, file: &str, name: &[u8]) -> bool {
+    let bytes = read(format!("{folder}/{file}")).expect(file);
+    bytes.windows(name.len()).any(|bytes| bytes == name)
 }

@@ -162,9 +162,9 @@ uint32_t planner_ask(uint32_t asked, uint64_t limit, uint32_t kind, size_t k, co
  * low, or 0, as the limit is, where 0 was accepted, by one trial.
  *
  * PLANNER_COVER, not spent: limit, cover and heaviest weight are those of the best limit, with all that is said of them, and
- * the floor is the limit. PLANNER_SPENT: limits between the floor and the limit are left to try; what is said of
- * planner_best, but for the floor, does not hold of it. PLANNER_MOST_TRIALS trials are never spent. With more trials the
- * floor never falls and the limit never rises; the heaviest weight may do either.
+ * the floor is the limit. PLANNER_SPENT: limits between the floor and the limit are left to try; what is promised of
+ * planner_best against other covers and walks is not promised of it, but for the floor. PLANNER_MOST_TRIALS trials are never
+ * spent. With more trials the floor never falls and the limit never rises; the heaviest weight may do either.
  *
  * PLANNER_NO_COVER, exactly where none exists, is found before any trial. Refused as the best limit is, and last of these
  * numbers: 56 trials is below 2 or above PLANNER_MOST_TRIALS.

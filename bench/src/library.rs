@@ -19,6 +19,10 @@ type Ask = unsafe extern "C" fn(
     u32, u64, u32, usize, Bytes, usize, u32, Bytes, usize, Bytes, usize, Values, Room, usize,
 ) -> u32;
 #[rustfmt::skip]
+type Within = unsafe extern "C" fn(
+    usize, u32, usize, Bytes, usize, u32, Bytes, usize, Bytes, usize, Values, Room, usize,
+) -> u32;
+#[rustfmt::skip]
 type Verify = unsafe extern "C" fn(
     u32, usize, Bytes, usize, u32, Bytes, usize, Bytes, usize, Bytes, usize, Values,
 ) -> u32;
@@ -50,7 +54,7 @@ mod by_classes {
 const TRIAL: u32 = 0;
 const BEST: u32 = 1;
 
-/// The functions of a library: those of questions without lists, and the general ones, if it has them.
+/// The functions of a library: those of questions without lists, and the general ones and that of few trials, if it has them.
 #[derive(Clone, Copy)]
 pub struct Library {
     trial: Trial,
@@ -58,6 +62,7 @@ pub struct Library {
     check: Check,
     walk: Walk,
     general: Option<General>,
+    within: Option<Within>,
 }
 
 #[derive(Clone, Copy)]
@@ -99,6 +104,7 @@ pub fn now() -> Library {
             verify: exported!("planner_verify": Verify),
             route: exported!("planner_route": Route),
         }),
+        within: Some(exported!("planner_within": Within)),
     }
 }
 
@@ -124,11 +130,15 @@ pub fn before() -> Library {
         }),
         #[cfg(earlier_lists = "none")]
         general: None,
+        #[cfg(earlier_within)]
+        within: Some(exported!("before_within": Within)),
+        #[cfg(not(earlier_within))]
+        within: None,
     }
 }
 
 // SAFETY of all calls: the functions ask nothing of the numbers; each pointer is to as many bytes as its length says, that of the
-// values to three numbers, of a walk's to two, and what is written is apart from everything else, being borrowed mutably.
+// values to three numbers, of a walk's to two, of few trials' to six, and what is written is apart from everything else, being borrowed mutably.
 impl Library {
     /// The bits of the lists that it takes.
     pub fn lists(&self) -> u32 {
@@ -138,6 +148,11 @@ impl Library {
             #[cfg(earlier_lists = "classes")]
             Some(General::Classes { .. }) => CLASSES,
         }
+    }
+
+    /// Whether it is asked for few trials.
+    pub fn has_within(&self) -> bool {
+        self.within.is_some()
     }
 
     /// The general functions; questions with lists are put to no library without them.
@@ -169,6 +184,23 @@ impl Library {
         let (graph, length) = (sheet.as_ptr(), sheet.len());
         let (values, room, most) = (values.as_mut_ptr(), buffer.as_mut_ptr(), buffer.len());
         unsafe { (self.best)(kind, k, graph, length, values, room, most) }
+    }
+
+    pub fn within(
+        &self,
+        question: Question,
+        trials: usize,
+        values: &mut [u64; 6],
+        buffer: &mut [u8],
+    ) -> u32 {
+        let within = self.within.expect("a library that is asked for few trials");
+        let Question { kind, k, sheet, .. } = question;
+        let (graph, length, lists) = (sheet.as_ptr(), sheet.len(), question.brought());
+        let [(a, m), (b, twice_k)] = [question.classes, question.vans].map(list);
+        let (values, room, most) = (values.as_mut_ptr(), buffer.as_mut_ptr(), buffer.len());
+        unsafe {
+            within(trials, kind, k, graph, length, lists, a, m, b, twice_k, values, room, most)
+        }
     }
 
     #[rustfmt::skip]

@@ -23,6 +23,16 @@ const QUESTIONS: [Row; 8] = [
     ("unrooted walk", Asked::Walk, UNROOTED),
 ];
 
+/// The best limit in few trials.
+const FEW_TRIALS: [Row; 6] = [
+    ("rooted in 2", Asked::Within(2), ROOTED),
+    ("unrooted in 2", Asked::Within(2), UNROOTED),
+    ("rooted in 4", Asked::Within(4), ROOTED),
+    ("unrooted in 4", Asked::Within(4), UNROOTED),
+    ("rooted in 8", Asked::Within(8), ROOTED),
+    ("unrooted in 8", Asked::Within(8), UNROOTED),
+];
+
 /// More and more edges, at fixed n and k.
 const BY_EDGES: [Size; 3] = [
     Size { n: 256, m: 512, k: 32 },
@@ -118,8 +128,9 @@ fn main() {
     ratios.extend(with_classes(rounds));
     ratios.extend(with_gates(rounds));
     ratios.extend(with_vans(rounds));
+    ratios.extend(few_trials(rounds));
     println!();
-    for (name, _, _) in QUESTIONS {
+    for (name, _, _) in QUESTIONS.into_iter().chain(FEW_TRIALS) {
         let ratios = ratios.iter().filter(|ratio| ratio.0 == name).map(|ratio| ratio.1);
         if let Some(worst) = ratios.reduce(f64::max) {
             println!("{name:15} planner_c : Rust at full size at most {worst:.2}");
@@ -179,6 +190,13 @@ fn with_vans(rounds: usize) -> Vec<Ratio> {
     let of = |row| [Graphs::Spread, Graphs::Together].map(|graphs| (row, graphs));
     let put = |(row, graphs)| rows(row, graphs, &QUARTER_AND_FULL, rounds);
     QUESTIONS.into_iter().filter(|row| row.2 == ROOTED).flat_map(of).filter_map(put).collect()
+}
+
+/// The best limit in few trials; the ratios at full size.
+fn few_trials(rounds: usize) -> Vec<Ratio> {
+    heading("Few trials: the best limit in 2, 4 and 8 trials, on random graphs; growth: from a quarter of the edges.");
+    let put = |row| rows(row, Graphs::Of(Shape::Random), &QUARTER_AND_FULL, rounds);
+    FEW_TRIALS.into_iter().filter_map(put).collect()
 }
 
 /// The rows that ask this, of both kinds.

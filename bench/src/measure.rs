@@ -4,13 +4,15 @@ use std::hint::black_box;
 use std::time::{Duration, Instant};
 
 use crate::planners::Planner;
-use crate::question::{Question, BUFFER};
+use crate::question::{Question, BUFFER, COVER, SPENT};
 
 /// What is asked.
 #[derive(Clone, Copy, Debug, PartialEq, Eq)]
 pub enum Asked {
     /// The best limit.
     Best,
+    /// The same in so many trials, fewer than it takes.
+    Within(usize),
     /// A trial at the best limit.
     Trial,
     /// The check of the best limit's cover.
@@ -39,47 +41,63 @@ impl Measured<'_> {
         Measured { asked, question, limit: values[0], cover, tree }
     }
 
-    /// Puts the question to a planner.
-    fn put(&self, planner: &Planner, values: &mut [u64; 3], buffer: &mut [u8]) -> u32 {
+    /// Puts the question to a planner; of the six values it writes as many as it has.
+    fn put(&self, planner: &Planner, values: &mut [u64; 6], buffer: &mut [u8]) -> u32 {
+        let question = self.question;
         match self.asked {
-            Asked::Best => planner.best(self.question, values, buffer),
-            Asked::Trial => planner.trial(self.question, self.limit, values, buffer),
-            Asked::Check => planner.check(self.question, &self.cover, values),
-            Asked::Walk => {
-                let values = values.first_chunk_mut().expect("three values");
-                planner.walk(self.question, &self.cover, self.tree, values, buffer)
-            }
+            Asked::Best => planner.best(question, first(values), buffer),
+            Asked::Within(trials) => planner.within(question, trials, values, buffer),
+            Asked::Trial => planner.trial(question, self.limit, first(values), buffer),
+            Asked::Check => planner.check(question, &self.cover, first(values)),
+            Asked::Walk => planner.walk(question, &self.cover, self.tree, first(values), buffer),
         }
     }
 
-    /// Whether a planner takes the question. The library of an earlier state may not know its lists, or refuse weightless edges.
+    /// The case that is due.
+    fn due(&self) -> u32 {
+        match self.asked {
+            Asked::Within(_) => SPENT,
+            _ => COVER,
+        }
+    }
+
+    /// Whether a planner takes the question. The library of an earlier state may not know its lists, not be asked for few
+    /// trials, or refuse weightless edges.
     pub fn is_for(&self, planner: &Planner) -> bool {
-        if self.question.brought() & !planner.lists() != 0 {
+        let few = matches!(self.asked, Asked::Within(_));
+        if self.question.brought() & !planner.lists() != 0 || few && !planner.has_within() {
             return false;
         }
-        let (mut values, mut buffer) = ([0; 3], vec![0; BUFFER]);
+        let (mut values, mut buffer) = ([0; 6], vec![0; BUFFER]);
         !planner.is_earlier() || self.put(planner, &mut values, &mut buffer) != 16
     }
 
     /// Fails unless a planner's answer is right: the case, what the rules fix of the values, and a cover that the plain
     /// check says yes to; of a walk all values and bytes.
     pub fn assert_right(&self, planner: &Planner) {
-        let (mut due, mut values) = ([0; 3], [0; 3]);
+        let (mut due, mut values) = ([0; 6], [0; 6]);
         let (mut right, mut buffer) = (vec![0; BUFFER], vec![0; BUFFER]);
-        assert_eq!(self.put(&Planner::Plain, &mut due, &mut right), 0);
-        assert_eq!(self.put(planner, &mut values, &mut buffer), 0, "a cover, yes or a walk is due");
+        assert_eq!(self.put(&Planner::Plain, &mut due, &mut right), self.due());
+        let case = self.put(planner, &mut values, &mut buffer);
+        assert_eq!(case, self.due(), "a cover, yes or a walk is due");
         assert_eq!(values[0], due[0], "the limit, the heaviest of the check, or the stops");
         match self.asked {
-            Asked::Best | Asked::Trial => {
+            Asked::Best | Asked::Within(_) | Asked::Trial => {
                 let mut heaviest = [0; 3];
                 let cover = written(&buffer);
                 let said = Planner::Plain.check(self.question, cover, &mut heaviest);
                 assert_eq!((said, heaviest[0]), (0, values[1]), "the cover written");
+                assert_eq!(values[2..], due[2..], "the trees, and what few trials say besides");
             }
             Asked::Check => {}
             Asked::Walk => assert!(values == due && buffer == right, "the walk"),
         }
     }
+}
+
+/// The first of the values.
+fn first<const N: usize>(values: &mut [u64; 6]) -> &mut [u64; N] {
+    values.first_chunk_mut().expect("no question has more values")
 }
 
 /// The field of two bytes at a place.
@@ -105,7 +123,7 @@ const LEAST: Duration = Duration::from_micros(200);
 /// The median time of a question for each planner, in microseconds. Each round measures every planner once, one after
 /// the other, beginning with another one each time.
 pub fn medians(question: &Measured, planners: &[Planner], rounds: usize) -> Vec<f64> {
-    let (mut values, mut buffer) = ([0; 3], vec![0; BUFFER]);
+    let (mut values, mut buffer) = ([0; 6], vec![0; BUFFER]);
     let mut measured = |planner: &Planner, times: u32| {
         let begin = Instant::now();
         for _ in 0..times {

@@ -1,4 +1,4 @@
-//! The planners that are measured, as the same four functions.
+//! The planners that are measured, as the same five functions.
 
 #[cfg(linked)]
 use crate::library::{self, Library};
@@ -64,6 +64,15 @@ impl Planner {
         }
     }
 
+    /// Whether it is asked for few trials; the library of an earlier state may not be.
+    pub fn has_within(&self) -> bool {
+        match self {
+            Planner::Plain => true,
+            #[cfg(linked)]
+            Planner::Linked(_, library) => library.has_within(),
+        }
+    }
+
     /// A trial at a limit.
     pub fn trial(
         &self,
@@ -85,6 +94,21 @@ impl Planner {
             Planner::Plain => best::best(question, values, buffer),
             #[cfg(linked)]
             Planner::Linked(_, library) => library.best(question, values, buffer),
+        }
+    }
+
+    /// The best limit as far as so many trials come.
+    pub fn within(
+        &self,
+        question: Question,
+        trials: usize,
+        values: &mut [u64; 6],
+        buffer: &mut [u8],
+    ) -> u32 {
+        match self {
+            Planner::Plain => best::within(question, trials, values, buffer),
+            #[cfg(linked)]
+            Planner::Linked(_, library) => library.within(question, trials, values, buffer),
         }
     }
 

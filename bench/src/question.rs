@@ -1,5 +1,7 @@
 //! What every question has: the kind, its bytes, the numbers of the cases, and who is refused.
 
+use std::ops::RangeInclusive;
+
 use crate::cover::{heaviest, write, Tree};
 use crate::graph::{read, Graph};
 use crate::roots;
@@ -12,6 +14,7 @@ pub const STOP: u32 = 1;
 pub const PARTS: u32 = 2;
 pub const NEEDS: u32 = 3;
 pub const NO_COVER: u32 = 4;
+pub const SPENT: u32 = 5;
 
 /// The bits of the lists that a question may bring.
 pub const CLASSES: u32 = 1;
@@ -22,6 +25,9 @@ pub const BUFFER: usize = 32_708;
 
 /// The largest limit.
 pub const LIMIT: u64 = 2_048_000_000;
+
+/// How many trials may be asked for. The most are never spent: with them the search comes to the best limit.
+pub const TRIALS: RangeInclusive<usize> = 2..=33;
 
 /// Whether a kind is rooted; every number but 0 is unrooted.
 pub fn is_rooted(kind: u32) -> bool {

@@ -130,6 +130,7 @@ fn met_in(records: &[Record]) -> [[usize; 64]; 2] {
         let (which, said) = match &record.asked {
             Asked::Trial { limit, room } => (0, judged_with(kind, k, Some(*limit), brought, *room)),
             Asked::Best { room } => (0, judged_with(kind, k, None, brought, *room)),
+            Asked::Within { .. } => unreachable!("few_trials.rs has these"),
             Asked::Check { cover } => (1, checked(kind, k, brought, cover)),
         };
         let case = said.unwrap_or_else(|why| panic!("record {i}: {why}"));

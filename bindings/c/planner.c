@@ -15,6 +15,7 @@ static uint8_t buffer[PLANNER_BUFFER];
 static uint64_t values[3];
 static uint8_t stops[PLANNER_WALK_BUFFER];
 static uint64_t walked[2];
+static uint64_t six[6];
 
 static uint32_t trial(uint32_t kind, uint64_t limit) {
     return planner_trial(kind, 2, limit, sheet, sizeof sheet, values, buffer, sizeof buffer);
@@ -27,6 +28,11 @@ static uint32_t best(size_t room) {
 static uint32_t walk(size_t tree, size_t room) {
     memset(stops, 7, sizeof stops);
     return planner_walk(PLANNER_ROOTED, 2, sheet, sizeof sheet, cover, sizeof cover, tree, walked, stops, room);
+}
+
+/* No list is brought, so none is read; the pointers are not null even so. */
+static uint32_t within(size_t trials, size_t room) {
+    return planner_within(trials, PLANNER_ROOTED, 2, sheet, sizeof sheet, 0, sheet, 0, sheet, 0, six, buffer, room);
 }
 
 /* Every byte of the buffer of a walk from a place on is as it was. */
@@ -174,6 +180,76 @@ static void wrong_vans(void) {
     assert(planner_best_of(&q, values, buffer, sizeof buffer) == PLANNER_COVER && values[2] == 1);
 }
 
+/* Sheet N with a number of trials. Those of the whole search are at 0, at 11, and then at 5, 2, 3 and 4. */
+static void few_trials(void) {
+    planner_question q = {0};
+    q.k = 2;
+    q.graph = sheet;
+    q.graph_length = sizeof sheet;
+
+    /* Two are spent: the limits 1 to 10 are left. Six come to the end, and no more are made. */
+    assert(planner_within_of(&q, 2, six, buffer, sizeof buffer) == PLANNER_SPENT);
+    assert(memcmp(six, (uint64_t[]){11, 6, 2, 2, 1, 1}, sizeof six) == 0);
+    assert(memcmp(buffer, cover, sizeof cover) == 0);
+    assert(planner_within_of(&q, 5, six, buffer, sizeof buffer) == PLANNER_SPENT);
+    assert(six[0] == 5 && six[3] == 5 && six[4] == 4 && six[5] == 1);
+    assert(planner_within_of(&q, 6, six, buffer, sizeof buffer) == PLANNER_COVER);
+    assert(memcmp(six, (uint64_t[]){4, 6, 2, 6, 4, 0}, sizeof six) == 0);
+    assert(memcmp(buffer, cover, sizeof cover) == 0);
+    assert(planner_within_of(&q, PLANNER_MOST_TRIALS, six, buffer, sizeof buffer) == PLANNER_COVER && six[3] == 6);
+
+    /* The same without a planner_question. */
+    assert(within(2, sizeof buffer) == PLANNER_SPENT);
+    assert(memcmp(six, (uint64_t[]){11, 6, 2, 2, 1, 1}, sizeof six) == 0);
+    assert(within(33, sizeof buffer) == PLANNER_COVER);
+    assert(memcmp(six, (uint64_t[]){4, 6, 2, 6, 4, 0}, sizeof six) == 0);
+
+    /* 56 comes behind 23, and leaves the values and the buffer. */
+    memset(buffer, 7, sizeof buffer);
+    assert(within(1, sizeof buffer) == 56 && within(34, sizeof buffer) == 56 && within(34, 32707) == 23);
+    assert(planner_within_of(&q, 1, six, buffer, sizeof buffer) == 56);
+    assert(planner_within_of(&q, SIZE_MAX, six, buffer, sizeof buffer) == 56);
+    assert(planner_within_of(&q, 1, six, NULL, 0) == 23);
+    assert(memcmp(six, (uint64_t[]){4, 6, 2, 6, 4, 0}, sizeof six) == 0 && buffer[0] == 7 && buffer[32707] == 7);
+}
+
+/* A number of trials beside lists, where limit 0 is accepted, and where there is no cover. */
+static void few_trials_with_lists(void) {
+    static const uint8_t classes[] = {10, 20, 40};
+    static const uint8_t vans[] = {3, 0, 3, 0};
+    planner_question q = {0};
+    q.k = 2;
+    q.graph = sheet;
+    q.graph_length = sizeof sheet;
+
+    /* The weights used are 4, 5 and 10, so the sum is 19, and below 10 stop 1 is joined to no van. */
+    q.classes = planner_list_of(classes, sizeof classes);
+    assert(planner_within_of(&q, 2, six, buffer, sizeof buffer) == PLANNER_SPENT);
+    assert(memcmp(six, (uint64_t[]){19, 9, 2, 2, 1, 1}, sizeof six) == 0);
+    q.vans = planner_list_of(vans, sizeof vans);
+    assert(planner_within_of(&q, 2, six, buffer, sizeof buffer) == PLANNER_SPENT && six[0] == 19 && six[1] == 19);
+    assert(planner_within_of(&q, 33, six, buffer, sizeof buffer) == PLANNER_COVER && six[0] == 10 && six[4] == 10);
+    assert(planner_best_of(&q, values, buffer, sizeof buffer) == PLANNER_COVER);
+    assert(memcmp(values, six, sizeof values) == 0);
+    /* 53 and 55 come before 56. */
+    q.vans = planner_list_of(NULL, sizeof vans);
+    assert(planner_within_of(&q, 0, six, buffer, sizeof buffer) == 55);
+    q.classes = planner_list_of(NULL, sizeof classes);
+    assert(planner_within_of(&q, 0, six, NULL, 0) == 53);
+
+    /* Four roving crews stay where they are: one trial, at 0. One crew does not come to two stops without a line. */
+    q.kind = PLANNER_UNROOTED;
+    q.k = 4;
+    q.classes = (planner_list){0};
+    assert(planner_within_of(&q, 2, six, buffer, sizeof buffer) == PLANNER_COVER);
+    assert(memcmp(six, (uint64_t[]){0, 0, 4, 1, 0, 0}, sizeof six) == 0);
+    q.k = 1;
+    q.graph = (const uint8_t[]){2, 0, 0, 0};
+    q.graph_length = 4;
+    assert(planner_within_of(&q, 2, six, buffer, sizeof buffer) == PLANNER_NO_COVER);
+    assert(planner_within_of(&q, 34, six, buffer, sizeof buffer) == 56 && six[2] == 4);
+}
+
 int main(void) {
     /* Yards: "B 4, heaviest 6". */
     assert(trial(PLANNER_ROOTED, 4) == PLANNER_COVER);
@@ -208,5 +284,7 @@ int main(void) {
     footbridge();
     two_vans();
     wrong_vans();
+    few_trials();
+    few_trials_with_lists();
     return 0;
 }

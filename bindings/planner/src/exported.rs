@@ -57,6 +57,21 @@ extern "C" {
         buffer: *mut u8,
         buffer_length: usize,
     ) -> u32;
+    pub fn planner_within(
+        trials: usize,
+        kind: u32,
+        k: usize,
+        graph: *const u8,
+        graph_length: usize,
+        brought: u32,
+        classes: *const u8,
+        classes_length: usize,
+        vans: *const u8,
+        vans_length: usize,
+        values: *mut u64,
+        buffer: *mut u8,
+        buffer_length: usize,
+    ) -> u32;
     pub fn planner_verify(
         kind: u32,
         k: usize,

@@ -1,20 +1,23 @@
-//! Min-max tree covers of a graph, from the proved static library `planner_c`: trials at a limit, the best limit, the check of
-//! a filed cover, and the closed walk of one of its trees. `include/planner.h` says what the bytes of a graph, of a cover and
-//! of a list beside the graph are. The functions here take a graph alone, a [`Question`] has its lists too.
+//! Min-max tree covers of a graph, from the proved static library `planner_c`: trials at a limit, the best limit, how far a
+//! number of trials comes to it, the check of a filed cover, and the closed walk of one of its trees. `include/planner.h` says
+//! what the bytes of a graph, of a cover and of a list beside the graph are. The functions here take a graph alone, a
+//! [`Question`] has its lists too.
 //!
-//! Stack: [`trial`] and [`best`] take up to 320 KiB, [`walk`], refused or not, up to 12 KiB; [`check`], and a refusal by the
-//! first two, up to 4 KiB; those of a [`Question`] as much. Measured, with some room to spare, and not proved: a stack that is
-//! too small ends the program. The 2 MiB that a thread of the standard library has are enough;
+//! Stack: [`trial`], [`best`] and [`within`] take up to 320 KiB, [`walk`], refused or not, up to 12 KiB; [`check`], and a
+//! refusal by the first three, up to 4 KiB; those of a [`Question`] as much. Measured, with some room to spare, and not proved:
+//! a stack that is too small ends the program. The 2 MiB that a thread of the standard library has are enough;
 //! [`std::thread::Builder::stack_size`] gives a thread less.
 
 mod cover;
 pub mod exported;
 mod question;
 mod walk;
+mod within;
 
 pub use cover::{Cover, Tree};
 pub use question::Question;
 pub use walk::{walk, Walk, WALK_BUFFER};
+pub use within::{within, Reached, Within, MOST_TRIALS};
 
 use exported::{planner_best, planner_check, planner_trial};
 

@@ -153,7 +153,7 @@ impl<'a> Question<'a> {
     }
 
     /// The bits of the lists that are there.
-    fn brought(&self) -> u32 {
+    pub(crate) fn brought(&self) -> u32 {
         let bit = |list: Option<&[u8]>, bit| if list.is_some() { bit } else { 0 };
         bit(self.classes, CLASSES) | bit(self.vans, VANS)
     }

@@ -17,6 +17,7 @@ fn with_more_room<'a>(random: &mut Random, asked: Asked<'a>) -> Asked<'a> {
     match asked {
         Asked::Trial { limit, room: BUFFER } => Asked::Trial { limit, room: BUFFER + more },
         Asked::Best { room: BUFFER } => Asked::Best { room: BUFFER + more },
+        Asked::Within { trials, room: BUFFER } => Asked::Within { trials, room: BUFFER + more },
         other => other,
     }
 }
@@ -33,7 +34,7 @@ fn every_record_is_answered_as_the_reference_allows() {
         let asked = with_more_room(&mut random, question.asked);
         met[judged(&mut random, &Question { asked, ..question }) as usize] += 1;
     }
-    for case in [0, 1, 2, 3, 4, 11, 12, 13, 14, 15, 16, 21, 22, 23, 31, 32, 33, 34, 35] {
+    for case in [0, 1, 2, 3, 4, 5, 11, 12, 13, 14, 15, 16, 21, 22, 23, 56, 31, 32, 33, 34, 35] {
         assert!(met[case] > 0, "case {case} is not met");
     }
 }
@@ -50,6 +51,7 @@ fn numbers_past_every_range_are_refused() {
         for k in [0, 33, 65_536 + 2, (1 << 32) + 2, usize::MAX] {
             assert_eq!(said(k, Asked::Trial { limit: 4, room: BUFFER }), 21);
             assert_eq!(said(k, Asked::Best { room: BUFFER }), 21);
+            assert_eq!(said(k, Asked::Within { trials: 34, room: BUFFER }), 21);
             assert_eq!(said(k, Asked::Check { cover: &[] }), 21);
             assert_eq!(said(k, Asked::Walk { cover: &[], tree: 0, room: 0 }), 21);
         }
@@ -59,6 +61,7 @@ fn numbers_past_every_range_are_refused() {
         for room in [0, 1, 100, BUFFER - 1] {
             assert_eq!(said(2, Asked::Trial { limit: 4, room }), 23);
             assert_eq!(said(2, Asked::Best { room }), 23);
+            assert_eq!(said(2, Asked::Within { trials: 34, room }), 23);
         }
     }
 }
@@ -82,6 +85,8 @@ fn every_other_kind_is_unrooted() {
             assert_eq!((number, values[0]), (case, value), "kind {kind} limit {limit}");
         }
         assert_eq!(said(1, Asked::Best { room: BUFFER }), (0, vec![6, 11, 1]), "kind {kind}");
+        let within = Asked::Within { trials: 5, room: BUFFER };
+        assert_eq!(said(1, within), (0, vec![6, 11, 1, 5, 6, 0]), "kind {kind}");
         let (number, values) = said(1, Asked::Check { cover: &cover });
         assert_eq!((number, values[0]), (0, 11), "kind {kind}");
     }

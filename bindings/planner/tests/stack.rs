@@ -1,7 +1,10 @@
 //! The stack that the documentation names is enough, with lists and without. Where it is not, the run of these tests ends in a
 //! fault. What takes up to 4 KiB is given 32, and up to 12 is given 40: a thread has some of its own to keep there.
 
-use planner::{best, check, trial, walk, Cover, Kind, Question, Reply, Walk, BUFFER, WALK_BUFFER};
+use planner::{
+    best, check, trial, walk, within, Cover, Kind, Question, Reached, Reply, Walk, Within,
+};
+use planner::{BUFFER, MOST_TRIALS, WALK_BUFFER};
 use reference::cover::{encode, Tree};
 use reference::graph::sheet;
 use reference::vans::bytes;
@@ -13,7 +16,7 @@ const KINDS: [Kind; 2] = [Kind::Rooted, Kind::Unrooted];
 const LISTS: [Option<&[u8]>; 2] = [None, Some(&[40; 255])];
 
 /// What the work gives in a thread of its own with so many KiB of stack.
-fn within<T: Send + 'static>(kib: usize, work: impl FnOnce() -> T + Send + 'static) -> T {
+fn in_thread<T: Send + 'static>(kib: usize, work: impl FnOnce() -> T + Send + 'static) -> T {
     Builder::new().stack_size(kib << 10).spawn(work).unwrap().join().unwrap()
 }
 
@@ -31,7 +34,19 @@ fn about_the_path<T: Send + 'static>(
     classes: Option<&'static [u8]>,
     work: impl FnOnce(Question) -> T + Send + 'static,
 ) -> T {
-    within(kib, move || work(Question { classes, ..Question::new(kind, k, &path()) }))
+    in_thread(kib, move || work(Question { classes, ..Question::new(kind, k, &path()) }))
+}
+
+/// Searches of two trials, of some and of all, in turn: the last one must be that of the best limit.
+fn searched(reply: Reply, search: impl Fn(usize) -> Within) {
+    for trials in [2, 5, MOST_TRIALS] {
+        let told = search(trials);
+        let Within::Cover(Reached { limit, heaviest, trees, spent, .. }) = told else {
+            panic!("{told:?}");
+        };
+        assert_eq!(spent, trials < MOST_TRIALS);
+        assert!(spent || reply == Reply::Cover { limit, heaviest, trees }, "{told:?}");
+    }
 }
 
 /// The bytes of one tree with all edges.
@@ -44,16 +59,19 @@ fn whole_tree(start: u16) -> Vec<u8> {
 fn the_deepest_questions() {
     for kind in KINDS {
         for k in [1, 32] {
-            let (reply, buffer) = within(320, move || {
+            let (reply, buffer) = in_thread(320, move || {
                 let mut buffer = vec![0; BUFFER];
                 (best(kind, k, &path(), &mut buffer), buffer)
             });
             let Reply::Cover { limit, heaviest, .. } = reply else { panic!("{reply:?}") };
             let length = Cover::length(&buffer).unwrap();
             let filed = move || check(kind, k, &path(), &buffer[..length]);
-            assert_eq!(within(32, filed), Ok(heaviest));
+            assert_eq!(in_thread(32, filed), Ok(heaviest));
             let tried = move || trial(kind, k, limit, &path(), &mut vec![0; BUFFER]);
-            assert_eq!(within(320, tried), reply);
+            assert_eq!(in_thread(320, tried), reply);
+            searched(reply, |trials| {
+                in_thread(320, move || within(kind, k, trials, &path(), &mut vec![0; BUFFER]))
+            });
         }
     }
 }
@@ -73,6 +91,11 @@ fn the_deepest_questions_with_lists() {
             assert_eq!(about_the_path(32, kind, k, list, filed), Ok(heaviest));
             let tried = move |question: Question| question.trial(limit, &mut vec![0; BUFFER]);
             assert_eq!(about_the_path(320, kind, k, list, tried), reply);
+            searched(reply, |trials| {
+                let search =
+                    move |question: Question| question.within(trials, &mut vec![0; BUFFER]);
+                about_the_path(320, kind, k, list, search)
+            });
         }
     }
 }
@@ -89,7 +112,7 @@ fn the_longest_walks() {
             let walked = move || {
                 walk(Kind::Unrooted, 1, &path(), &whole_tree(start), tree, &mut vec![0; room])
             };
-            assert_eq!(within(40, walked), due);
+            assert_eq!(in_thread(40, walked), due);
             for list in LISTS {
                 let walked = move |question: Question| {
                     question.walk(&whole_tree(start), tree, &mut vec![0; room])
@@ -106,11 +129,15 @@ fn the_longest_walks() {
 fn refusals() {
     for kind in KINDS {
         let tried = move || trial(kind, 33, 1, &path(), &mut vec![0; BUFFER]);
-        assert_eq!(within(32, tried), Reply::Refused(21));
+        assert_eq!(in_thread(32, tried), Reply::Refused(21));
         let asked = move || best(kind, 32, &path(), &mut vec![0; BUFFER - 1]);
-        assert_eq!(within(32, asked), Reply::Refused(23));
+        assert_eq!(in_thread(32, asked), Reply::Refused(23));
+        for (k, trials, due) in [(33, 2, 21), (32, 1, 56), (32, 34, 56), (1, usize::MAX, 56)] {
+            let search = move || within(kind, k, trials, &path(), &mut vec![0; BUFFER]);
+            assert_eq!(in_thread(32, search), Within::Refused(due));
+        }
         let walked = move || walk(kind, 33, &path(), &[], 0, &mut vec![0; WALK_BUFFER]);
-        assert_eq!(within(40, walked), Err(21));
+        assert_eq!(in_thread(40, walked), Err(21));
     }
 }
 
@@ -124,6 +151,8 @@ fn refusals_with_lists() {
             assert_eq!(about_the_path(32, kind, 33, list, tried), Reply::Refused(crews));
             let asked = |question: Question| question.best(&mut vec![0; BUFFER - 1]);
             assert_eq!(about_the_path(32, kind, 32, list, asked), Reply::Refused(room));
+            let search = |question: Question| question.within(2, &mut vec![0; BUFFER - 1]);
+            assert_eq!(about_the_path(32, kind, 32, list, search), Within::Refused(room));
             let filed = |question: Question| question.check(&[]);
             assert_eq!(about_the_path(32, kind, 33, list, filed), Err(crews));
             let walked = |question: Question| question.walk(&[], 0, &mut vec![0; WALK_BUFFER]);
@@ -157,13 +186,13 @@ struct Manned {
 
 impl Manned {
     /// What is asked about it in a thread of its own with so many KiB of stack.
-    fn within<T: Send + 'static>(
+    fn in_thread<T: Send + 'static>(
         &self,
         kib: usize,
         work: impl FnOnce(Question) -> T + Send + 'static,
     ) -> T {
         let Manned { k, sheet, vans, classes } = self.clone();
-        within(kib, move || {
+        in_thread(kib, move || {
             let plain = Question::new(Kind::Rooted, k, &sheet);
             work(Question { classes, vans: Some(&vans), ..plain })
         })
@@ -172,11 +201,12 @@ impl Manned {
     /// The check of a cover, which must say yes with this weight, and the walk of each of its trees.
     fn follow(&self, cover: &[u8], heaviest: u64) {
         let filed = cover.to_vec();
-        assert_eq!(self.within(32, move |question| question.check(&filed)), Ok(heaviest));
+        assert_eq!(self.in_thread(32, move |question| question.check(&filed)), Ok(heaviest));
         for tree in 0..self.k {
             let filed = cover.to_vec();
-            let walk = self
-                .within(40, move |question| question.walk(&filed, tree, &mut vec![0; WALK_BUFFER]));
+            let walk = self.in_thread(40, move |question| {
+                question.walk(&filed, tree, &mut vec![0; WALK_BUFFER])
+            });
             assert!(walk.is_ok_and(|walk| walk.length <= 2 * heaviest), "{walk:?}");
         }
     }
@@ -192,16 +222,19 @@ fn the_deepest_questions_with_vans() {
         for &classes in classes {
             let (sheet, vans) = (sheet.clone(), vans.clone());
             let manned = Manned { k: vans.len() / 2, sheet, vans, classes };
-            let (reply, buffer) = manned.within(320, |question| {
+            let (reply, buffer) = manned.in_thread(320, |question| {
                 let mut buffer = vec![0; BUFFER];
                 (question.best(&mut buffer), buffer)
             });
             let Reply::Cover { limit, heaviest, .. } = reply else { panic!("{reply:?}") };
             manned.follow(&buffer[..Cover::length(&buffer).unwrap()], heaviest);
             let tried = move |question: Question| question.trial(limit, &mut vec![0; BUFFER]);
-            assert_eq!(manned.within(320, tried), reply);
+            assert_eq!(manned.in_thread(320, tried), reply);
             let tried = move |question: Question| question.trial(limit - 1, &mut vec![0; BUFFER]);
-            let low = manned.within(320, tried);
+            searched(reply, |trials| {
+                manned.in_thread(320, move |question| question.within(trials, &mut vec![0; BUFFER]))
+            });
+            let low = manned.in_thread(320, tried);
             assert!(!matches!(low, Reply::Cover { .. } | Reply::Refused(_)), "{low:?}");
         }
     }
@@ -226,12 +259,14 @@ fn refusals_with_vans() {
         for sheet in [path(), largest_sheet()] {
             let manned = Manned { k: 32, sheet, vans: vans.clone(), classes: None };
             let tried = |question: Question| question.trial(1, &mut vec![0; BUFFER]);
-            assert_eq!(manned.within(32, tried), Reply::Refused(55));
+            assert_eq!(manned.in_thread(32, tried), Reply::Refused(55));
             let asked = |question: Question| question.best(&mut vec![0; BUFFER]);
-            assert_eq!(manned.within(32, asked), Reply::Refused(55));
-            assert_eq!(manned.within(32, |question| question.check(&[])), Err(55));
+            assert_eq!(manned.in_thread(32, asked), Reply::Refused(55));
+            let search = |question: Question| question.within(2, &mut vec![0; BUFFER]);
+            assert_eq!(manned.in_thread(32, search), Within::Refused(55));
+            assert_eq!(manned.in_thread(32, |question| question.check(&[])), Err(55));
             let walked = |question: Question| question.walk(&[], 0, &mut vec![0; WALK_BUFFER]);
-            assert_eq!(manned.within(40, walked), Err(55));
+            assert_eq!(manned.in_thread(40, walked), Err(55));
         }
     }
 }

@@ -2,6 +2,8 @@
 //! `reference/`, which shares no code with it, and to numbers worked out here.
 
 mod common;
+#[path = "common/sheets.rs"]
+mod sheets;
 
 use std::ops::RangeInclusive;
 
@@ -13,6 +15,7 @@ use reference::cover::{encode, filed_length, Tree};
 use reference::graph::{sheet, Edge, Graph};
 use reference::made_surfaces::surfaced;
 use reference::random::Random;
+use sheets::{all_of, sheet_n, written};
 
 /// The classes of each percentage.
 const PERCENT: [(RangeInclusive<u8>, u64); 5] =
@@ -25,11 +28,6 @@ fn used(weight: u64, class: u8) -> u64 {
     weight * percent / 100 + u64::from(weight * percent % 100 > 0)
 }
 
-/// Sheet N of document 01 with other weights.
-fn sheet_n([a, b, c]: [u64; 3]) -> Vec<u8> {
-    sheet(4, &[(0, 2, a), (2, 3, b), (1, 3, c)])
-}
-
 /// The bytes of two trees, the second from vertex 1.
 fn two_trees(start: usize, first: &[usize], second: &[usize]) -> Vec<u8> {
     let tree = |start, edges: &[usize]| Tree { start, edges: edges.to_vec() };
@@ -39,17 +37,6 @@ fn two_trees(start: usize, first: &[usize], second: &[usize]) -> Vec<u8> {
 /// The cover of one tree from vertex 0 with one edge.
 fn along(edge: usize) -> Vec<u8> {
     encode(&[Tree::new(0, vec![edge])])
-}
-
-/// Every function, asked with room enough: a trial at a limit, the best limit, the check of a cover and the walk of its first
-/// tree.
-fn all_of(limit: u64, cover: &[u8]) -> [Asked<'_>; 4] {
-    [
-        Asked::Trial { limit, room: BUFFER },
-        Asked::Best { room: BUFFER },
-        Asked::Check { cover },
-        Asked::Walk { cover, tree: 0, room: WALK_BUFFER },
-    ]
 }
 
 /// Trials, best limits and checks, and walks of what is filed: right lists and wrong ones.
@@ -93,7 +80,7 @@ fn the_weight_used_of_every_class() {
                     Question { asked, kind, k: 1, sheet, classes: Some(classes), vans: None };
                 let got = call(weight, &question, question.general());
                 let (place, value) = match asked {
-                    Asked::Trial { .. } | Asked::Best { .. } => (1, used),
+                    Asked::Trial { .. } | Asked::Best { .. } | Asked::Within { .. } => (1, used),
                     Asked::Check { .. } => (0, used),
                     Asked::Walk { .. } => (1, 2 * used),
                 };
@@ -202,6 +189,7 @@ fn numbers_in_their_order() {
             let mut said = |asked| put(weights, classes, 33, asked);
             assert_eq!(said(Asked::Trial { limit: u64::MAX, room: 0 }), number);
             assert_eq!(said(Asked::Best { room: 0 }), number);
+            assert_eq!(said(Asked::Within { trials: 0, room: 0 }), number);
             for (cover, _) in &covers {
                 assert_eq!(said(Asked::Check { cover }), number);
                 assert_eq!(said(Asked::Walk { cover, tree: 2, room: 0 }), number);
@@ -217,7 +205,7 @@ fn numbers_in_their_order() {
         }
         assert_eq!(said(Asked::Walk { cover, tree: 2, room: 0 }), 51);
         assert_eq!(said(Asked::Walk { cover, tree: 1, room: WALK_BUFFER - 1 }), 52);
-        assert_eq!(all_of(12, cover).map(said), [0; 4]);
+        assert_eq!(all_of(12, cover).map(said), [0; 5]);
     }
 }
 
@@ -269,12 +257,12 @@ fn as_with_the_weights_used_in_the_sheet() {
                 assert!(got == call(turn, &without, Through::Plain), "{with:?}");
                 got
             };
-            let [tried, best, ..] = all_of(limit, &[]);
+            let [tried, best, within, ..] = all_of(limit, &[]);
             same(tried);
+            same(within);
             let got = same(best);
             if got.case == 0 {
-                let length = filed_length(&got.buffer.1).expect("four bytes");
-                all_of(0, &got.buffer.1[..length])[2..].iter().for_each(|&asked| drop(same(asked)));
+                all_of(0, written(&got))[3..].iter().for_each(|&asked| drop(same(asked)));
             }
         }
     }

@@ -4,6 +4,8 @@
 mod common;
 #[path = "vans/refused.rs"]
 mod refused;
+#[path = "common/sheets.rs"]
+mod sheets;
 
 use common::call::{call, Asked, Got, Question, Through};
 use common::judged::{answered, judged};
@@ -20,26 +22,11 @@ use reference::question::Kind as Crews;
 use reference::random::Random;
 use reference::rivals::least_longest;
 use reference::vans::bytes;
+use sheets::{all_of, written};
 
 /// A rooted question with vans and no classes.
 fn manned<'a>(asked: Asked<'a>, k: usize, sheet: &'a [u8], vans: &'a [u8]) -> Question<'a> {
     Question { asked, kind: 0, k, sheet, classes: None, vans: Some(vans) }
-}
-
-/// Every function, asked with room enough: a trial at a limit, the best limit, the check of a cover and the walk of its first
-/// tree.
-fn all_of(limit: u64, cover: &[u8]) -> [Asked<'_>; 4] {
-    [
-        Asked::Trial { limit, room: BUFFER },
-        Asked::Best { room: BUFFER },
-        Asked::Check { cover },
-        Asked::Walk { cover, tree: 0, room: WALK_BUFFER },
-    ]
-}
-
-/// The cover that a trial or a best limit has written.
-fn written(got: &Got) -> &[u8] {
-    &got.buffer.1[..filed_length(&got.buffer.1).expect("four bytes")]
 }
 
 /// Where a trial or a best limit is answered with a cover, the check says yes to it and each of its trees has a walk; the
@@ -233,12 +220,13 @@ fn the_list_in_order_is_as_none() {
         let in_order = bytes(&(0..k).collect::<Vec<_>>());
         let any = bytes(&made_vans(&mut random, n, k));
         for (kind, vans) in [(0, &in_order), (1, &in_order), (1, &any)] {
-            for asked in [tried, Asked::Best { room: BUFFER }] {
+            let within = Asked::Within { trials: random.between(2, 33), room: BUFFER };
+            for asked in [tried, Asked::Best { room: BUFFER }, within] {
                 let question = Question { kind, ..manned(asked, k, &sheet, vans) };
                 let got = same_as_plain(turn, &question);
                 // Bytes that are no cover are refused alike.
                 let length = if got.case == 0 { written(&got).len() } else { 20 };
-                for &asked in &all_of(0, &got.buffer.1[..length])[2..] {
+                for &asked in &all_of(0, &got.buffer.1[..length])[3..] {
                     same_as_plain(turn, &Question { asked, ..question });
                 }
             }

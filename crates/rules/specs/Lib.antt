@@ -60,6 +60,9 @@ pub mod GateExamples
 -- Document 02, "A.5 Two vans at one yard" (the roots by a list and 55 stand in Questions):
 -- small sheets with lists of vans
 pub mod VanExamples
+-- Document 02, "A.6 A limit before the phone call ends" (the search stands behind Search, 56 in Questions):
+-- few trials on small sheets
+pub mod TrialExamples
 -- Besides the documents, what promises cite:
 -- trees as arrays hold them
 pub mod Held

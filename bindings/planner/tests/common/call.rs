@@ -11,6 +11,7 @@ use reference::random::Random;
 pub enum Asked<'a> {
     Trial { limit: u64, room: usize },
     Best { room: usize },
+    Within { trials: usize, room: usize },
     Check { cover: &'a [u8] },
     Walk { cover: &'a [u8], tree: usize, room: usize },
 }
@@ -19,7 +20,7 @@ impl<'a> Asked<'a> {
     /// The cover's bytes, if there is one.
     fn cover(self) -> &'a [u8] {
         match self {
-            Asked::Trial { .. } | Asked::Best { .. } => &[],
+            Asked::Trial { .. } | Asked::Best { .. } | Asked::Within { .. } => &[],
             Asked::Check { cover } | Asked::Walk { cover, .. } => cover,
         }
     }
@@ -28,6 +29,7 @@ impl<'a> Asked<'a> {
     fn lent(self) -> (usize, usize) {
         match self {
             Asked::Trial { room, .. } | Asked::Best { room } => (room, 3),
+            Asked::Within { room, .. } => (room, 6),
             Asked::Check { .. } => (0, 3),
             Asked::Walk { room, .. } => (room, 2),
         }
@@ -51,6 +53,9 @@ impl<'a> Question<'a> {
         let asked = match &record.asked {
             Recorded::Trial { limit, room } => Asked::Trial { limit: *limit, room: *room },
             Recorded::Best { room } => Asked::Best { room: *room },
+            Recorded::Within { trials, room } => {
+                Asked::Within { trials: *trials as usize, room: *room }
+            }
             Recorded::Check { cover } => Asked::Check { cover },
         };
         let kind = u32::from(record.kind == Crews::Unrooted);
@@ -138,6 +143,10 @@ unsafe fn plain(question: &Question, given: &Given, values: *mut u64, buffer: *m
             planner_trial(kind, k, limit, graph, length, values, buffer, room)
         }
         Asked::Best { room } => planner_best(kind, k, graph, length, values, buffer, room),
+        // This function has no other for questions without lists: cover stands for no bytes.
+        Asked::Within { trials, room } => planner_within(
+            trials, kind, k, graph, length, 0, cover, 0, cover, 0, values, buffer, room,
+        ),
         Asked::Check { .. } => planner_check(kind, k, graph, length, cover, size, values),
         Asked::Walk { tree, room, .. } => {
             planner_walk(kind, k, graph, length, cover, size, tree, values, buffer, room)
@@ -167,6 +176,9 @@ unsafe fn general(
     match asked {
         Asked::Trial { limit, room } => ask(0, limit, room),
         Asked::Best { room } => ask(best, u64::MAX, room),
+        Asked::Within { trials, room } => planner_within(
+            trials, kind, k, graph, length, lists, classes, m, vans, v, values, buffer, room,
+        ),
         Asked::Check { .. } => {
             planner_verify(kind, k, graph, length, lists, classes, m, vans, v, cover, size, values)
         }

@@ -1,7 +1,8 @@
 //! Questions put to every function that takes them, and the replies held to `reference/`.
 
 use super::call::{call, Asked, Got, Question, Through, CLASSES, VANS};
-use planner::{best, check, trial, walk, Kind, Reply, Walk};
+use super::trials;
+use planner::{best, check, trial, walk, within, Kind, Reached, Reply, Walk, Within};
 use reference::brought::Brought;
 use reference::bytes::two;
 use reference::check::check_with;
@@ -108,6 +109,7 @@ fn right(question: &Question, got: &Got) -> Result<(), String> {
             let given = Given { answer: &answer, before: &got.buffer.0, after: &got.buffer.1 };
             judge::best_with(crews, brought, k, given)
         }
+        Asked::Within { trials, .. } => trials::right(crews, brought, k, trials as u64, got),
         Asked::Check { cover } => {
             let said = check_with(crews, brought, k, cover);
             exactly(got, said.map(|heaviest| vec![heaviest]), &due)
@@ -155,41 +157,48 @@ fn same_by_the_wrappers(question: &Question, got: &Got) {
     let Question { asked, kind, k, sheet, classes, vans } = *question;
     let unread = (kind != 0).then_some(Some(&[255; 5][..]));
     let kind = if kind == 0 { Kind::Rooted } else { Kind::Unrooted };
-    let mut buffer = got.buffer.0.clone();
     for vans in [vans].into_iter().chain(unread) {
         let whole = planner::Question { classes, vans, ..planner::Question::new(kind, k, sheet) };
-        buffer.copy_from_slice(&got.buffer.0);
-        let said = match asked {
-            Asked::Trial { limit, .. } => of_reply(whole.trial(limit, &mut buffer)),
-            Asked::Best { .. } => of_reply(whole.best(&mut buffer)),
-            Asked::Check { cover } => of_check(whole.check(cover)),
-            Asked::Walk { cover, tree, .. } => {
-                of_walk(whole.walk(cover, tree, &mut buffer), &buffer)
-            }
-        };
-        same(said, &buffer, got);
+        same(got, |buffer| by_question(&whole, asked, buffer));
     }
-    if !is_plain(question) {
-        return;
+    if is_plain(question) {
+        same(got, |buffer| by_function(kind, k, sheet, asked, buffer));
     }
-    buffer.copy_from_slice(&got.buffer.0);
-    let said = match asked {
-        Asked::Trial { limit, .. } => of_reply(trial(kind, k, limit, sheet, &mut buffer)),
-        Asked::Best { .. } => of_reply(best(kind, k, sheet, &mut buffer)),
-        Asked::Check { cover } => of_check(check(kind, k, sheet, cover)),
-        Asked::Walk { cover, tree, .. } => {
-            of_walk(walk(kind, k, sheet, cover, tree, &mut buffer), &buffer)
-        }
-    };
-    same(said, &buffer, got);
 }
 
 /// A number and the values of its case.
 type Said = (u32, Vec<u64>);
 
-fn same((case, values): Said, buffer: &[u8], got: &Got) {
+/// What a wrapper says and writes, lent the same bytes, is what came of the question.
+fn same(got: &Got, say: impl FnOnce(&mut [u8]) -> Said) {
+    let mut buffer = got.buffer.0.clone();
+    let (case, values) = say(&mut buffer);
     assert_eq!((case, &values[..]), (got.case, &got.values.1[..values.len()]), "the wrapper's");
     assert!(buffer == got.buffer.1, "the wrapper's bytes differ");
+}
+
+/// What the wrapper's question says.
+fn by_question(whole: &planner::Question, asked: Asked, buffer: &mut [u8]) -> Said {
+    match asked {
+        Asked::Trial { limit, .. } => of_reply(whole.trial(limit, buffer)),
+        Asked::Best { .. } => of_reply(whole.best(buffer)),
+        Asked::Within { trials, .. } => of_within(whole.within(trials, buffer)),
+        Asked::Check { cover } => of_check(whole.check(cover)),
+        Asked::Walk { cover, tree, .. } => of_walk(whole.walk(cover, tree, buffer), buffer),
+    }
+}
+
+/// What the wrapper's functions without lists say.
+fn by_function(kind: Kind, k: usize, sheet: &[u8], asked: Asked, buffer: &mut [u8]) -> Said {
+    match asked {
+        Asked::Trial { limit, .. } => of_reply(trial(kind, k, limit, sheet, buffer)),
+        Asked::Best { .. } => of_reply(best(kind, k, sheet, buffer)),
+        Asked::Within { trials, .. } => of_within(within(kind, k, trials, sheet, buffer)),
+        Asked::Check { cover } => of_check(check(kind, k, sheet, cover)),
+        Asked::Walk { cover, tree, .. } => {
+            of_walk(walk(kind, k, sheet, cover, tree, buffer), buffer)
+        }
+    }
 }
 
 fn of_reply(reply: Reply) -> Said {
@@ -200,6 +209,17 @@ fn of_reply(reply: Reply) -> Said {
         Reply::TooLowNeeds { trees } => (3, vec![trees]),
         Reply::NoCover => (4, vec![]),
         Reply::Refused(number) => (number, vec![]),
+    }
+}
+
+fn of_within(told: Within) -> Said {
+    match told {
+        Within::Cover(Reached { limit, heaviest, trees, trials, floor, spent }) => {
+            let values = vec![limit, heaviest, trees, trials, floor, spent.into()];
+            (if spent { 5 } else { 0 }, values)
+        }
+        Within::NoCover => (4, vec![]),
+        Within::Refused(number) => (number, vec![]),
     }
 }
 

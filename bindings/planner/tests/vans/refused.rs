@@ -1,19 +1,15 @@
 //! Lists of vans that are refused with 55, what is refused before and behind them, and starts that are not those of a list.
 
-use super::{all_of, manned};
+use super::manned;
 use crate::common::call::{call, Asked, Question, Through, CLASSES, VANS};
 use crate::common::judged::judged;
+use crate::sheets::{all_of, sheet_n};
 use planner::{BUFFER, WALK_BUFFER};
 use reference::cover::{encode, Tree};
 use reference::graph::{read, sheet};
 use reference::made_shapes::damaged_sheets;
 use reference::random::Random;
 use reference::vans::bytes;
-
-/// Sheet N of document 01 with other weights.
-fn sheet_n([a, b, c]: [u64; 3]) -> Vec<u8> {
-    sheet(4, &[(0, 2, a), (2, 3, b), (1, 3, c)])
-}
 
 /// Edges of weight 1 around vertex 0.
 fn star(n: usize) -> Vec<u8> {
@@ -79,6 +75,7 @@ const WRONG: [&[u8]; 5] = [&[], &[3, 0, 0], &[4, 0, 0, 0], &[3, 0, 0, 1], &[3, 0
 /// Everything that a question can have wrong behind its sheet and its lists: limit, room, cover, tree.
 fn all_wrong<'a>(covers: &'a [(Vec<u8>, u32)]) -> Vec<Asked<'a>> {
     let mut all = vec![Asked::Trial { limit: u64::MAX, room: 0 }, Asked::Best { room: 0 }];
+    all.push(Asked::Within { trials: 34, room: 0 });
     for (cover, _) in covers {
         all.extend([Asked::Check { cover }, Asked::Walk { cover, tree: 2, room: 0 }]);
     }
@@ -120,7 +117,7 @@ fn numbers_in_their_order() {
             let due = match asked {
                 _ if kind == 0 => 55,
                 Asked::Trial { .. } => 22,
-                Asked::Best { .. } => 23,
+                Asked::Best { .. } | Asked::Within { .. } => 23,
                 Asked::Check { cover } | Asked::Walk { cover, .. } if cover.is_empty() => 31,
                 _ => continue,
             };
@@ -154,7 +151,7 @@ fn numbers_behind_the_list() {
         }
         assert_eq!(said(Asked::Walk { cover, tree: 2, room: 0 }), 51);
         assert_eq!(said(Asked::Walk { cover, tree: 1, room: WALK_BUFFER - 1 }), 52);
-        assert_eq!(all_of(20, cover).map(said), [0; 4]);
+        assert_eq!(all_of(20, cover).map(said), [0; 5]);
     }
 }
 
@@ -178,14 +175,14 @@ fn more_vans_than_vertices() {
             let put = |asked| Question { kind, vans, ..manned(asked, k, &sheet, &[]) };
             all_of(n as u64, cover).map(|asked| judged(&mut random, &put(asked)))
         };
-        assert_eq!(said(0, Some(&vans), &rooted), [due(0); 4], "n {n} k {k}");
-        assert_eq!(said(0, Some(&longer), &rooted), [due(55); 4]);
+        assert_eq!(said(0, Some(&vans), &rooted), [due(0); 5], "n {n} k {k}");
+        assert_eq!(said(0, Some(&longer), &rooted), [due(55); 5]);
         let without = if outside || k > n { 21 } else { 0 };
-        assert_eq!(said(0, None, &row), [without; 4], "n {n} k {k}");
+        assert_eq!(said(0, None, &row), [without; 5], "n {n} k {k}");
         let wrong = Some(&[9; 3][..]);
         let lists = [(1, None), (1, Some(&vans[..])), (1, wrong), (2, wrong), (u32::MAX, wrong)];
         for (kind, vans) in lists {
-            assert_eq!(said(kind, vans, &rooted), [due(0); 4], "kind {kind} n {n} k {k} {vans:?}");
+            assert_eq!(said(kind, vans, &rooted), [due(0); 5], "kind {kind} n {n} k {k} {vans:?}");
         }
     }
 }
@@ -210,7 +207,7 @@ fn starts_by_the_list() {
     ];
     for (vans, trees, due) in rows {
         let (vans, cover) = (bytes(&vans), filed(trees));
-        for &asked in &all_of(0, &cover)[2..] {
+        for &asked in &all_of(0, &cover)[3..] {
             let said = judged(&mut random, &manned(asked, 2, &sheet, &vans));
             assert_eq!(said, due, "{vans:?} {trees:?}");
         }
@@ -262,7 +259,7 @@ fn lists_that_are_exchanged() {
             };
             assert_eq!(said(classes, vans), 0, "{classes:?}");
             // Only what files a cover has starts.
-            let due = if due == 32 && number < 2 { 0 } else { due };
+            let due = if due == 32 && number < 3 { 0 } else { due };
             assert_eq!(said(vans, classes), due, "{classes:?}");
         }
     }
@@ -284,8 +281,8 @@ fn any_byte_altered() {
         let (sheet, lists) = altered.split_at(ends[0]);
         let (classes, lists) = lists.split_at(ends[1]);
         let (vans, cover) = lists.split_at(ends[2]);
-        // Trials and best limits have no cover.
-        let first = if place < ends.iter().sum() { 0 } else { 2 };
+        // Trials and searches have no cover.
+        let first = if place < ends.iter().sum() { 0 } else { 3 };
         for &asked in &all_of(6, cover)[first..] {
             let question = Question { classes: Some(classes), ..manned(asked, 3, sheet, vans) };
             met[judged(&mut random, &question) as usize] += 1;
