@@ -6,9 +6,6 @@ use crate::{number, Kind, Question};
 /// The most trials that may be asked for: so many are never spent.
 pub const MOST_TRIALS: usize = 33;
 
-/// The answer of a search that stopped before its end; at its end it is 0.
-const SPENT: u32 = 5;
-
 /// How far the trials of [`within`] came, with the cover of the last limit accepted.
 #[derive(Clone, Copy, Debug, PartialEq, Eq)]
 pub struct Reached {
@@ -22,15 +19,17 @@ pub struct Reached {
     pub trials: u64,
     /// Nobody's cover by the same crews has a heaviest tree below this.
     pub floor: u64,
-    /// Whether limits are left to try between the floor and the limit. If not, the two are equal.
-    pub spent: bool,
 }
 
 /// What [`within`] answers.
 #[derive(Clone, Copy, Debug, PartialEq, Eq)]
 pub enum Within {
-    /// A cover stands at the buffer's front, where [`Cover::read`](crate::Cover::read) reads it.
+    /// The search came to its end: this is the best limit, which is the floor too. Its cover stands at the buffer's front,
+    /// where [`Cover::read`](crate::Cover::read) reads it.
     Cover(Reached),
+    /// The trials are spent, and limits are left to try between the floor and the limit: this is not the best limit. The
+    /// cover stands at the buffer's front.
+    Spent(Reached),
     /// No cover of the kind exists at any limit. This is found before any trial.
     NoCover,
     /// Refused with this number, and nothing written.
@@ -54,11 +53,11 @@ pub enum Within {
 /// // Two vertices and an edge of weight 3. Limit 0 is too low; 3, the sum of all weights, is accepted; 1 and 2 are too low.
 /// let graph = [2, 0, 1, 0, 0, 0, 1, 0, 3, 0, 0, 0];
 /// let mut buffer = [0; BUFFER];
-/// let reached = Reached { limit: 3, heaviest: 3, trees: 1, trials: 2, floor: 1, spent: true };
-/// assert_eq!(within(Kind::Rooted, 1, 2, &graph, &mut buffer), Within::Cover(reached));
+/// let reached = Reached { limit: 3, heaviest: 3, trees: 1, trials: 2, floor: 1 };
+/// assert_eq!(within(Kind::Rooted, 1, 2, &graph, &mut buffer), Within::Spent(reached));
 /// let reached = Reached { trials: 3, floor: 2, ..reached };
-/// assert_eq!(within(Kind::Rooted, 1, 3, &graph, &mut buffer), Within::Cover(reached));
-/// let reached = Reached { trials: 4, floor: 3, spent: false, ..reached };
+/// assert_eq!(within(Kind::Rooted, 1, 3, &graph, &mut buffer), Within::Spent(reached));
+/// let reached = Reached { trials: 4, floor: 3, ..reached };
 /// assert_eq!(within(Kind::Rooted, 1, 33, &graph, &mut buffer), Within::Cover(reached));
 /// assert_eq!(within(Kind::Rooted, 1, 34, &graph, &mut buffer), Within::Refused(56));
 /// ```
@@ -97,12 +96,12 @@ impl Question<'_> {
 
 /// The answer of a number and its values.
 fn told(case: u32, values: [u64; 6]) -> Within {
-    let [limit, heaviest, trees, trials, floor, spent] = values;
+    let [limit, heaviest, trees, trials, floor, _] = values;
+    let reached = Reached { limit, heaviest, trees, trials, floor };
     match case {
-        0 | SPENT => {
-            Within::Cover(Reached { limit, heaviest, trees, trials, floor, spent: spent != 0 })
-        }
+        0 => Within::Cover(reached),
         4 => Within::NoCover,
+        5 => Within::Spent(reached),
         number => Within::Refused(number),
     }
 }

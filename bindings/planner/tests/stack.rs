@@ -41,11 +41,14 @@ fn about_the_path<T: Send + 'static>(
 fn searched(reply: Reply, search: impl Fn(usize) -> Within) {
     for trials in [2, 5, MOST_TRIALS] {
         let told = search(trials);
-        let Within::Cover(Reached { limit, heaviest, trees, spent, .. }) = told else {
-            panic!("{told:?}");
-        };
-        assert_eq!(spent, trials < MOST_TRIALS);
-        assert!(spent || reply == Reply::Cover { limit, heaviest, trees }, "{told:?}");
+        match told {
+            Within::Spent(_) => assert!(trials < MOST_TRIALS),
+            Within::Cover(Reached { limit, heaviest, trees, .. }) => {
+                assert_eq!(trials, MOST_TRIALS);
+                assert_eq!(reply, Reply::Cover { limit, heaviest, trees });
+            }
+            _ => panic!("{told:?}"),
+        }
     }
 }
 

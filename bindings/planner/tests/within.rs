@@ -193,24 +193,24 @@ fn answers_of_the_wrapper() {
     let sheet = sheet_n([3, 3, 5]);
     let plain = planner::Question::new(Kind::Rooted, 2, &sheet);
     let mut buffer = vec![7; BUFFER];
-    let spent = Reached { limit: 11, heaviest: 6, trees: 2, trials: 2, floor: 1, spent: true };
-    let ended = Reached { limit: 4, trials: 6, floor: 4, spent: false, ..spent };
-    for (trials, reached) in [(2, spent), (6, ended), (33, ended)] {
+    let reached = Reached { limit: 11, heaviest: 6, trees: 2, trials: 2, floor: 1 };
+    let ended = Within::Cover(Reached { limit: 4, trials: 6, floor: 4, ..reached });
+    for (trials, due) in [(2, Within::Spent(reached)), (6, ended), (33, ended)] {
         buffer.fill(7);
-        assert_eq!(plain.within(trials, &mut buffer), Within::Cover(reached));
+        assert_eq!(plain.within(trials, &mut buffer), due);
         let trees = [(0, vec![0, 1]), (1, vec![])].map(|(start, edges)| Tree { start, edges });
         assert_eq!(Cover::read(&buffer), Some(Cover { trees: trees.to_vec() }));
         assert!(buffer[16..].iter().all(|&byte| byte == 7));
         assert_eq!(plain.check(&buffer[..16]), Ok(6));
         let alone = within(Kind::Rooted, 2, trials, &sheet, &mut buffer);
-        assert_eq!(alone, Within::Cover(reached));
+        assert_eq!(alone, due);
     }
     // 120 percent of 3, 150 of 3, 200 of 5 are 4, 5 and 10: the sum is 19.
     let listed = planner::Question { classes: Some(&[10, 20, 40]), ..plain };
-    let due = Reached { limit: 19, heaviest: 9, ..spent };
-    assert_eq!(listed.within(2, &mut buffer), Within::Cover(due));
+    let due = Reached { limit: 19, heaviest: 9, ..reached };
+    assert_eq!(listed.within(2, &mut buffer), Within::Spent(due));
     let listed = planner::Question { vans: Some(&[3, 0, 3, 0]), ..plain };
-    let due = Reached { limit: 5, trials: 6, floor: 5, spent: false, ..spent };
+    let due = Reached { limit: 5, trials: 6, floor: 5, ..reached };
     assert_eq!(listed.within(33, &mut buffer), Within::Cover(due));
     assert_eq!(listed.best(&mut buffer), Reply::Cover { limit: 5, heaviest: 6, trees: 2 });
     let none = planner::Question { vans: Some(&[]), ..plain };

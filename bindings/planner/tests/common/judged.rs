@@ -213,11 +213,13 @@ fn of_reply(reply: Reply) -> Said {
 }
 
 fn of_within(told: Within) -> Said {
+    let values = |reached: Reached, spent: u64| {
+        let Reached { limit, heaviest, trees, trials, floor } = reached;
+        vec![limit, heaviest, trees, trials, floor, spent]
+    };
     match told {
-        Within::Cover(Reached { limit, heaviest, trees, trials, floor, spent }) => {
-            let values = vec![limit, heaviest, trees, trials, floor, spent.into()];
-            (if spent { 5 } else { 0 }, values)
-        }
+        Within::Cover(reached) => (0, values(reached, 0)),
+        Within::Spent(reached) => (5, values(reached, 1)),
         Within::NoCover => (4, vec![]),
         Within::Refused(number) => (number, vec![]),
     }
