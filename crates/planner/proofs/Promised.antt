@@ -1,9 +1,9 @@
 -- The questions test by test, in the order of document 01: what each test makes of what is refused; and what the replies mean.
 -- Assumes nothing.
 use Prim.Native.Nat.{ℕ, _≤_, _<_}
-use mathlib.Core.Path.{_≡_, refl, sym, ap, _∙_, subst}
-use mathlib.Core.Bool.{Bool, true, false, _&&_, _||_, true≢false, false≢true}
-use mathlib.Core.List.{List, [], _∷_, List·Memᴰ·head, List·Memᴰ·tail}
+use mathlib.Core.Path.{_≡_, refl, sym, _∙_, subst}
+use mathlib.Core.Bool.{true, _||_, true≢false}
+use mathlib.Core.List.{List, [], _∷_, _++_, List·Memᴰ·head, List·Memᴰ·tail}
 use mathlib.Core.Option.{some, none, Option·some-ne-none}
 use lib.ListN.{length}
 use lib.Dec.{leb, ltb}
@@ -74,6 +74,13 @@ unfolding limitFault trialsFault
 asked-fits (At limit) e t = ltb-false mostLimit limit (quiet-if (ltb mostLimit limit) _ e)
 asked-fits (Within p) e t = ltb-false p 2 (first-false (ltb p 2) _ (quiet-if (ltb p 2 || ltb mostTrials p) _ t))
 
+-- A last test that refuses nothing changes nothing.
+none-last : (fs : List Fault) → firstFault (fs ++ (none ∷ [])) ≡ firstFault fs
+unfolding firstFault
+none-last [] = refl
+none-last (some n ∷ fs) = refl
+none-last (none ∷ fs) = none-last fs
+
 module _ (asked : Asked) (q : Question) (room : ℕ) where
   -- What is refused, in one order for both questions.
   faults : List Fault
@@ -81,13 +88,7 @@ module _ (asked : Asked) (q : Question) (room : ℕ) where
 
 in-order : (asked : Asked) (q : Question) (room : ℕ) → firstFault (faults asked q room) ≡ faultOf asked q room
 unfolding faults trialFault withinFault firstFault
-in-order (At limit) q room = go (questionFault q) (limitFault limit) (roomFault room)
-  where
-    go : (f l r : Fault) → firstFault (f ∷ l ∷ r ∷ none ∷ []) ≡ firstFault (f ∷ l ∷ r ∷ [])
-    go (some n) l r = refl
-    go none (some n) r = refl
-    go none none (some n) = refl
-    go none none none = refl
+in-order (At limit) q room = none-last (questionFault q ∷ limitFault limit ∷ roomFault room ∷ [])
 in-order (Within p) q room = go (questionFault q) (roomFault room) (trialsFault p)
   where
     go : (f r t : Fault) → firstFault (f ∷ none ∷ r ∷ t ∷ []) ≡ firstFault (f ∷ r ∷ t ∷ [])
@@ -221,13 +222,8 @@ ask-promised (Within n) p = within-promised p
 
 -- As many trials as may be asked for are not refused.
 same-fault : (q : Question) (room : ℕ) → withinFault q mostTrials room ≡ bestFault q room
-unfolding withinFault bestFault trialsFault faultIf firstFault
-same-fault q room = go (questionFault q) (roomFault room)
-  where
-    go : (f r : Fault) → firstFault (f ∷ r ∷ none ∷ []) ≡ firstFault (f ∷ r ∷ [])
-    go (some n) r = refl
-    go none (some n) = refl
-    go none none = refl
+unfolding withinFault bestFault trialsFault faultIf
+same-fault q room = none-last (questionFault q ∷ roomFault room ∷ [])
 
 -- The best-limit question is the question with so many trials.
 pub best-promised : {q : Question} {before after : List ℕ} {t : Told} → WithinPromise q mostTrials before after t → BestPromise q before after (t .reply)

@@ -73,7 +73,7 @@ puts-no-value (replies.Parts T D) before case = absurd (miss withoutValues 3 tt 
 puts-no-value (replies.Needs C) before case = absurd (miss withoutValues 4 tt case)
 puts-no-value replies.NoCover before case = record { values = refl }
 
--- Three values stored in front of three others.
+-- Three values stored, and then three in front of them.
 six-put : {x y z u v w : ℕ} (before : List ℕ) → 6 ≤ length before
     → (x ∷ y ∷ z ∷ []) ++ drop 3 (set (set (set before 3 u) 4 v) 5 w) ≡ (x ∷ y ∷ z ∷ u ∷ v ∷ w ∷ []) ++ drop 6 before
 six-put [] long = absurd (omega (arith, long))
