@@ -1,7 +1,7 @@
 // Links libplanner_c.a from where `rt staticlib planner_c` writes it, or from the folder that PLANNER_LIB_DIR names.
 // Without it only the plain Rust version is measured. Beside it, where PLANNER_BEFORE_DIR names a folder, the library of an
 // earlier state: libplanner_before.a, whose names begin with `before_`, and its header planner.h; it may be of a time before
-// questions had lists, before they had vans or times, or before few trials were asked for.
+// questions had lists, before they had vans, or before few trials were asked for.
 use std::env;
 use std::fs::read;
 use std::path::PathBuf;
@@ -25,7 +25,7 @@ fn main() {
     println!("cargo:rerun-if-env-changed=PLANNER_BEFORE_DIR");
     println!("cargo:rustc-check-cfg=cfg(earlier)");
     println!("cargo:rustc-check-cfg=cfg(earlier_within)");
-    println!("cargo:rustc-check-cfg=cfg(earlier_lists, values(\"none\", \"classes\", \"vans\", \"all\"))");
+    println!("cargo:rustc-check-cfg=cfg(earlier_lists, values(\"none\", \"classes\", \"all\"))");
     if let (true, Ok(folder)) = (archive.exists(), env::var("PLANNER_BEFORE_DIR")) {
         println!("cargo:rustc-cfg=earlier");
         println!("cargo:rustc-cfg=earlier_lists=\"{}\"", lists(&folder));
@@ -37,17 +37,14 @@ fn main() {
     }
 }
 
-/// The last list that the earlier library's questions may bring, or all: its general functions have parameters for no others.
+/// The lists that the earlier library's questions may bring: its general functions have parameters for no others.
 fn lists(folder: &str) -> &'static str {
-    let in_header = |name: &[u8]| has(folder, "planner.h", name);
     if !has(folder, "libplanner_before.a", b"before_ask\0") {
-        "none"
-    } else if in_header(b"PLANNER_TIMES") {
-        "all"
-    } else if in_header(b"PLANNER_VANS") {
-        "vans"
-    } else {
-        "classes"
+        return "none";
+    }
+    match has(folder, "planner.h", b"PLANNER_VANS") {
+        true => "all",
+        false => "classes",
     }
 }
 

@@ -20,15 +20,22 @@ extern "C" {
 /* The lists that a question may bring beside its graph, a bit for each; bits without a list are not read. */
 #define PLANNER_CLASSES 1u
 #define PLANNER_VANS 2u
-#define PLANNER_TIMES 4u
 
-#define PLANNER_BUFFER 32708u     /* the least length of a buffer, in bytes: room for any cover */
-#define PLANNER_WALK_BUFFER 1022u /* the least length of a walk's buffer, in bytes: room for any walk */
-#define PLANNER_MOST_TRIALS 33u   /* the most trials that planner_within is asked for: so many are never spent */
+/* The least length of a buffer, in bytes: room for any cover. */
+#define PLANNER_BUFFER 32708u
 
-/* What a trial and the best limit, within some trials too, answer, with the values; other numbers are those of refusals. */
+/* The least length of a walk's buffer, in bytes: room for any walk. */
+#define PLANNER_WALK_BUFFER 1022u
+
+/* The most trials that planner_within is asked for: so many are never spent. */
+#define PLANNER_MOST_TRIALS 33u
+
+/*
+ * What planner_trial, planner_best, planner_ask and planner_within answer, with the values; every other number is that of a
+ * refusal.
+ */
 #define PLANNER_COVER 0u         /* values: the limit, the heaviest weight, the number of trees. A cover is written. */
-#define PLANNER_TOO_LOW_STOP 1u  /* values: the lowest vertex joined to no root; with times perhaps a copy, see there. */
+#define PLANNER_TOO_LOW_STOP 1u  /* values: the lowest vertex joined to no root. */
 #define PLANNER_TOO_LOW_PARTS 2u /* values: T parts, D roots near any of them, D < T. The parts are written. */
 #define PLANNER_TOO_LOW_NEEDS 3u /* values: the number of trees needed, which is above k. */
 #define PLANNER_NO_COVER 4u      /* no values: no cover of the kind exists at any limit. */
@@ -54,15 +61,6 @@ extern "C" {
  * stand there several times, and k may be above n. What is left at a vertex goes to its lowest-numbered van: of several trees
  * from one vertex the first has what is left there, and each of the others is a part and a path to it, or has no edges. An
  * unrooted question carries no such list: one that is brought beside it is not read, whatever its length.
- *
- * Times, a list that a question may bring beside its graph: the time at each vertex in 4 bytes, 0 to 1,000,000, 4n bytes.
- * It falls on exactly one of the trees that cover the vertex. Each vertex with a time above 0 has a copy, joined to it by
- * an edge of that weight: copies are vertices n, n + 1 and on, their edges m, m + 1 and on, both in the order of the
- * vertices copied. So where a limit is too low at a vertex v of n or more, that is the copy of the (v - n)-th vertex with a
- * time above 0, and in the entries of a cover or of parts an edge e of m or more is the time of the (e - m)-th, both
- * counted from 0: the tree that lists it serves. No tree starts at a copy. Whatever is said of weights, limits and other
- * covers is of edges and times together; classes leave times as they are. A list of zeros gives the same answers as no
- * list.
  *
  * For the eight functions of the library: any input is answered. Each pointer is to as many bytes as its length says,
  * `values` to exactly three numbers, those of planner_walk and planner_route to exactly two, those of planner_within to
@@ -132,31 +130,26 @@ uint32_t planner_walk(uint32_t kind, size_t k, const uint8_t *graph, size_t grap
 
 /*
  * Any question: four functions, with the lists that it brings. A program in C or C++ has planner_question for this, further
- * below; these are for callers without a C compiler. A version with a list more has two parameters more here, as this one
- * has for times: whatever calls these four, by planner_question too, must be compiled anew, with the header of the archive
- * that is linked.
+ * below; these are for callers without a C compiler. A version with a list more has two parameters more here: compile what
+ * calls these four, by planner_question too, with the header of the archive that is linked.
  *
- * `brought` has a bit for each list. A list whose bit is 0 is not read; its pointer is not null even so. A list whose bit
- * is 1 is brought, of no bytes too, but for vans beside an unrooted question, which are not read. Whatever is refused
- * before a list's turn leaves it unread.
+ * `brought` has a bit for each list. A list whose bit is 0 is not read; its pointer is not null even so. A list whose bit is
+ * 1 is brought, of no bytes too, but for vans beside an unrooted question, which are not read. Whatever is refused before a
+ * list's turn leaves it unread.
  * Refused, after 16, which is of the weights as given, and before 21: 53 classes_length is not m. 54 a weight used is above
- * 1,000,000. 57 times_length is not 4n. 58 a time is above 1,000,000. 59 n and the copies are above 256, or m and the
- * copies above 2,048.
- * With vans 21 is for k outside 1 to 32 alone. Refused straight after 21: 55 vans_length is not 2k, or a van's vertex is
- * not below n. 32 holds starts against the vans, D counts vans, and every other cover and other walks that ours is held
- * against are by the same vans. The list of 0 to k - 1, with k at most n, gives the same answers as no list.
- * With a time above 0 limit 0 is never accepted. PLANNER_TOO_LOW_STOP names a copy, rooted, where all vertices below n are
- * joined to roots; unrooted, wherever a time is above the limit, the lowest such, before trees are counted. 33 counts the
- * edges of copies in, 35 is also for a time listed in no tree or in two; 21, 32 and 55 go by n. A walk comes to no copy: it
- * has 2q + 1 stops by the q edges of its tree below m, and its length is twice these and once the times that the tree
- * lists. In other walks that ours are held against each time is spent once, too, by a walk that comes to its vertex.
+ * 1,000,000.
+ * With vans 21 is for k outside 1 to 32 alone. Refused straight after 21: 55 vans_length is not 2k, or a van's vertex is not
+ * below n. 32 holds starts against the vans, D counts vans, and every other cover and other walks that ours is held against
+ * are by the same vans. The list of 0 to k - 1, with k at most n, gives the same answers as no list.
  */
 
-/* By `asked` a trial, or the best limit, for which `limit` is not read; the rest is as of planner_trial and planner_best. */
+/*
+ * A trial at the limit or the best limit, by `asked`; answers, values and buffer are as of planner_trial and planner_best.
+ * For the best limit `limit` is not read.
+ */
 uint32_t planner_ask(uint32_t asked, uint64_t limit, uint32_t kind, size_t k, const uint8_t *graph, size_t graph_length,
                      uint32_t brought, const uint8_t *classes, size_t classes_length, const uint8_t *vans,
-                     size_t vans_length, const uint8_t *times, size_t times_length, uint64_t *values, uint8_t *buffer,
-                     size_t buffer_length);
+                     size_t vans_length, uint64_t *values, uint8_t *buffer, size_t buffer_length);
 
 /*
  * The best limit's question with a number of trials, 2 to PLANNER_MOST_TRIALS: a limit and its cover before the search ends.
@@ -178,24 +171,22 @@ uint32_t planner_ask(uint32_t asked, uint64_t limit, uint32_t kind, size_t k, co
  */
 uint32_t planner_within(size_t trials, uint32_t kind, size_t k, const uint8_t *graph, size_t graph_length,
                         uint32_t brought, const uint8_t *classes, size_t classes_length, const uint8_t *vans,
-                        size_t vans_length, const uint8_t *times, size_t times_length, uint64_t *values,
-                        uint8_t *buffer, size_t buffer_length);
+                        size_t vans_length, uint64_t *values, uint8_t *buffer, size_t buffer_length);
 
 /* The check of a filed cover; answers and values are as of planner_check. */
 uint32_t planner_verify(uint32_t kind, size_t k, const uint8_t *graph, size_t graph_length, uint32_t brought,
                         const uint8_t *classes, size_t classes_length, const uint8_t *vans, size_t vans_length,
-                        const uint8_t *times, size_t times_length, const uint8_t *cover, size_t cover_length,
-                        uint64_t *values);
+                        const uint8_t *cover, size_t cover_length, uint64_t *values);
 
 /* The closed walk of one tree of a filed cover; answers, values and buffer are as of planner_walk. */
 uint32_t planner_route(uint32_t kind, size_t k, const uint8_t *graph, size_t graph_length, uint32_t brought,
                        const uint8_t *classes, size_t classes_length, const uint8_t *vans, size_t vans_length,
-                       const uint8_t *times, size_t times_length, const uint8_t *cover, size_t cover_length,
-                       size_t tree, uint64_t *values, uint8_t *buffer, size_t buffer_length);
+                       const uint8_t *cover, size_t cover_length, size_t tree, uint64_t *values, uint8_t *buffer,
+                       size_t buffer_length);
 
 /*
  * A list. {0}, in C++ {}, is none; planner_list_of makes one. Whether there is one is said by `brought` alone (0 if not),
- * and not by a null pointer: that of an empty vector is null too, and a list that could not be loaded must get 53, 55 or 57.
+ * and not by a null pointer: that of an empty vector is null too, and a list that could not be loaded must get 53 or 55.
  */
 typedef struct planner_list {
     const uint8_t *bytes;
@@ -214,31 +205,21 @@ typedef struct planner_question {
     size_t graph_length;
     planner_list classes;
     planner_list vans; /* beside an unrooted question it is not read */
-    planner_list times;
 } planner_question;
 
 /* These bytes as a list that is brought. A null pointer is to no bytes, whatever the length. */
 static inline planner_list planner_list_of(const uint8_t *bytes, size_t length) {
     static const uint8_t none = 0;
-    const planner_list list = {bytes != NULL ? bytes : &none, bytes != NULL ? length : 0, 1u};
+    planner_list list;
+    list.bytes = bytes != NULL ? bytes : &none;
+    list.length = bytes != NULL ? length : 0;
+    list.brought = 1u;
     return list;
 }
 
 /* The bits of the lists that a question brings. */
 static inline uint32_t planner_brought(const planner_question *q) {
-    return (q->classes.brought != 0 ? PLANNER_CLASSES : 0u) | (q->vans.brought != 0 ? PLANNER_VANS : 0u) |
-           (q->times.brought != 0 ? PLANNER_TIMES : 0u);
-}
-
-/* The question with a pointer to no bytes in the place of each that is null. */
-static inline planner_question planner_filled(planner_question q) {
-    const planner_list graph = planner_list_of(q.graph, q.graph_length);
-    q.graph = graph.bytes;
-    q.graph_length = graph.length;
-    q.classes = planner_list_of(q.classes.bytes, q.classes.length);
-    q.vans = planner_list_of(q.vans.bytes, q.vans.length);
-    q.times = planner_list_of(q.times.bytes, q.times.length);
-    return q;
+    return (q->classes.brought != 0 ? PLANNER_CLASSES : 0u) | (q->vans.brought != 0 ? PLANNER_VANS : 0u);
 }
 
 /*
@@ -248,10 +229,12 @@ static inline planner_question planner_filled(planner_question q) {
 static inline uint32_t planner_ask_of(const planner_question *q, uint32_t asked, uint64_t limit, uint64_t *values,
                                       uint8_t *buffer, size_t buffer_length) {
     static uint8_t none = 0;
-    const planner_question f = planner_filled(*q);
-    return planner_ask(asked, limit, f.kind, f.k, f.graph, f.graph_length, planner_brought(q), f.classes.bytes,
-                       f.classes.length, f.vans.bytes, f.vans.length, f.times.bytes, f.times.length, values,
-                       buffer != NULL ? buffer : &none, buffer != NULL ? buffer_length : 0);
+    const planner_list graph = planner_list_of(q->graph, q->graph_length);
+    const planner_list classes = planner_list_of(q->classes.bytes, q->classes.length);
+    const planner_list vans = planner_list_of(q->vans.bytes, q->vans.length);
+    return planner_ask(asked, limit, q->kind, q->k, graph.bytes, graph.length, planner_brought(q), classes.bytes,
+                       classes.length, vans.bytes, vans.length, values, buffer != NULL ? buffer : &none,
+                       buffer != NULL ? buffer_length : 0);
 }
 
 static inline uint32_t planner_trial_of(const planner_question *q, uint64_t limit, uint64_t *values, uint8_t *buffer,
@@ -267,28 +250,34 @@ static inline uint32_t planner_best_of(const planner_question *q, uint64_t *valu
 static inline uint32_t planner_within_of(const planner_question *q, size_t trials, uint64_t *values, uint8_t *buffer,
                                          size_t buffer_length) {
     static uint8_t none = 0;
-    const planner_question f = planner_filled(*q);
-    return planner_within(trials, f.kind, f.k, f.graph, f.graph_length, planner_brought(q), f.classes.bytes,
-                          f.classes.length, f.vans.bytes, f.vans.length, f.times.bytes, f.times.length, values,
-                          buffer != NULL ? buffer : &none, buffer != NULL ? buffer_length : 0);
+    const planner_list graph = planner_list_of(q->graph, q->graph_length);
+    const planner_list classes = planner_list_of(q->classes.bytes, q->classes.length);
+    const planner_list vans = planner_list_of(q->vans.bytes, q->vans.length);
+    return planner_within(trials, q->kind, q->k, graph.bytes, graph.length, planner_brought(q), classes.bytes,
+                          classes.length, vans.bytes, vans.length, values, buffer != NULL ? buffer : &none,
+                          buffer != NULL ? buffer_length : 0);
 }
 
 static inline uint32_t planner_check_of(const planner_question *q, const uint8_t *cover, size_t cover_length,
                                         uint64_t *values) {
-    const planner_question f = planner_filled(*q);
+    const planner_list graph = planner_list_of(q->graph, q->graph_length);
+    const planner_list classes = planner_list_of(q->classes.bytes, q->classes.length);
+    const planner_list vans = planner_list_of(q->vans.bytes, q->vans.length);
     const planner_list filed = planner_list_of(cover, cover_length);
-    return planner_verify(f.kind, f.k, f.graph, f.graph_length, planner_brought(q), f.classes.bytes, f.classes.length,
-                          f.vans.bytes, f.vans.length, f.times.bytes, f.times.length, filed.bytes, filed.length, values);
+    return planner_verify(q->kind, q->k, graph.bytes, graph.length, planner_brought(q), classes.bytes, classes.length,
+                          vans.bytes, vans.length, filed.bytes, filed.length, values);
 }
 
 static inline uint32_t planner_walk_of(const planner_question *q, const uint8_t *cover, size_t cover_length, size_t tree,
                                        uint64_t *values, uint8_t *buffer, size_t buffer_length) {
     static uint8_t none = 0;
-    const planner_question f = planner_filled(*q);
+    const planner_list graph = planner_list_of(q->graph, q->graph_length);
+    const planner_list classes = planner_list_of(q->classes.bytes, q->classes.length);
+    const planner_list vans = planner_list_of(q->vans.bytes, q->vans.length);
     const planner_list filed = planner_list_of(cover, cover_length);
-    return planner_route(f.kind, f.k, f.graph, f.graph_length, planner_brought(q), f.classes.bytes, f.classes.length,
-                         f.vans.bytes, f.vans.length, f.times.bytes, f.times.length, filed.bytes, filed.length, tree,
-                         values, buffer != NULL ? buffer : &none, buffer != NULL ? buffer_length : 0);
+    return planner_route(q->kind, q->k, graph.bytes, graph.length, planner_brought(q), classes.bytes, classes.length,
+                         vans.bytes, vans.length, filed.bytes, filed.length, tree, values,
+                         buffer != NULL ? buffer : &none, buffer != NULL ? buffer_length : 0);
 }
 
 #ifdef __cplusplus

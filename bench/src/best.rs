@@ -103,9 +103,7 @@ fn from_anywhere(graph: &Graph, k: usize, most: usize) -> Option<(Standing, Vec<
     if prepared.components > k {
         return None;
     }
-    // A copy may not be a tree by itself, so that no limit below a time is accepted.
-    let least = graph.heaviest_time();
-    let accepts = |limit| least <= limit && prepared.needs(limit) <= k as u64;
+    let accepts = |limit| prepared.needs(limit) <= k as u64;
     let at = search(accepts(0), graph.total(), most, accepts);
     let trees = prepared.trees(at.high);
     Some((at, trees))

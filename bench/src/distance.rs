@@ -17,11 +17,10 @@ pub struct Distances<'a> {
 }
 
 impl Distances<'_> {
-    /// The distances from the roots: one search for all trees that start at a vertex. Copies are left out, since no path to a part
-    /// leads to one: its vertex is in the part too, and nearer.
+    /// The distances from the roots: one search for all trees that start at a vertex.
     pub fn new<'a>(graph: &Graph, roots: &'a Roots) -> Distances<'a> {
-        let around = Around::new(graph, 0..graph.lines as u16);
-        let mut heap = BinaryHeap::with_capacity(2 * graph.lines + 1);
+        let around = Around::new(graph, 0..graph.edges.len() as u16);
+        let mut heap = BinaryHeap::with_capacity(2 * graph.edges.len() + 1);
         let from_root = |root| from_root(&around, graph.n, root, &mut heap);
         let from = roots.vertices().map(from_root).collect();
         Distances { roots, around, from }

@@ -1,6 +1,6 @@
 //! Linked libraries: the functions of `include/planner.h`, by the names that each library exports them under.
 
-use crate::question::{Question, CLASSES, TIMES, VANS};
+use crate::question::{Question, CLASSES, VANS};
 
 type Bytes = *const u8;
 type Room = *mut u8;
@@ -16,20 +16,39 @@ type Walk = unsafe extern "C" fn(
 ) -> u32;
 #[rustfmt::skip]
 type Ask = unsafe extern "C" fn(
-    u32, u64, u32, usize, Bytes, usize, u32, Bytes, usize, Bytes, usize, Bytes, usize, Values, Room, usize,
+    u32, u64, u32, usize, Bytes, usize, u32, Bytes, usize, Bytes, usize, Values, Room, usize,
 ) -> u32;
 #[rustfmt::skip]
 type Within = unsafe extern "C" fn(
-    usize, u32, usize, Bytes, usize, u32, Bytes, usize, Bytes, usize, Bytes, usize, Values, Room, usize,
+    usize, u32, usize, Bytes, usize, u32, Bytes, usize, Bytes, usize, Values, Room, usize,
 ) -> u32;
 #[rustfmt::skip]
 type Verify = unsafe extern "C" fn(
-    u32, usize, Bytes, usize, u32, Bytes, usize, Bytes, usize, Bytes, usize, Bytes, usize, Values,
+    u32, usize, Bytes, usize, u32, Bytes, usize, Bytes, usize, Bytes, usize, Values,
 ) -> u32;
 #[rustfmt::skip]
 type Route = unsafe extern "C" fn(
-    u32, usize, Bytes, usize, u32, Bytes, usize, Bytes, usize, Bytes, usize, Bytes, usize, usize, Values, Room, usize,
+    u32, usize, Bytes, usize, u32, Bytes, usize, Bytes, usize, Bytes, usize, usize, Values, Room, usize,
 ) -> u32;
+
+/// The general functions of the states before questions had vans: the same without that list.
+#[cfg(earlier_lists = "classes")]
+mod by_classes {
+    use super::{Bytes, Room, Values};
+
+    #[rustfmt::skip]
+    pub type Ask = unsafe extern "C" fn(
+        u32, u64, u32, usize, Bytes, usize, u32, Bytes, usize, Values, Room, usize,
+    ) -> u32;
+    #[rustfmt::skip]
+    pub type Verify = unsafe extern "C" fn(
+        u32, usize, Bytes, usize, u32, Bytes, usize, Bytes, usize, Values,
+    ) -> u32;
+    #[rustfmt::skip]
+    pub type Route = unsafe extern "C" fn(
+        u32, usize, Bytes, usize, u32, Bytes, usize, Bytes, usize, usize, Values, Room, usize,
+    ) -> u32;
+}
 
 /// What `planner_ask` is asked.
 const TRIAL: u32 = 0;
@@ -44,15 +63,21 @@ pub struct Library {
     walk: Walk,
     general: Option<General>,
     within: Option<Within>,
-    /// The bits of the lists that it takes.
-    lists: u32,
 }
 
 #[derive(Clone, Copy)]
-struct General {
-    ask: Ask,
-    verify: Verify,
-    route: Route,
+enum General {
+    All {
+        ask: Ask,
+        verify: Verify,
+        route: Route,
+    },
+    #[cfg(earlier_lists = "classes")]
+    Classes {
+        ask: by_classes::Ask,
+        verify: by_classes::Verify,
+        route: by_classes::Route,
+    },
 }
 
 /// The function that a library exports under a name.
@@ -67,11 +92,6 @@ macro_rules! exported {
     }};
 }
 
-#[cfg(earlier)]
-mod earlier;
-#[cfg(earlier)]
-pub use earlier::before;
-
 /// The library of this state.
 pub fn now() -> Library {
     Library {
@@ -79,13 +99,41 @@ pub fn now() -> Library {
         best: exported!("planner_best": Best),
         check: exported!("planner_check": Check),
         walk: exported!("planner_walk": Walk),
-        general: Some(General {
+        general: Some(General::All {
             ask: exported!("planner_ask": Ask),
             verify: exported!("planner_verify": Verify),
             route: exported!("planner_route": Route),
         }),
         within: Some(exported!("planner_within": Within)),
-        lists: CLASSES | VANS | TIMES,
+    }
+}
+
+/// The library of an earlier state.
+#[cfg(earlier)]
+pub fn before() -> Library {
+    Library {
+        trial: exported!("before_trial": Trial),
+        best: exported!("before_best": Best),
+        check: exported!("before_check": Check),
+        walk: exported!("before_walk": Walk),
+        #[cfg(earlier_lists = "all")]
+        general: Some(General::All {
+            ask: exported!("before_ask": Ask),
+            verify: exported!("before_verify": Verify),
+            route: exported!("before_route": Route),
+        }),
+        #[cfg(earlier_lists = "classes")]
+        general: Some(General::Classes {
+            ask: exported!("before_ask": by_classes::Ask),
+            verify: exported!("before_verify": by_classes::Verify),
+            route: exported!("before_route": by_classes::Route),
+        }),
+        #[cfg(earlier_lists = "none")]
+        general: None,
+        #[cfg(earlier_within)]
+        within: Some(exported!("before_within": Within)),
+        #[cfg(not(earlier_within))]
+        within: None,
     }
 }
 
@@ -94,7 +142,12 @@ pub fn now() -> Library {
 impl Library {
     /// The bits of the lists that it takes.
     pub fn lists(&self) -> u32 {
-        self.lists
+        match self.general {
+            None => 0,
+            Some(General::All { .. }) => CLASSES | VANS,
+            #[cfg(earlier_lists = "classes")]
+            Some(General::Classes { .. }) => CLASSES,
+        }
     }
 
     /// Whether it is asked for few trials.
@@ -133,7 +186,6 @@ impl Library {
         unsafe { (self.best)(kind, k, graph, length, values, room, most) }
     }
 
-    #[rustfmt::skip]
     pub fn within(
         &self,
         question: Question,
@@ -143,14 +195,11 @@ impl Library {
     ) -> u32 {
         let within = self.within.expect("a library that is asked for few trials");
         let Question { kind, k, sheet, .. } = question;
-        let (graph, length, brought) = (sheet.as_ptr(), sheet.len(), question.brought());
-        let [(classes, m), (vans, twice_k), (times, four_n)] = lists(&question);
+        let (graph, length, lists) = (sheet.as_ptr(), sheet.len(), question.brought());
+        let [(a, m), (b, twice_k)] = [question.classes, question.vans].map(list);
         let (values, room, most) = (values.as_mut_ptr(), buffer.as_mut_ptr(), buffer.len());
         unsafe {
-            within(
-                trials, kind, k, graph, length, brought, classes, m, vans, twice_k, times, four_n,
-                values, room, most,
-            )
+            within(trials, kind, k, graph, length, lists, a, m, b, twice_k, values, room, most)
         }
     }
 
@@ -164,31 +213,42 @@ impl Library {
         buffer: &mut [u8],
     ) -> u32 {
         let Question { kind, k, sheet, .. } = question;
-        let (graph, length, brought) = (sheet.as_ptr(), sheet.len(), question.brought());
-        let [(classes, m), (vans, twice_k), (times, four_n)] = lists(&question);
+        let (graph, length, lists) = (sheet.as_ptr(), sheet.len(), question.brought());
+        let [(classes, m), (vans, twice_k)] = [question.classes, question.vans].map(list);
         let (values, room, most) = (values.as_mut_ptr(), buffer.as_mut_ptr(), buffer.len());
-        unsafe {
-            (self.general().ask)(
-                asked, limit, kind, k, graph, length, brought, classes, m, vans, twice_k, times, four_n,
-                values, room, most,
-            )
+        match self.general() {
+            General::All { ask, .. } => unsafe {
+                ask(
+                    asked, limit, kind, k, graph, length, lists, classes, m, vans, twice_k,
+                    values, room, most,
+                )
+            },
+            #[cfg(earlier_lists = "classes")]
+            General::Classes { ask, .. } => unsafe {
+                ask(asked, limit, kind, k, graph, length, lists, classes, m, values, room, most)
+            },
         }
     }
 
     #[rustfmt::skip]
     pub fn check(&self, question: Question, cover: &[u8], values: &mut [u64; 3]) -> u32 {
         let Question { kind, k, sheet, .. } = question;
-        let (graph, length, brought) = (sheet.as_ptr(), sheet.len(), question.brought());
+        let (graph, length, lists) = (sheet.as_ptr(), sheet.len(), question.brought());
         let (filed, size, values) = (cover.as_ptr(), cover.len(), values.as_mut_ptr());
-        if brought == 0 {
+        if lists == 0 {
             return unsafe { (self.check)(kind, k, graph, length, filed, size, values) };
         }
-        let [(classes, m), (vans, twice_k), (times, four_n)] = lists(&question);
-        unsafe {
-            (self.general().verify)(
-                kind, k, graph, length, brought, classes, m, vans, twice_k, times, four_n, filed, size,
-                values,
-            )
+        let [(classes, m), (vans, twice_k)] = [question.classes, question.vans].map(list);
+        match self.general() {
+            General::All { verify, .. } => unsafe {
+                verify(
+                    kind, k, graph, length, lists, classes, m, vans, twice_k, filed, size, values,
+                )
+            },
+            #[cfg(earlier_lists = "classes")]
+            General::Classes { verify, .. } => unsafe {
+                verify(kind, k, graph, length, lists, classes, m, filed, size, values)
+            },
         }
     }
 
@@ -202,27 +262,34 @@ impl Library {
         buffer: &mut [u8],
     ) -> u32 {
         let Question { kind, k, sheet, .. } = question;
-        let (graph, length, brought) = (sheet.as_ptr(), sheet.len(), question.brought());
+        let (graph, length, lists) = (sheet.as_ptr(), sheet.len(), question.brought());
         let (filed, size, values) = (cover.as_ptr(), cover.len(), values.as_mut_ptr());
         let (room, most) = (buffer.as_mut_ptr(), buffer.len());
-        if brought == 0 {
+        if lists == 0 {
             let walk = self.walk;
             return unsafe { walk(kind, k, graph, length, filed, size, tree, values, room, most) };
         }
-        let [(classes, m), (vans, twice_k), (times, four_n)] = lists(&question);
-        unsafe {
-            (self.general().route)(
-                kind, k, graph, length, brought, classes, m, vans, twice_k, times, four_n, filed, size,
-                tree, values, room, most,
-            )
+        let [(classes, m), (vans, twice_k)] = [question.classes, question.vans].map(list);
+        match self.general() {
+            General::All { route, .. } => unsafe {
+                route(
+                    kind, k, graph, length, lists, classes, m, vans, twice_k, filed, size, tree,
+                    values, room, most,
+                )
+            },
+            #[cfg(earlier_lists = "classes")]
+            General::Classes { route, .. } => unsafe {
+                route(
+                    kind, k, graph, length, lists, classes, m, filed, size, tree, values, room,
+                    most,
+                )
+            },
         }
     }
 }
 
-/// The pointer and the length of each list; that of none is to no bytes.
-fn lists(question: &Question) -> [(Bytes, usize); 3] {
-    [question.classes, question.vans, question.times].map(|list| {
-        let bytes = list.unwrap_or_default();
-        (bytes.as_ptr(), bytes.len())
-    })
+/// The pointer and the length of a list; that of none is to no bytes.
+fn list(bytes: Option<&[u8]>) -> (Bytes, usize) {
+    let bytes = bytes.unwrap_or_default();
+    (bytes.as_ptr(), bytes.len())
 }

@@ -102,16 +102,6 @@ pub fn together(size: &Size) -> Vec<u8> {
     (size.n as u16 / 2).to_le_bytes().repeat(size.k)
 }
 
-/// A list of times, up to 1,000,000 at so many random vertices and 0 at the others.
-pub fn times(size: &Size, count: usize) -> Vec<u8> {
-    let mut made = Made(size.n as u64);
-    let some = (0..count).map(|_| 1 + made.below(1_000_000) as u32);
-    let mut times: Vec<u32> = some.collect();
-    times.resize(size.n, 0);
-    made.shuffle(&mut times);
-    times.into_iter().flat_map(u32::to_le_bytes).collect()
-}
-
 /// The sheet bytes of a shape at a size, with made weights.
 fn weighed(
     made: &mut Made,

@@ -1,8 +1,7 @@
 //! Measures the linked planner beside the plain Rust version and prints a table. The word behind the program's name is
 //! the number of rounds (101).
 
-use bench::made::{gated, sheet, spread, surfaced, times, together};
-use bench::made::{Shape, Size, SHAPES, SIZES};
+use bench::made::{gated, sheet, spread, surfaced, together, Shape, Size, SHAPES, SIZES};
 use bench::measure::{medians, Asked, Measured};
 use bench::planners::{linked, planners, Planner};
 use bench::question::{Question, ROOTED, UNROOTED};
@@ -62,10 +61,6 @@ const WHOLE_TREE: [Size; 1] = [Size { n: 256, m: 2_048, k: 1 }];
 /// A quarter of the full size, and the full size.
 const QUARTER_AND_FULL: [Size; 2] = [SIZES[2], SIZES[0]];
 
-/// Sizes with room for copies of the vertices, and the one that is of full size with a copy of each.
-const WITH_COPIES: [Size; 3] = [SIZES[3], SIZES[2], SIZES[1]];
-const FULL_WITH_COPIES: [Size; 1] = [Size { n: 128, m: 1_920, k: 32 }];
-
 /// The graphs of a row.
 #[derive(Clone, Copy)]
 enum Graphs {
@@ -80,10 +75,6 @@ enum Graphs {
     Spread,
     /// The same with all vans at one vertex.
     Together,
-    /// Random ones with a time at half of the vertices.
-    Timed,
-    /// Random ones with a time at every vertex, classes, and vans at random vertices.
-    AllLists,
 }
 
 /// The bytes of a graph, and the lists beside them.
@@ -92,7 +83,6 @@ struct Bytes {
     sheet: Vec<u8>,
     classes: Option<Vec<u8>>,
     vans: Option<Vec<u8>>,
-    times: Option<Vec<u8>>,
 }
 
 impl Graphs {
@@ -104,8 +94,6 @@ impl Graphs {
             Graphs::Gated => "gates",
             Graphs::Spread => "vans spread",
             Graphs::Together => "vans at one",
-            Graphs::Timed => "times",
-            Graphs::AllLists => "all lists",
         }
     }
 
@@ -124,14 +112,6 @@ impl Graphs {
             }
             Graphs::Spread => by(spread(size)),
             Graphs::Together => by(together(size)),
-            Graphs::Timed => {
-                let times = Some(times(size, size.n / 2));
-                Bytes { times, ..plain(sheet(random, size)) }
-            }
-            Graphs::AllLists => {
-                let (vans, times) = (Some(spread(size)), Some(times(size, size.n)));
-                Bytes { vans, times, ..Graphs::Listed.made(size) }
-            }
         }
     }
 }
@@ -149,7 +129,6 @@ fn main() {
     ratios.extend(with_gates(rounds));
     ratios.extend(with_vans(rounds));
     ratios.extend(few_trials(rounds));
-    ratios.extend(with_times(rounds));
     println!();
     for (name, _, _) in QUESTIONS.into_iter().chain(FEW_TRIALS) {
         let ratios = ratios.iter().filter(|ratio| ratio.0 == name).map(|ratio| ratio.1);
@@ -220,22 +199,6 @@ fn few_trials(rounds: usize) -> Vec<Ratio> {
     FEW_TRIALS.into_iter().filter_map(put).collect()
 }
 
-/// Every question with times at half of the vertices, those that search at three sizes; rooted ones with every list and as many
-/// copies as vertices; the ratios at the largest size.
-fn with_times(rounds: usize) -> Vec<Ratio> {
-    heading("Random graphs with a time at half of the vertices, copies not counted in n and m.");
-    let of_size = |row: Row| match row.1 {
-        Asked::Check | Asked::Walk => &WITH_COPIES[2..],
-        _ => &WITH_COPIES[..],
-    };
-    let put = |row| rows(row, Graphs::Timed, of_size(row), rounds);
-    let mut ratios: Vec<Ratio> = QUESTIONS.into_iter().filter_map(put).collect();
-    heading("The same with a time at every vertex, classes and vans: 256 vertices and 2,048 edges with the copies.");
-    let put = |row| rows(row, Graphs::AllLists, &FULL_WITH_COPIES, rounds);
-    ratios.extend(QUESTIONS.into_iter().filter(|row| row.2 == ROOTED).filter_map(put));
-    ratios
-}
-
 /// The rows that ask this, of both kinds.
 fn about(asked: Asked) -> impl Iterator<Item = Row> {
     QUESTIONS.into_iter().filter(move |row| row.1 == asked)
@@ -245,10 +208,9 @@ fn about(asked: Asked) -> impl Iterator<Item = Row> {
 fn rows((name, asked, kind): Row, graphs: Graphs, sizes: &[Size], rounds: usize) -> Option<Ratio> {
     let mut before = Vec::new();
     for size in sizes {
-        let Bytes { sheet, classes, vans, times } = &graphs.made(size);
-        let [classes, vans, times] = [classes, vans, times].map(Option::as_deref);
-        let question = Question { kind, k: size.k, sheet, classes, vans, times };
-        let question = Measured::new(asked, question);
+        let Bytes { sheet, classes, vans } = &graphs.made(size);
+        let (classes, vans) = (classes.as_deref(), vans.as_deref());
+        let question = Measured::new(asked, Question { kind, k: size.k, sheet, classes, vans });
         // The library of an earlier state comes last, and may not take the question.
         let planners: Vec<Planner> =
             planners().into_iter().filter(|planner| question.is_for(planner)).collect();

@@ -2,7 +2,7 @@
 
 #[cfg(linked)]
 use crate::library::{self, Library};
-use crate::question::{Question, CLASSES, TIMES, VANS};
+use crate::question::{Question, CLASSES, VANS};
 use crate::{best, check, trial, walk};
 
 /// A planner.
@@ -58,7 +58,7 @@ impl Planner {
     /// The bits of the lists that it takes; the library of an earlier state may not take all.
     pub fn lists(&self) -> u32 {
         match self {
-            Planner::Plain => CLASSES | VANS | TIMES,
+            Planner::Plain => CLASSES | VANS,
             #[cfg(linked)]
             Planner::Linked(_, library) => library.lists(),
         }

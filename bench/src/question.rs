@@ -19,7 +19,6 @@ pub const SPENT: u32 = 5;
 /// The bits of the lists that a question may bring.
 pub const CLASSES: u32 = 1;
 pub const VANS: u32 = 2;
-pub const TIMES: u32 = 4;
 
 /// The least length of a lent buffer in bytes.
 pub const BUFFER: usize = 32_708;
@@ -36,7 +35,7 @@ pub fn is_rooted(kind: u32) -> bool {
 }
 
 /// What is asked about: k trees of a kind on the graph of sheet bytes, and the lists beside it where there are any: the class of
-/// each edge, the vertex where each tree of a rooted question starts, and the time at each vertex.
+/// each edge, and the vertex where each tree of a rooted question starts.
 #[derive(Clone, Copy)]
 pub struct Question<'a> {
     pub kind: u32,
@@ -44,14 +43,13 @@ pub struct Question<'a> {
     pub sheet: &'a [u8],
     pub classes: Option<&'a [u8]>,
     pub vans: Option<&'a [u8]>,
-    pub times: Option<&'a [u8]>,
 }
 
 impl<'a> Question<'a> {
     /// The bits of the lists that it brings.
     pub fn brought(&self) -> u32 {
         let bit = |list: Option<&[u8]>, bit| if list.is_some() { bit } else { 0 };
-        bit(self.classes, CLASSES) | bit(self.vans, VANS) | bit(self.times, TIMES)
+        bit(self.classes, CLASSES) | bit(self.vans, VANS)
     }
 
     /// The list of vans, if there is one and it is read: an unrooted question leaves it alone.
@@ -60,22 +58,19 @@ impl<'a> Question<'a> {
     }
 }
 
-/// The graph of a question, or its refusal: 11 to 16, 53, 54, 57 to 59, 21, 55.
+/// The graph of a question, or its refusal: 11 to 16, 53, 54, 21, 55.
 pub fn admit(question: &Question) -> Result<Graph, u32> {
-    let Question { kind, k, sheet, classes, times, .. } = *question;
+    let Question { kind, k, sheet, classes, .. } = *question;
     let mut graph = read(sheet)?;
     if let Some(classes) = classes {
         graph.adjust(classes)?;
     }
-    if let Some(times) = times {
-        graph.attach(times)?;
-    }
     let listed = question.listed();
-    if k == 0 || k > 32 || is_rooted(kind) && listed.is_none() && k > graph.stops {
+    if k == 0 || k > 32 || is_rooted(kind) && listed.is_none() && k > graph.n {
         return Err(21);
     }
     match listed {
-        Some(list) if !roots::fits(list, k, graph.stops) => Err(55),
+        Some(list) if !roots::fits(list, k, graph.n) => Err(55),
         _ => Ok(graph),
     }
 }

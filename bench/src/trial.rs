@@ -28,11 +28,6 @@ pub fn trial(question: Question, limit: u64, values: &mut [u64; 3], buffer: &mut
         let roots = Roots::new(k, question.vans);
         return rooted_trial(&graph, &roots, limit, values, buffer);
     }
-    // A copy may not be a tree by itself: the lowest is named whose time is above the limit.
-    if let Some(time) = graph.times().iter().find(|time| u64::from(time.weight) > limit) {
-        values[0] = u64::from(time.b);
-        return STOP;
-    }
     let prepared = unrooted::prepare(&graph);
     let needs = prepared.needs(limit);
     if needs > k as u64 {

@@ -28,8 +28,7 @@ pub fn walk(
     }
 }
 
-/// The values of a walk, which is written, or the number of the refusal. It comes to no copy: each time that the tree lists is
-/// spent on the way, and counted once.
+/// The values of a walk, which is written, or the number of the refusal.
 fn walked(
     question: &Question,
     cover: &[u8],
@@ -43,11 +42,8 @@ fn walked(
     if buffer.len() < WALK_BUFFER {
         return Err(52);
     }
-    let around = Around::new(&graph, filed.edges(tree).filter(|&e| !graph.is_time(e)));
-    let times = filed.edges(tree).filter(|&e| graph.is_time(e));
-    let spent: u64 = times.map(|e| u64::from(graph.edges[e as usize].weight)).sum();
-    let [stops, length] = write(&around, filed.start(tree), buffer);
-    Ok([stops, length + spent])
+    let around = Around::new(&graph, filed.edges(tree));
+    Ok(write(&around, filed.start(tree), buffer))
 }
 
 /// Walks the arcs of a tree from its start, each vertex's by edge number, and writes every stop; gives their number and the

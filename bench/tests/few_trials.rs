@@ -8,7 +8,6 @@ use reference::brought::Brought;
 use reference::districts::Asked;
 use reference::judge::{within_with, Reply};
 use reference::made_shapes::{any_weights, graph, POSITIVE, SHAPES as ALL_SHAPES};
-use reference::made_times::timed;
 use reference::made_within::within;
 use reference::question::{Answer, Kind, BUFFER};
 use reference::random::Random;
@@ -40,8 +39,8 @@ impl Put<'_> {
     }
 
     fn question(&self) -> Question<'_> {
-        let Brought { sheet, classes, vans, times } = self.brought;
-        Question { kind: self.kind as u32, k: self.k, sheet, classes, vans, times }
+        let Brought { sheet, classes, vans } = self.brought;
+        Question { kind: self.kind as u32, k: self.k, sheet, classes, vans }
     }
 
     /// Puts the question to every planner, and gives the answer due.
@@ -106,38 +105,32 @@ fn assert_met(met: &[usize; 64], numbers: &[usize]) {
     }
 }
 
-/// The records that are made with a number of trials: by hand, with every other refusal beside 56, and the largest; and those with
-/// times.
+/// The records that are made with a number of trials: by hand, with every other refusal beside 56, and the largest.
 #[test]
 fn records_are_answered_as_the_reference_allows() {
     let mut met = [0; 64];
-    for record in within().into_iter().chain(timed()) {
-        let Asked::Within { trials, room } = record.asked else { continue };
+    for record in within() {
+        let Asked::Within { trials, room } = record.asked else {
+            panic!("a number of trials is asked for");
+        };
         let put = Put { kind: record.kind, k: record.k, brought: record.brought() };
         met[number(&put.held(trials, room)) as usize] += 1;
     }
-    assert_met(&met, &[0, 4, 5, 11, 12, 13, 14, 15, 16, 53, 54, 57, 58, 59, 21, 55, 23, 56]);
+    assert_met(&met, &[0, 4, 5, 11, 12, 13, 14, 15, 16, 53, 54, 21, 55, 23, 56]);
 }
 
-/// Both kinds on a graph's bytes for k trees, alone, with classes, with vans, with both, with times and with all three, in every
-/// number of trials.
+/// Both kinds on a graph's bytes for k trees, alone, with classes, with vans and with both, in every number of trials.
 fn with_every_list(random: &mut Random, n: usize, k: usize, sheet: &[u8], met: &mut [usize; 64]) {
     let m = (sheet.len() - 4) / 8;
     let classes: Vec<u8> = (0..m).map(|_| random.below(64) as u8).collect();
     let vans: Vec<u8> = (0..k).flat_map(|_| (random.below(n) as u16).to_le_bytes()).collect();
-    let time = |_| random.below(2) as u32 * random.between(1, 50) as u32;
-    let times: Vec<u8> = (0..n).map(time).flat_map(u32::to_le_bytes).collect();
-    let (c, v, t) = (Some(&classes[..]), Some(&vans[..]), Some(&times[..]));
-    let plain = Brought::plain(sheet);
-    for brought in [
-        plain,
-        Brought { classes: c, ..plain },
-        Brought { vans: v, ..plain },
-        Brought { classes: c, vans: v, ..plain },
-        Brought { times: t, ..plain },
-        Brought { classes: c, vans: v, times: t, ..plain },
-    ] {
-        BOTH.iter().for_each(|&kind| Put { kind, k, brought }.every_number(met));
+    for classes in [None, Some(&classes[..])] {
+        for vans in [None, Some(&vans[..])] {
+            let brought = Brought { sheet, classes, vans };
+            for kind in BOTH {
+                Put { kind, k, brought }.every_number(met);
+            }
+        }
     }
 }
 

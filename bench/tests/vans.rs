@@ -62,7 +62,7 @@ fn made(seed: u64, turns: usize, vertices: usize, trees: usize) -> Met {
         let (sheet, list) = (graph.to_sheet(), vans(&mut random, n, k));
         let classes: Vec<u8> = graph.edges.iter().map(|_| random.below(64) as u8).collect();
         let classes = (turn % 3 == 0).then_some(&classes[..]);
-        let brought = Brought { classes, vans: Some(&list), ..Brought::plain(&sheet) };
+        let brought = Brought { sheet: &sheet, classes, vans: Some(&list) };
         let rooted = Put { kind: Kind::Rooted, k, brought };
         let sum = graph.total() as usize;
         let limits = [0, 1, sum, random.below(sum + 2), random.below(sum / k + 2)];

@@ -38,8 +38,8 @@ fn asked_with(filed: Filed, tree: usize, room: usize) -> u16 {
     };
     for planner in linked().into_iter().chain([Planner::Plain]) {
         let (mut values, mut buffer) = ([VALUE; 2], vec![FILL; room]);
-        let Brought { sheet, classes, vans, times } = brought;
-        let question = Question { kind: kind as u32, k, sheet, classes, vans, times };
+        let Brought { sheet, classes, vans } = brought;
+        let question = Question { kind: kind as u32, k, sheet, classes, vans };
         let case = planner.walk(question, cover, tree, &mut values, &mut buffer);
         assert_eq!((case, values), (number.into(), due), "{kind:?} k {k} tree {tree} room {room}");
         assert!(buffer == right, "{kind:?} k {k} tree {tree} room {room}");

@@ -87,7 +87,7 @@ fn wrong_lists_get_55_in_its_turn() {
             let filings = filings(&right);
             for list in wrong(&right, 4).iter().chain([&right]) {
                 for classes in class_lists {
-                    let brought = Brought { classes, vans: Some(list), ..Brought::plain(&sheet) };
+                    let brought = Brought { sheet: &sheet, classes, vans: Some(list) };
                     for kind in [Kind::Rooted, Kind::Unrooted] {
                         put(Put { kind, k, brought }, &filings, &mut met);
                     }

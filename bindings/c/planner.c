@@ -32,8 +32,7 @@ static uint32_t walk(size_t tree, size_t room) {
 
 /* No list is brought, so none is read; the pointers are not null even so. */
 static uint32_t within(size_t trials, size_t room) {
-    return planner_within(trials, PLANNER_ROOTED, 2, sheet, sizeof sheet, 0, sheet, 0, sheet, 0, sheet, 0, six, buffer,
-                          room);
+    return planner_within(trials, PLANNER_ROOTED, 2, sheet, sizeof sheet, 0, sheet, 0, sheet, 0, six, buffer, room);
 }
 
 /* Every byte of the buffer of a walk from a place on is as it was. */
@@ -251,8 +250,6 @@ static void few_trials_with_lists(void) {
     assert(planner_within_of(&q, 34, six, buffer, sizeof buffer) == 56 && six[2] == 4);
 }
 
-#include "times.h" /* questions with times, on what stands above */
-
 int main(void) {
     /* Yards: "B 4, heaviest 6". */
     assert(trial(PLANNER_ROOTED, 4) == PLANNER_COVER);
@@ -289,8 +286,5 @@ int main(void) {
     wrong_vans();
     few_trials();
     few_trials_with_lists();
-    times_at_stops();
-    times_beside_lists();
-    wrong_times();
     return 0;
 }

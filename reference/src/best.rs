@@ -8,7 +8,7 @@ use crate::question::{Answer, Kind, BUFFER};
 use crate::trial::{file, run, Outcome};
 use crate::vans::Crews;
 
-/// The graph and the roots of a best-limit question, or its refusal: 11 to 16, 53, 54, 57 to 59, 21, 55, 23.
+/// The graph and the roots of a best-limit question, or its refusal: 11 to 16, 53, 54, 21, 55, 23.
 pub fn admit(
     kind: Kind,
     brought: Brought,
@@ -16,7 +16,7 @@ pub fn admit(
     room: usize,
 ) -> Result<(Graph, Vec<usize>), u16> {
     let graph = brought.graph()?;
-    let roots = brought.crews(kind, graph.stops(), k)?;
+    let roots = brought.crews(kind, graph.n, k)?;
     if room < BUFFER {
         return Err(23);
     }

@@ -3,7 +3,7 @@
 use crate::graph::{read, Graph};
 use crate::question::{tree_count, Kind};
 use crate::surface::{adjust, UNLISTED};
-use crate::{times, vans};
+use crate::vans;
 
 /// The bytes that a question goes by, right or wrong.
 #[derive(Clone, Copy, Debug, PartialEq, Eq)]
@@ -13,29 +13,22 @@ pub struct Brought<'a> {
     pub classes: Option<&'a [u8]>,
     /// The root of each tree of a rooted question. Without a list these are 0 to k - 1; an unrooted question leaves it unread.
     pub vans: Option<&'a [u8]>,
-    /// The time of each vertex. A list of no bytes is a list; without one every time is 0.
-    pub times: Option<&'a [u8]>,
 }
 
 impl<'a> Brought<'a> {
     /// A sheet with no list beside it.
     pub fn plain(sheet: &'a [u8]) -> Brought<'a> {
-        Brought { sheet, classes: None, vans: None, times: None }
+        Brought { sheet, classes: None, vans: None }
     }
 
-    /// The graph of the question, its weights adjusted by class and its times attached, or a refusal: 11 to 16, 53, 54, 57 to
-    /// 59.
+    /// The graph of the question, its weights adjusted by class, or a refusal: 11 to 16, 53, 54.
     pub fn graph(self) -> Result<Graph, u16> {
         let graph = read(self.sheet)?;
         let unlisted = vec![UNLISTED; graph.edges.len()];
-        let graph = adjust(&graph, self.classes.unwrap_or(&unlisted))?;
-        match self.times {
-            Some(list) => times::attach(&graph, &times::read(list, graph.n)?),
-            None => Ok(graph),
-        }
+        adjust(&graph, self.classes.unwrap_or(&unlisted))
     }
 
-    /// The root of each tree of a question for k trees on n vertices, copies not counted, or a refusal: 21, 55.
+    /// The root of each tree of a question for k trees on n vertices, or a refusal: 21, 55.
     ///
     /// Without roots only the number of trees counts.
     pub fn crews(self, kind: Kind, n: usize, k: u64) -> Result<Vec<usize>, u16> {

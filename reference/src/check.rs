@@ -4,7 +4,6 @@ use crate::brought::Brought;
 use crate::cover::{decode, gather, heaviest, Filed, Tree};
 use crate::graph::Graph;
 use crate::question::Kind;
-use crate::times;
 use crate::vans::Crews;
 
 /// Checks cover bytes against sheet bytes without lists.
@@ -15,14 +14,14 @@ pub fn check(kind: Kind, sheet: &[u8], k: u64, cover: &[u8]) -> Result<u64, u16>
 /// Checks cover bytes against what is brought: yes with the heaviest weight, otherwise a number.
 pub fn check_with(kind: Kind, brought: Brought, k: u64, cover: &[u8]) -> Result<u64, u16> {
     let graph = brought.graph()?;
-    let roots = brought.crews(kind, graph.stops(), k)?;
+    let roots = brought.crews(kind, graph.n, k)?;
     check_on(kind, &graph, roots, cover)
 }
 
 /// Checks cover bytes against a graph and the trees asked for: yes with the heaviest weight, or 31 to 35.
 pub fn check_on(kind: Kind, graph: &Graph, crews: impl Crews, cover: &[u8]) -> Result<u64, u16> {
     let filed = decode(cover)?;
-    if !starts_fit(kind, graph.stops(), &crews.roots(), &filed.starts) {
+    if !starts_fit(kind, graph.n, &crews.roots(), &filed.starts) {
         return Err(32);
     }
     if !entries_fit(graph, &filed) {
@@ -32,13 +31,13 @@ pub fn check_on(kind: Kind, graph: &Graph, crews: impl Crews, cover: &[u8]) -> R
     if !trees.iter().all(|tree| is_tree(graph, tree)) {
         return Err(34);
     }
-    if !covers_all(graph, &trees) || !times::are_each_in_one(graph, &trees) {
+    if !covers_all(graph, &trees) {
         return Err(35);
     }
     Ok(heaviest(graph, &trees))
 }
 
-/// Whether the number of trees and their starts follow the rule of the kind; copies are not below n.
+/// Whether the number of trees and their starts follow the rule of the kind.
 fn starts_fit(kind: Kind, n: usize, roots: &[usize], starts: &[usize]) -> bool {
     let by_kind = match kind {
         Kind::Rooted => starts == roots,
@@ -75,7 +74,7 @@ pub fn is_tree(graph: &Graph, tree: &Tree) -> bool {
     tree.edges.iter().all(|&e| used[e])
 }
 
-/// Whether every vertex, copies counted in, is covered by some tree.
+/// Whether every vertex is covered by some tree.
 fn covers_all(graph: &Graph, trees: &[Tree]) -> bool {
     let mut covered = vec![false; graph.n];
     for vertex in trees.iter().flat_map(|tree| tree.vertices(graph)) {

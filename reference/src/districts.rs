@@ -11,16 +11,14 @@
 //! whole         2 bytes: 1 if the reply is printed whole, 0 if the rules leave a choice in it
 //! sheet length  2 bytes
 //! cover length  2 bytes, 0 in all but 5 and 6
-//! lists         2 bytes, a bit for each list that may be brought beside the sheet: 1 classes, 2 vans, 4 times; every other bit
-//!               is 0
+//! lists         2 bytes, a bit for each list that may be brought beside the sheet: 1 classes, 2 vans; every other bit is 0
 //! class length  2 bytes, 0 where no list of classes is brought
 //! van length    2 bytes, 0 where no list of vans is brought
-//! time length   2 bytes, 0 where no list of times is brought
+//! kept free     2 bytes, 0: room for the length of one list more
 //! sheet         the graph's bytes, right or wrong
 //! cover         the bytes of the filed cover, right or wrong
 //! classes       the bytes of the list of classes, right or wrong
 //! vans          the bytes of the list of vans, right or wrong
-//! times         the bytes of the list of times, right or wrong
 //! ```
 //!
 //! A list of no bytes is not the same as no list: where the length of a list is 0, `lists` says which of the two is brought.
@@ -83,14 +81,12 @@ pub struct Record {
     pub classes: Option<Vec<u8>>,
     /// The list of vans, if one is brought.
     pub vans: Option<Vec<u8>>,
-    /// The list of times, if one is brought.
-    pub times: Option<Vec<u8>>,
 }
 
 impl Record {
     /// A question without lists.
     pub fn plain(asked: Asked, kind: Kind, k: usize, sheet: &[u8]) -> Record {
-        Record { asked, kind, k, sheet: sheet.to_vec(), classes: None, vans: None, times: None }
+        Record { asked, kind, k, sheet: sheet.to_vec(), classes: None, vans: None }
     }
 
     /// The same question with a list of classes.
@@ -103,20 +99,10 @@ impl Record {
         Record { vans: Some(vans.to_vec()), ..self }
     }
 
-    /// The same question with a list of times, as bytes.
-    pub fn with_times(self, times: &[u8]) -> Record {
-        Record { times: Some(times.to_vec()), ..self }
-    }
-
-    /// The lists that may be brought, each as far as it is.
-    fn lists(&self) -> [Option<&[u8]>; 3] {
-        [&self.classes, &self.vans, &self.times].map(Option::as_deref)
-    }
-
     /// What the question brings.
     pub fn brought(&self) -> Brought<'_> {
-        let [classes, vans, times] = self.lists();
-        Brought { sheet: &self.sheet, classes, vans, times }
+        let (classes, vans) = (self.classes.as_deref(), self.vans.as_deref());
+        Brought { sheet: &self.sheet, classes, vans }
     }
 
     /// The planner's answer, which is written to the buffer; nothing for a check.
@@ -156,7 +142,7 @@ impl Record {
             _ => return true,
         };
         let graph = self.brought().graph().expect("what is answered can be read");
-        let crews = self.brought().crews(self.kind, graph.stops(), self.k as u64);
+        let crews = self.brought().crews(self.kind, graph.n, self.k as u64);
         is_fixed(self.kind, &graph, crews.expect("what is answered has its roots"), limit)
     }
 }
@@ -180,10 +166,11 @@ pub fn encode(records: &[Record]) -> Vec<u8> {
         put_two(&mut out, usize::from(is_whole));
         put_two(&mut out, record.sheet.len());
         put_two(&mut out, cover.len());
-        let lists = record.lists();
-        let bits = lists.iter().zip([1, 2, 4]).filter(|(list, _)| list.is_some());
+        let lists = [record.classes.as_deref(), record.vans.as_deref()];
+        let bits = lists.iter().zip([1, 2]).filter(|(list, _)| list.is_some());
         put_two(&mut out, bits.map(|(_, bit)| bit).sum());
         lists.iter().for_each(|list| put_two(&mut out, list.map_or(0, <[u8]>::len)));
+        put_two(&mut out, 0);
         out.extend_from_slice(&record.sheet);
         out.extend_from_slice(cover);
         lists.iter().for_each(|list| out.extend_from_slice(list.unwrap_or(&[])));

@@ -11,14 +11,10 @@ pub struct Edge {
 }
 
 /// A graph: the vertices ("stops") are 0 to n - 1, the edges are numbered by their place.
-///
-/// Where a question brings times, the last vertices are copies of others, as many as `copies`, and each of as many last edges
-/// leads to one of them; `n` and `edges` count these in. No tree starts at a copy.
 #[derive(Clone, Debug, PartialEq, Eq)]
 pub struct Graph {
     pub n: usize,
     pub edges: Vec<Edge>,
-    pub copies: usize,
 }
 
 /// Reads a graph from sheet bytes, or refuses with 11 to 16.
@@ -37,7 +33,7 @@ pub fn read(sheet: &[u8]) -> Result<Graph, u16> {
         return Err(13);
     }
     let edges: Result<Vec<Edge>, u16> = (0..m).map(|e| read_edge(sheet, n, m, e)).collect();
-    Ok(Graph { n, edges: edges?, copies: 0 })
+    Ok(Graph { n, edges: edges? })
 }
 
 /// Reads one edge, or refuses it with 14, 15 or 16.
@@ -76,24 +72,13 @@ impl Graph {
     /// Makes a graph from a vertex count and edges (end, end, weight), unchecked.
     pub fn new(n: usize, edges: &[(usize, usize, u64)]) -> Graph {
         let edge = |&(a, b, weight): &(usize, usize, u64)| Edge { a, b, weight };
-        Graph { n, edges: edges.iter().map(edge).collect(), copies: 0 }
+        Graph { n, edges: edges.iter().map(edge).collect() }
     }
 
-    /// Writes the graph without its copies as sheet bytes.
+    /// Writes the graph as sheet bytes.
     pub fn to_sheet(&self) -> Vec<u8> {
-        let lines = self.edges[..self.lines()].iter();
-        let edges: Vec<_> = lines.map(|e| (e.a, e.b, e.weight)).collect();
-        sheet(self.stops(), &edges)
-    }
-
-    /// How many vertices are no copies.
-    pub fn stops(&self) -> usize {
-        self.n - self.copies
-    }
-
-    /// How many edges do not lead to a copy.
-    pub fn lines(&self) -> usize {
-        self.edges.len() - self.copies
+        let edges: Vec<_> = self.edges.iter().map(|e| (e.a, e.b, e.weight)).collect();
+        sheet(self.n, &edges)
     }
 
     /// The weight of a set of edges.

@@ -45,11 +45,9 @@ pub fn judge_all(records: &[Record], mut replies: &[u8]) -> Result<usize, Vec<St
         replies = rest;
         count += 1;
         if let Err(why) = judge_reply(record, &full) {
-            let Record { asked, kind, k, sheet, classes, vans, times } = record;
-            let [classes, vans, times] =
-                [classes, vans, times].map(|list| list.as_ref().map(Vec::len));
-            let lists = format!("{classes:?} class, {vans:?} van and {times:?} time");
-            let sizes = format!("{} sheet, {lists}", sheet.len());
+            let Record { asked, kind, k, sheet, classes, vans } = record;
+            let [classes, vans] = [classes, vans].map(|list| list.as_ref().map(Vec::len));
+            let sizes = format!("{} sheet, {classes:?} class and {vans:?} van", sheet.len());
             let question = format!("{asked:?}, {kind:?}, k {k}, {sizes} bytes");
             wrong.push(format!("record {number} ({question}): {why}"));
         }

@@ -1,6 +1,6 @@
 //! The records of the program `districts`: every row of document 01's list of small districts, made sheets of each kind, the
 //! deepest trees, the made trials and the made filings, those about weightless edges; behind them those that bring a list of
-//! classes, those that bring a list of vans, those with a number of trials, and last those that bring a list of times.
+//! classes, those that bring a list of vans, and last those with a number of trials.
 
 use crate::cover::{encode as cover_bytes, Tree};
 use crate::districts::{Asked, Record};
@@ -12,7 +12,6 @@ use crate::made_records::{deepest, full_size, BOTH};
 use crate::made_shapes::{any_weights, damaged_sheets, graph, Shape, Weights};
 use crate::made_shapes::{POSITIVE, SEARCHED, SHAPES};
 use crate::made_surfaces::surfaced;
-use crate::made_times::timed;
 use crate::made_trials::trials;
 use crate::made_vans::listed_vans;
 use crate::made_within::within;
@@ -46,7 +45,6 @@ pub fn records() -> Vec<Record> {
     all.extend(surfaced());
     all.extend(listed_vans());
     all.extend(within());
-    all.extend(timed());
     all
 }
 

@@ -51,7 +51,7 @@ pub fn for_each(record: &Record, trials: impl IntoIterator<Item = u64>) -> Vec<R
 fn whole(record: &Record) -> Option<u64> {
     let brought = record.brought();
     let graph = brought.graph().ok()?;
-    let roots = brought.crews(record.kind, graph.stops(), record.k as u64).ok()?;
+    let roots = brought.crews(record.kind, graph.n, record.k as u64).ok()?;
     stand(record.kind, &graph, &roots, *TRIALS.end()).map(|at| at.trials)
 }
 

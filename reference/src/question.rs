@@ -14,7 +14,7 @@ pub enum Kind {
 pub enum Answer {
     /// A cover was found at this limit and written; its heaviest tree has this weight.
     Cover { limit: u64, heaviest: u64 },
-    /// Too low: this is the lowest vertex joined to no root, or, without roots, the lowest copy that nothing joins.
+    /// Too low: this is the lowest vertex joined to no root.
     Stop(usize),
     /// Too low: this many parts were written, and this many roots are near any of them.
     Parts { parts: usize, roots: usize },

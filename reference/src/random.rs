@@ -56,6 +56,6 @@ impl Random {
             let b = (a + 1 + self.below(n - 1)) % n;
             Edge { a, b, weight: weight(self) as u64 }
         };
-        Graph { n, edges: (0..m).map(edge).collect(), copies: 0 }
+        Graph { n, edges: (0..m).map(edge).collect() }
     }
 }

@@ -2,7 +2,7 @@
 //! all of them; for small graphs only.
 //!
 //! Such a walk need not be that of a tree: it may cross any edge any number of times, or none at all, and then comes to the
-//! vertex where it stands. Each time is spent once, by a walk that comes to its vertex, and counted in that walk's length.
+//! vertex where it stands.
 
 use std::cmp::Reverse;
 use std::collections::{BTreeMap, BinaryHeap};
@@ -10,10 +10,9 @@ use std::collections::{BTreeMap, BinaryHeap};
 use crate::graph::Graph;
 use crate::optimum::{least_heaviest, Shape};
 use crate::question::Kind;
-use crate::times;
 use crate::vans::Crews;
 
-/// The closed walks from a start, without any time: each set of vertices that one of them comes to, as bits, with the least length of those
+/// The closed walks from a start: each set of vertices that one of them comes to, as bits, with the least length of those
 /// that come to just this set.
 ///
 /// Found by a search for shortest ways among pairs of the vertex where a walk stands and the set it has come to.
@@ -39,9 +38,8 @@ pub fn closed_walks(graph: &Graph, start: usize) -> Vec<Shape> {
 /// most as many walks from anywhere. Nothing where there are none.
 pub fn least_longest(kind: Kind, graph: &Graph, crews: impl Crews) -> Option<u64> {
     let roots = crews.roots();
-    let plain = times::detach(graph);
-    let from: Vec<Vec<Shape>> = (0..plain.n).map(|start| closed_walks(&plain, start)).collect();
-    least_heaviest(kind, &times::of(graph), roots.len(), |j| match kind {
+    let from: Vec<Vec<Shape>> = (0..graph.n).map(|start| closed_walks(graph, start)).collect();
+    least_heaviest(kind, graph.n, roots.len(), |j| match kind {
         Kind::Rooted => from[roots[j]].clone(),
         Kind::Unrooted => from.concat(),
     })

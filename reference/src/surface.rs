@@ -35,5 +35,5 @@ pub fn adjust(graph: &Graph, classes: &[u8]) -> Result<Graph, u16> {
     if edges.iter().any(|edge| edge.weight > MOST) {
         return Err(54);
     }
-    Ok(Graph { edges, ..*graph })
+    Ok(Graph { n: graph.n, edges })
 }

@@ -12,7 +12,7 @@ use crate::{rooted, unrooted};
 pub enum Outcome {
     /// Accepted: the trees of a cover.
     Cover(Vec<Tree>),
-    /// Too low: the lowest vertex joined to no root, or, without roots, the lowest copy that nothing joins.
+    /// Too low: the lowest vertex joined to no root.
     Stop(usize),
     /// Too low: some parts by smallest edge, and the number of roots near any of them.
     Parts { parts: Vec<Tree>, roots: usize },
@@ -28,7 +28,7 @@ pub fn run(kind: Kind, graph: &Graph, crews: impl Crews, limit: u64) -> Outcome 
     }
 }
 
-/// The graph and the roots of a trial, or its refusal: 11 to 16, 53, 54, 57 to 59, 21, 55, 22, 23.
+/// The graph and the roots of a trial, or its refusal: 11 to 16, 53, 54, 21, 55, 22, 23.
 pub fn admit(
     kind: Kind,
     brought: Brought,
@@ -37,7 +37,7 @@ pub fn admit(
     room: usize,
 ) -> Result<(Graph, Vec<usize>), u16> {
     let graph = brought.graph()?;
-    let roots = brought.crews(kind, graph.stops(), k)?;
+    let roots = brought.crews(kind, graph.n, k)?;
     if limit > LIMIT {
         return Err(22);
     }

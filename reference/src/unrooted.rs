@@ -5,16 +5,10 @@ use crate::forest::{tops, Forest};
 use crate::graph::Graph;
 use crate::question::Kind;
 use crate::split::{at_limit, Split};
-use crate::times;
 use crate::trial::Outcome;
 
 /// Runs an unrooted trial at a limit.
-///
-/// A copy that nothing joins cannot be a tree, however many trees there may be.
 pub fn run(graph: &Graph, k: usize, limit: u64) -> Outcome {
-    if let Some(copy) = times::lowest_above(graph, limit) {
-        return Outcome::Stop(copy);
-    }
     let (forest, split) = at_limit(Kind::Unrooted, graph, k, limit);
     let needed = needs(graph, &forest, limit);
     carry_out(graph, k, &forest, split, needed)

@@ -6,7 +6,6 @@ use crate::check::check_with;
 use crate::cover::{decode, gather, Tree};
 use crate::graph::Graph;
 use crate::question::Kind;
-use crate::times;
 
 /// The least length of the buffer lent for a walk, in bytes: 511 stops of two bytes.
 pub const WALK_BUFFER: usize = 1_022;
@@ -25,13 +24,12 @@ impl Walk {
     }
 }
 
-/// The closed walk of a tree, which comes to no copy.
+/// The closed walk of a tree.
 ///
 /// At every vertex the lowest edge of the tree not yet walked goes first. Where none is left, the edge by which the vertex
 /// was first reached is walked back. The start was reached by none: where none is left there, the walk ends.
 pub fn closed_walk(graph: &Graph, tree: &Tree) -> Walk {
-    let lines: Vec<usize> = tree.edges.iter().copied().filter(|&e| e < graph.lines()).collect();
-    let around = graph.around(&lines);
+    let around = graph.around(&tree.edges);
     let mut walked = vec![false; graph.edges.len()];
     let mut reached_by = vec![None; graph.n];
     let mut walk = Walk { stops: vec![tree.start], crossings: Vec::new() };
@@ -64,7 +62,7 @@ pub fn walk(
 }
 
 /// Writes the closed walk of one tree of a filed cover over the first bytes of the buffer, two bytes a stop, and gives
-/// its count of stops and its length, the times listed in the tree counted in; or the number of the check, 51 or 52, and nothing is written.
+/// its count of stops and its length; or the number of the check, 51 or 52, and nothing is written.
 pub fn walk_with(
     kind: Kind,
     brought: Brought,
@@ -83,5 +81,5 @@ pub fn walk_with(
     let mut bytes = Vec::new();
     walk.stops.iter().for_each(|&stop| put_two(&mut bytes, stop));
     buffer[..bytes.len()].copy_from_slice(&bytes);
-    Ok((walk.stops.len(), walk.length(&graph) + times::spent(&graph, tree)))
+    Ok((walk.stops.len(), walk.length(&graph)))
 }

@@ -17,8 +17,8 @@ pub const FILL: u8 = 0xa5;
 /// The question of a kind for k trees on what is brought.
 pub fn question(kind: Kind, k: usize, brought: Brought) -> Question {
     let number = if kind == Kind::Rooted { ROOTED } else { UNROOTED };
-    let Brought { sheet, classes, vans, times } = brought;
-    Question { kind: number, k, sheet, classes, vans, times }
+    let Brought { sheet, classes, vans } = brought;
+    Question { kind: number, k, sheet, classes, vans }
 }
 
 /// A question's number, values and buffer.

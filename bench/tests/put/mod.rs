@@ -1,4 +1,4 @@
-//! Questions with lists, put to the quick version and to `reference/`: trials, best limits, checks and walks.
+//! Questions with lists of vans, put to the quick version and to `reference/`: trials, best limits, checks and walks.
 
 use bench::planners::{linked, Planner};
 use bench::question::BUFFER;

@@ -1,7 +1,6 @@
 //! The bytes of a cover taken apart: t, q, t starts, q tree numbers, then q edge numbers, 2 bytes each, lowest byte first.
 
-/// A tree of a cover: the vertex where it starts, and its edges by rising number. With a list of times those behind the graph's
-/// edges are times that the tree serves ([`Question`](crate::Question)).
+/// A tree of a cover: the vertex where it starts, and its edges by rising number.
 #[derive(Clone, Debug, PartialEq, Eq)]
 pub struct Tree {
     pub start: usize,

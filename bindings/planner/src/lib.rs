@@ -11,13 +11,11 @@
 mod cover;
 pub mod exported;
 mod question;
-mod times;
 mod walk;
 mod within;
 
 pub use cover::{Cover, Tree};
 pub use question::Question;
-pub use times::{time_bytes, timed};
 pub use walk::{walk, Walk, WALK_BUFFER};
 pub use within::{within, Reached, Within, MOST_TRIALS};
 
@@ -41,8 +39,7 @@ pub enum Reply {
     /// A cover of so many trees stands at the buffer's front, where [`Cover::read`] reads it; its heaviest tree has this
     /// weight, at most four times the limit.
     Cover { limit: u64, heaviest: u64, trees: u64 },
-    /// Too low: this is the lowest vertex joined to no root. With a list of times it may be a copy, numbered behind the graph's
-    /// vertices ([`Question`]); unrooted it is one, the lowest whose time is above the limit.
+    /// Too low: this is the lowest vertex joined to no root.
     TooLowStop { vertex: u64 },
     /// Too low: so many parts stand at the buffer's front, and fewer roots are near any of them.
     TooLowParts { parts: u64, roots: u64 },

@@ -11,7 +11,6 @@ const BEST: u32 = 1;
 /// The bits of the lists among those of the lists brought.
 const CLASSES: u32 = 1;
 const VANS: u32 = 2;
-const TIMES: u32 = 4;
 
 /// A question for k trees of a kind on the bytes of a graph. Later versions add fields, so take those not named from
 /// [`Question::new`]:
@@ -45,32 +44,6 @@ const TIMES: u32 = 4;
 /// let edges: Vec<_> = Cover::read(&buffer).unwrap().trees.into_iter().map(|tree| tree.edges).collect();
 /// assert_eq!(edges, [vec![0], vec![]]);
 /// ```
-///
-/// A list of times has the time at each vertex, which falls on exactly one of the trees that cover the vertex and counts in its
-/// weight: it behaves as an edge of that weight to a copy of the vertex. The copies, one for each vertex with a time above 0, are
-/// numbered behind the graph's vertices, their edges behind the graph's edges, both in the order of [`timed`](crate::timed).
-/// [`Reply::TooLowStop`] may name a copy, and the tree that serves lists its edge. No tree starts at a copy, and with a time
-/// above 0 limit 0 is never accepted. Refused, behind 54 and before 21: 57 where the list is not of 4n bytes
-/// ([`time_bytes`](crate::time_bytes) makes them), 58 where a time is above 1,000,000, 59 where vertices and copies are above
-/// 256, or edges and copies above 2,048. 33 counts the edges of copies in, 35 is also for a time listed in no tree or in two. A
-/// walk comes to no copy and spends each time that its tree lists once:
-///
-/// ```
-/// use planner::{time_bytes, timed, Cover, Kind, Question, Reply, Walk, BUFFER};
-///
-/// // Two vertices and an edge of weight 3, a time of 4 at vertex 1: it has copy 2, and edge 1 leads there.
-/// let graph = [2, 0, 1, 0, 0, 0, 1, 0, 3, 0, 0, 0];
-/// let times = time_bytes(&[0, 4]);
-/// let question = Question { times: Some(&times), ..Question::new(Kind::Rooted, 1, &graph) };
-/// let mut buffer = [0; BUFFER];
-/// assert_eq!(question.trial(3, &mut buffer), Reply::TooLowStop { vertex: 2 });
-/// assert_eq!(timed(&times)[2 - 2], 1);
-/// assert_eq!(question.trial(8, &mut buffer), Reply::Cover { limit: 8, heaviest: 7, trees: 1 });
-/// let cover = &buffer[..Cover::length(&buffer).unwrap()];
-/// assert_eq!(Cover::read(cover).unwrap().trees[0].edges, [0, 1]);
-/// // Twice the edge and once the time.
-/// assert_eq!(question.walk(cover, 0, &mut [0; BUFFER]), Ok(Walk { stops: 3, length: 10 }));
-/// ```
 #[derive(Clone, Copy, Debug, PartialEq, Eq)]
 pub struct Question<'a> {
     pub kind: Kind,
@@ -81,14 +54,12 @@ pub struct Question<'a> {
     /// The vertex where each tree of a rooted question starts, 2 bytes each, lowest byte first; with no list tree j starts at
     /// vertex j. Beside an unrooted question it is not read.
     pub vans: Option<&'a [u8]>,
-    /// The time at each vertex, 4 bytes each, lowest byte first; with no list every time is 0.
-    pub times: Option<&'a [u8]>,
 }
 
 impl<'a> Question<'a> {
     /// A question without lists.
     pub fn new(kind: Kind, k: usize, graph: &'a [u8]) -> Question<'a> {
-        Question { kind, k, graph, classes: None, vans: None, times: None }
+        Question { kind, k, graph, classes: None, vans: None }
     }
 
     /// A [`trial`](crate::trial) at a limit.
@@ -103,7 +74,8 @@ impl<'a> Question<'a> {
 
     /// The [`check`](crate::check) of a filed cover.
     pub fn check(&self, cover: &[u8]) -> Result<u64, u32> {
-        let [classes, vans, times] = self.lists();
+        let classes = self.classes.unwrap_or_default();
+        let vans = self.vans.unwrap_or_default();
         let mut values = [0; 3];
         // SAFETY: as of `ask`; the slices are only read.
         let case = unsafe {
@@ -117,8 +89,6 @@ impl<'a> Question<'a> {
                 classes.len(),
                 vans.as_ptr(),
                 vans.len(),
-                times.as_ptr(),
-                times.len(),
                 cover.as_ptr(),
                 cover.len(),
                 values.as_mut_ptr(),
@@ -129,7 +99,8 @@ impl<'a> Question<'a> {
 
     /// The closed [`walk`](crate::walk) of one tree of a filed cover.
     pub fn walk(&self, cover: &[u8], tree: usize, buffer: &mut [u8]) -> Result<Walk, u32> {
-        let [classes, vans, times] = self.lists();
+        let classes = self.classes.unwrap_or_default();
+        let vans = self.vans.unwrap_or_default();
         let mut values = [0; 2];
         // SAFETY: as of `ask`, but that the values are two numbers.
         let case = unsafe {
@@ -143,8 +114,6 @@ impl<'a> Question<'a> {
                 classes.len(),
                 vans.as_ptr(),
                 vans.len(),
-                times.as_ptr(),
-                times.len(),
                 cover.as_ptr(),
                 cover.len(),
                 tree,
@@ -157,7 +126,8 @@ impl<'a> Question<'a> {
     }
 
     fn ask(&self, asked: u32, limit: u64, buffer: &mut [u8]) -> Reply {
-        let [classes, vans, times] = self.lists();
+        let classes = self.classes.unwrap_or_default();
+        let vans = self.vans.unwrap_or_default();
         let mut values = [0; 3];
         // SAFETY: the function asks nothing of the values; each pointer is to as much as its length says, that of the values
         // to three numbers, and what is written is apart from the rest, being borrowed mutably.
@@ -174,8 +144,6 @@ impl<'a> Question<'a> {
                 classes.len(),
                 vans.as_ptr(),
                 vans.len(),
-                times.as_ptr(),
-                times.len(),
                 values.as_mut_ptr(),
                 buffer.as_mut_ptr(),
                 buffer.len(),
@@ -187,11 +155,6 @@ impl<'a> Question<'a> {
     /// The bits of the lists that are there.
     pub(crate) fn brought(&self) -> u32 {
         let bit = |list: Option<&[u8]>, bit| if list.is_some() { bit } else { 0 };
-        bit(self.classes, CLASSES) | bit(self.vans, VANS) | bit(self.times, TIMES)
-    }
-
-    /// The bytes of every list; of one that is not there none.
-    pub(crate) fn lists(&self) -> [&'a [u8]; 3] {
-        [self.classes, self.vans, self.times].map(Option::unwrap_or_default)
+        bit(self.classes, CLASSES) | bit(self.vans, VANS)
     }
 }

@@ -9,9 +9,9 @@ pub const WALK_BUFFER: usize = 1_022;
 /// A walk that [`walk`] has written to a buffer's front.
 #[derive(Clone, Copy, Debug, PartialEq, Eq)]
 pub struct Walk {
-    /// How many stops it has, its start counted at both ends: 2q + 1 for a tree of q edges, times not counted, at most 511.
+    /// How many stops it has, its start counted at both ends: 2q + 1 for a tree of q edges, at most 511.
     pub stops: u64,
-    /// Twice the tree's weight; with a list of times twice its edges and once the times that it lists.
+    /// Twice the tree's weight.
     pub length: u64,
 }
 

@@ -68,7 +68,8 @@ pub fn within(kind: Kind, k: usize, trials: usize, graph: &[u8], buffer: &mut [u
 impl Question<'_> {
     /// The best limit's search [`within`] a number of trials.
     pub fn within(&self, trials: usize, buffer: &mut [u8]) -> Within {
-        let [classes, vans, times] = self.lists();
+        let classes = self.classes.unwrap_or_default();
+        let vans = self.vans.unwrap_or_default();
         let mut values = [0; 6];
         // SAFETY: the function asks nothing of the values; each pointer is to as much as its length says, that of the values
         // to six numbers, and what is written is apart from the rest, being borrowed mutably.
@@ -84,8 +85,6 @@ impl Question<'_> {
                 classes.len(),
                 vans.as_ptr(),
                 vans.len(),
-                times.as_ptr(),
-                times.len(),
                 values.as_mut_ptr(),
                 buffer.as_mut_ptr(),
                 buffer.len(),

@@ -79,10 +79,8 @@ fn limit_zero_is_accepted_exactly_where_weightless_edges_join() {
             let due = is_joined(kind, n, &edges, k);
             let tried = Asked::Trial { limit: 0, room: BUFFER };
             for asked in [tried, Asked::Best { room: BUFFER }] {
-                let got = answered(
-                    &mut random,
-                    &Question { classes, ..Question::plain(asked, kind, k, sheet) },
-                );
+                let got =
+                    answered(&mut random, &Question { asked, kind, k, sheet, classes, vans: None });
                 let (limit, heaviest) = (got.values.1[0], got.values.1[1]);
                 assert_eq!(got.case == 0 && limit == 0, due, "kind {kind} k {k} {n} {edges:?}");
                 assert!(!due || heaviest == 0, "kind {kind} k {k} {n} {edges:?}");
@@ -110,7 +108,7 @@ fn no_weight_is_refused_for_being_zero() {
                     Asked::Check { cover },
                     Asked::Walk { cover, tree: 0, room: WALK_BUFFER },
                 ] {
-                    let question = Question::plain(asked, kind, 1, sheet);
+                    let question = Question { asked, kind, k: 1, sheet, classes: None, vans: None };
                     assert_eq!(judged(&mut random, &question), due, "weight {weight} {asked:?}");
                 }
             }
@@ -129,7 +127,7 @@ fn the_largest_sheet_of_weightless_edges() {
     let looped = encode(&[Tree::new(0, (0..256).collect())]);
     for kind in [0, 1] {
         let mut put = |asked| {
-            let question = Question::plain(asked, kind, 1, sheet);
+            let question = Question { asked, kind, k: 1, sheet, classes: None, vans: None };
             let got = answered(&mut random, &question);
             (got.case, got.values.1, got.buffer.1)
         };

@@ -6,7 +6,6 @@ mod common;
 use common::call::{call, Asked, Question, Through};
 use common::judged::judged;
 use planner::{best, check, trial, Kind, Reply, BUFFER};
-use reference::brought::Brought;
 use reference::graph::sheet;
 use reference::made_districts::records;
 use reference::made_filings::along_a_path;
@@ -29,7 +28,7 @@ fn every_record_is_answered_as_the_reference_allows() {
     let mut random = Random::new(3);
     let mut met = [0; 64];
     for record in
-        records().iter().filter(|record| record.brought() == Brought::plain(&record.sheet))
+        records().iter().filter(|record| record.classes.is_none() && record.vans.is_none())
     {
         let question = Question::of(record);
         let asked = with_more_room(&mut random, question.asked);
@@ -46,7 +45,9 @@ fn numbers_past_every_range_are_refused() {
     let mut random = Random::new(6);
     let n = sheet(4, &[(0, 2, 3), (2, 3, 3), (1, 3, 5)]);
     for kind in [0, 1] {
-        let mut said = |k, asked| judged(&mut random, &Question::plain(asked, kind, k, &n));
+        let mut said = |k, asked| {
+            judged(&mut random, &Question { asked, kind, k, sheet: &n, classes: None, vans: None })
+        };
         for k in [0, 33, 65_536 + 2, (1 << 32) + 2, usize::MAX] {
             assert_eq!(said(k, Asked::Trial { limit: 4, room: BUFFER }), 21);
             assert_eq!(said(k, Asked::Best { room: BUFFER }), 21);
@@ -74,7 +75,7 @@ fn every_other_kind_is_unrooted() {
     let cover = [1, 0, 3, 0, 3, 0, 0, 0, 0, 0, 0, 0, 0, 0, 1, 0, 2, 0];
     for kind in [1, 2, 3, 256, 1 << 16, u32::MAX] {
         let mut said = |k, asked| {
-            let question = Question::plain(asked, kind, k, &n);
+            let question = Question { asked, kind, k, sheet: &n, classes: None, vans: None };
             judged(&mut random, &question);
             let got = call(7, &question, Through::Plain);
             (got.case, got.values.1)
@@ -90,7 +91,7 @@ fn every_other_kind_is_unrooted() {
         assert_eq!((number, values[0]), (0, 11), "kind {kind}");
     }
     let asked = Asked::Check { cover: &cover };
-    let rooted = Question::plain(asked, 0, 1, &n);
+    let rooted = Question { asked, kind: 0, k: 1, sheet: &n, classes: None, vans: None };
     assert_eq!(judged(&mut random, &rooted), 32);
 }
 
@@ -103,7 +104,10 @@ fn a_vertex_left_out_is_found_at_every_place() {
             let filing = along_a_path(n, left_out);
             let (asked, sheet) = (Asked::Check { cover: &filing.cover }, &filing.sheet[..]);
             let kind = filing.kind as u32;
-            judged(&mut random, &Question::plain(asked, kind, filing.k, sheet))
+            judged(
+                &mut random,
+                &Question { asked, kind, k: filing.k, sheet, classes: None, vans: None },
+            )
         };
         assert_eq!(said(None), 0, "n {n}");
         // The one vertex of n 1 is the start of every tree.

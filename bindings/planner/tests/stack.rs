@@ -1,9 +1,5 @@
 //! The stack that the documentation names is enough, with lists and without. Where it is not, the run of these tests ends in a
-//! fault. What takes up to 4 KiB is given 32, and up to 12 is given 40: a thread has some of its own to keep there. Questions
-//! with times are in `stack/times.rs`.
-
-#[path = "stack/times.rs"]
-mod times;
+//! fault. What takes up to 4 KiB is given 32, and up to 12 is given 40: a thread has some of its own to keep there.
 
 use planner::{
     best, check, trial, walk, within, Cover, Kind, Question, Reached, Reply, Walk, Within,

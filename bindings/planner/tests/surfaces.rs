@@ -7,7 +7,7 @@ mod sheets;
 
 use std::ops::RangeInclusive;
 
-use common::call::{call, Asked, Question, Through, TIMES, VANS};
+use common::call::{call, Asked, Question, Through, VANS};
 use common::judged::judged;
 use planner::{check, Kind, BUFFER, WALK_BUFFER};
 use reference::bytes::two;
@@ -77,7 +77,7 @@ fn the_weight_used_of_every_class() {
                 (&sheet(2, &[(0, 1, weight)]), &[class], used(weight, class));
             for asked in all_of(used, &cover) {
                 let question =
-                    Question { classes: Some(classes), ..Question::plain(asked, kind, 1, sheet) };
+                    Question { asked, kind, k: 1, sheet, classes: Some(classes), vans: None };
                 let got = call(weight, &question, question.general());
                 let (place, value) = match asked {
                     Asked::Trial { .. } | Asked::Best { .. } | Asked::Within { .. } => (1, used),
@@ -116,7 +116,7 @@ fn the_highest_weights() {
                 let edge = |e| (0, 1, if e == place { weight } else { 1_000_000 });
                 let sheet = &sheet(2, &(0..m).map(edge).collect::<Vec<_>>());
                 let question =
-                    Question { classes: Some(&list), ..Question::plain(asked, kind, 1, sheet) };
+                    Question { asked, kind, k: 1, sheet, classes: Some(&list), vans: None };
                 let got = call(22, &question, question.general());
                 assert_eq!(judged(&mut random, &question), got.case);
                 (got.case, got.values.1[0])
@@ -145,7 +145,7 @@ fn lists_of_other_lengths() {
             let mut said = |classes: Option<&[u8]>| {
                 judged(
                     &mut random,
-                    &Question { classes, ..Question::plain(asked, kind, 2, &sheet) },
+                    &Question { asked, kind, k: 2, sheet: &sheet, classes, vans: None },
                 )
             };
             assert_eq!(said(None), 0, "m {m}");
@@ -183,7 +183,7 @@ fn numbers_in_their_order() {
     for kind in [0, 1] {
         let mut put = |weights, classes, k, asked| {
             let (sheet, classes) = (&sheet_n(weights), Some(classes));
-            judged(&mut random, &Question { classes, ..Question::plain(asked, kind, k, sheet) })
+            judged(&mut random, &Question { asked, kind, k, sheet, classes, vans: None })
         };
         for (weights, classes, number) in before_the_cover {
             let mut said = |asked| put(weights, classes, 33, asked);
@@ -209,17 +209,16 @@ fn numbers_in_their_order() {
     }
 }
 
-/// The first bit alone says whether class bytes are brought, whatever is said of vans and times, here wrong ones that are not
-/// brought, or the roots that no list means and zeros. Lines 0 and 1 of sheet N weigh 3 each, or 6 in class 40.
+/// The first bit alone says whether class bytes are brought, whatever is said of vans, here wrong ones that are not brought or
+/// the roots that no list means. Lines 0 and 1 of sheet N weigh 3 each, or 6 in class 40.
 #[test]
 fn the_bits_of_the_lists() {
     let (sheet, cover) = (sheet_n([3, 3, 5]), two_trees(0, &[0, 1], &[]));
     let asked = Asked::Check { cover: &cover };
-    let question = Question::plain(asked, 0, 2, &sheet);
+    let question = Question { asked, kind: 0, k: 2, sheet: &sheet, classes: None, vans: None };
     let said = |brought, classes| {
         let vans = if brought & VANS == 0 { &[255; 3][..] } else { &[0, 0, 1, 0] };
-        let times = if brought & TIMES == 0 { &[255; 3][..] } else { &[0; 16] };
-        let got = call(25, &question, Through::General { brought, classes, vans, times });
+        let got = call(25, &question, Through::General { brought, classes, vans });
         (got.case, (got.case == 0).then_some(got.values.1[0]))
     };
     for brought in [0, 2, 4, 6, 252, 254, 256, 1 << 16, 1 << 31, !3, !1] {
@@ -252,7 +251,7 @@ fn as_with_the_weights_used_in_the_sheet() {
         for kind in [0, 1] {
             let same = |asked| {
                 let with =
-                    Question { classes: Some(&classes), ..Question::plain(asked, kind, k, &given) };
+                    Question { asked, kind, k, sheet: &given, classes: Some(&classes), vans: None };
                 let without = Question { sheet: &used, classes: None, ..with };
                 let got = call(turn, &with, with.general());
                 assert!(got == call(turn, &without, Through::Plain), "{with:?}");

@@ -26,7 +26,7 @@ use sheets::{all_of, written};
 
 /// A rooted question with vans and no classes.
 fn manned<'a>(asked: Asked<'a>, k: usize, sheet: &'a [u8], vans: &'a [u8]) -> Question<'a> {
-    Question { vans: Some(vans), ..Question::plain(asked, 0, k, sheet) }
+    Question { asked, kind: 0, k, sheet, classes: None, vans: Some(vans) }
 }
 
 /// Where a trial or a best limit is answered with a cover, the check says yes to it and each of its trees has a walk; the

@@ -6,7 +6,6 @@ mod common;
 use common::call::{call, Asked, Question, Through};
 use common::judged::judged;
 use planner::{best, walk, Cover, Kind, Reply, Walk, BUFFER, WALK_BUFFER};
-use reference::brought::Brought;
 use reference::bytes::two;
 use reference::cover::{encode, filed_length, Tree};
 use reference::districts::{Asked as Recorded, Record};
@@ -51,7 +50,7 @@ fn every_tree_of_every_record_is_walked_as_by_the_reference() {
     let mut random = Random::new(13);
     let mut met = [0; 64];
     for record in
-        records().iter().filter(|record| record.brought() == Brought::plain(&record.sheet))
+        records().iter().filter(|record| record.classes.is_none() && record.vans.is_none())
     {
         if let Some(cover) = cover_of(record) {
             judge_trees(&mut random, Question::of(record), &cover, &mut met);
@@ -72,7 +71,8 @@ fn the_longest_walks() {
         for start in 0..256 {
             let cover = encode(&[Tree::new(start, (0..255).collect())]);
             let asked = Asked::Walk { cover: &cover, tree: 0, room: WALK_BUFFER + start };
-            let question = Question::plain(asked, 1, 1, &sheet);
+            let question =
+                Question { asked, kind: 1, k: 1, sheet: &sheet, classes: None, vans: None };
             assert_eq!(judged(&mut random, &question), 0);
             let got = call(14, &question, Through::Plain);
             assert_eq!(got.values.1, [511, 510_000_000]);
@@ -99,7 +99,7 @@ fn the_walks_of_sheet_n() {
     for kind in [0, 1] {
         let mut said = |k, tree, room| {
             let asked = Asked::Walk { cover: &cover, tree, room };
-            judged(&mut random, &Question::plain(asked, kind, k, &n))
+            judged(&mut random, &Question { asked, kind, k, sheet: &n, classes: None, vans: None })
         };
         for tree in [2, 256, 65_536, 65_537, 1 << 32, (1 << 32) + 1, usize::MAX] {
             assert_eq!((said(2, tree, 1_022), said(2, tree, 0)), (51, 51));
@@ -117,7 +117,7 @@ fn every_other_kind_is_unrooted() {
     let n = sheet(4, &[(0, 2, 3), (2, 3, 3), (1, 3, 5)]);
     let cover = encode(&[Tree::new(3, vec![0, 1, 2])]);
     let asked = Asked::Walk { cover: &cover, tree: 0, room: 1_022 };
-    let question = Question::plain(asked, 0, 1, &n);
+    let question = Question { asked, kind: 0, k: 1, sheet: &n, classes: None, vans: None };
     assert_eq!(judged(&mut random, &question), 32);
     for kind in [1, 2, 3, 256, 1 << 16, u32::MAX] {
         let question = Question { kind, ..question };

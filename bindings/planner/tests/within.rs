@@ -22,7 +22,7 @@ use sheets::{all_of, sheet_n, written};
 /// A question with a number of trials and room enough, without lists.
 fn plain(kind: u32, k: usize, trials: usize, sheet: &[u8]) -> Question<'_> {
     let asked = Asked::Within { trials, room: BUFFER };
-    Question::plain(asked, kind, k, sheet)
+    Question { asked, kind, k, sheet, classes: None, vans: None }
 }
 
 /// The same question with another number of trials.

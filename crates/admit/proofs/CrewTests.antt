@@ -20,8 +20,7 @@ use Rattle.graph.proofs.Faults.{one_fault}
 use Rattle.rules.specs.Questions.{yards, roots_by, too_many_roots, crew_fault, van_fault}
 use Rattle.admit.specs.declared.crews.Kind.{Kind}
 use Rattle.admit.specs.declared.crews.Kind.TheVariants.{Rooted, Unrooted}
-use Rattle.admit.specs.declared.refusal.Refusal.TheVariants.{Listed, Crews}
-use Rattle.admit.specs.declared.refusal.ListCause.TheVariants.{Vans}
+use Rattle.admit.specs.declared.refusal.Refusal.TheVariants.{Crews, Vans}
 use Rattle.admit.specs.Brought.{brought}
 use Rattle.admit.specs.Refusals.{number_of}
 use Rattle.admit.specs.Crews.{kind_of, CrewsTested, VansTested}
@@ -73,7 +72,7 @@ module _ (k n : ℕ) {given : Bool} (h : 1 ≤ k) (l : k ≤ 32) where
 
 -- The list of vans: its length, and each of its vertices.
 module _ (k n : ℕ) (vans : List ℕ) where
-  refused_vans : van_fault yards k (some vans) n ≡ some (number_of (Listed Vans)) → VansTested k vans n false
+  refused_vans : van_fault yards k (some vans) n ≡ some (number_of Vans) → VansTested k vans n false
   refused_vans q = record { right = λ t. absurd (false≢true t); wrong = λ t. q }
 
   pub other_length : (length vans ≡ 2 * k → ⊥) → VansTested k vans n false

@@ -5,13 +5,7 @@ pub mod Listed
 pub mod Roots
 -- the tests of the crews' number and of the list of their roots
 pub mod CrewTests
--- the copies that a list of times makes, vertex by vertex
-pub mod Copies
--- the tests of the list of times
-pub mod TimeTests
 -- what each test of a question makes of what is refused
 pub mod Tested
--- a question that is not refused is about the graph that its bytes and copies spell
-pub mod Spelt
 -- the number of every cause is at least 11
 pub mod RefusalNumbers

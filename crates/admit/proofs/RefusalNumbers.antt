@@ -3,9 +3,8 @@
 use Prim.Native.Nat.{◌≤◌}
 use native.Mathlib.Omega.{arith}
 use Rattle.graph_check.specs.declared.Cause.TheVariants as cause
-use Rattle.admit.specs.declared.refusal.ListCause.TheVariants as list
 use Rattle.admit.specs.declared.refusal.Refusal.{Refusal}
-use Rattle.admit.specs.declared.refusal.Refusal.TheVariants.{Sheet, Listed, Crews, Limit, Room, Trials, Length, Starts, Entries, Trees, Vertices, TreeNumber, WalkRoom}
+use Rattle.admit.specs.declared.refusal.Refusal.TheVariants.{Sheet, Classes, Adjusted, Crews, Vans, Limit, Room, Trials, Length, Starts, Entries, Trees, Vertices, TreeNumber, WalkRoom}
 use Rattle.admit.specs.Refusals.{number_of}
 
 pub numbers_begin : (f : Refusal) → 11 ≤ number_of f
@@ -15,13 +14,10 @@ numbers_begin (Sheet cause.Edges) = omega arith
 numbers_begin (Sheet cause.End) = omega arith
 numbers_begin (Sheet cause.Loop) = omega arith
 numbers_begin (Sheet cause.Weight) = omega arith
-numbers_begin (Listed list.Classes) = omega arith
-numbers_begin (Listed list.Adjusted) = omega arith
-numbers_begin (Listed list.Times) = omega arith
-numbers_begin (Listed list.Large) = omega arith
-numbers_begin (Listed list.Copies) = omega arith
-numbers_begin (Listed list.Vans) = omega arith
+numbers_begin Classes = omega arith
+numbers_begin Adjusted = omega arith
 numbers_begin Crews = omega arith
+numbers_begin Vans = omega arith
 numbers_begin Limit = omega arith
 numbers_begin Room = omega arith
 numbers_begin Trials = omega arith

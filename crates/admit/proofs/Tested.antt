@@ -6,17 +6,15 @@ use mathlib.Core.List.{List, [], ◌∷◌}
 use mathlib.Core.Option.{Option, some, none}
 use lib.ListN.{length}
 use borrow.Author.Tests.{eq-eqb, ne_eqb}
-use Rattle.graph.specs.Graph.{Graph, edge_count}
-use Rattle.graph.specs.Bytes.{sheet_graph, surfaced_graph}
+use Rattle.graph.specs.Graph.{edge_count}
+use Rattle.graph.specs.Bytes.{sheet_graph, graph_of}
 use Rattle.graph.specs.Fault.{Fault, fault_unless, first_fault}
 use Rattle.graph.specs.Valid.{Valid}
-use Rattle.graph.specs.View.{CountsOf}
 use Rattle.graph.proofs.Faults.{one_fault}
-use Rattle.graph.proofs.Surfaced.{vertices_sheet, edge_count_sheet, plain_graph}
-use Rattle.graph.proofs.Timed.{starts_timed}
+use Rattle.graph.proofs.Surfaced.{vertices_sheet, plain_graph}
 use Rattle.graph_check.specs.Check as sheet
 use Rattle.graph_check.proofs.Exactly.{yes_graph}
-use Rattle.rules.specs.Questions.{Question, listed, graph_in, number_in, sheet_fault, class_fault, adjusted_fault, surface_fault, copies_by, time_fault, crew_fault, van_fault, question_fault}
+use Rattle.rules.specs.Questions.{Question, listed, graph_in, number_in, sheet_fault, class_fault, adjusted_fault, surface_fault, crew_fault, van_fault, question_fault}
 use Rattle.rules.proofs.Surfaces.{each_light}
 
 -- The class list beside a sheet: without one nothing is refused of a sheet that passed its check;
@@ -31,7 +29,7 @@ module _ (sheet : List ℕ) {given : Option (List ℕ)} where
     unfolding surface_fault class_fault fault_unless first_fault
     count_refused d = rw (e, ne_eqb (length classes) (edge_count (sheet_graph sheet)) d)
 
-    pub weights_decide : length classes ≡ edge_count (sheet_graph sheet) → {f : Fault} → adjusted_fault (surfaced_graph sheet classes) ≡ f → f ≡ surface_fault sheet given
+    pub weights_decide : length classes ≡ edge_count (sheet_graph sheet) → {f : Fault} → adjusted_fault (graph_of sheet classes) ≡ f → f ≡ surface_fault sheet given
     unfolding surface_fault class_fault fault_unless first_fault
     weights_decide l {f} p = sym (one_fault f) ∙ rw (e, eq-eqb (length classes) (edge_count (sheet_graph sheet)) l, p)
 
@@ -42,39 +40,24 @@ module _ (q : Question) where
   unfolding question_fault sheet_fault number_in first_fault
   sheet_refused e = rw e
 
-  -- The graph without copies.
-  abbrev pub surfaced_in : Graph
-  surfaced_in = surfaced_graph q.sheet (listed q.classes)
-
   -- What is refused of the crews, on n vertices.
   abbrev crew_faults : ℕ → List Fault
   crew_faults n = crew_fault q.kind q.k q.vans n ∷ van_fault q.kind q.k q.vans n ∷ []
 
   module _ {n m : ℕ} (passed : sheet.check_of q.sheet ≡ sheet.yes n m) where
-    pub passed_counts : CountsOf surfaced_in n m
-    passed_counts =
-        let is = yes_graph q.sheet passed in
-        record {
-          vertices_are = is.vertices_are ∙ sym (vertices_sheet q.sheet (listed q.classes));
-          edges_are = is.edges_are ∙ sym (edge_count_sheet q.sheet (listed q.classes));
-        }
-
     -- then the class list, 53 and 54,
-    pub classes_refused : {number : ℕ} → some number ≡ surface_fault q.sheet q.classes → some number ≡ question_fault q
+    lists_decide : {f : Fault} → f ≡ surface_fault q.sheet q.classes → first_fault (f ∷ crew_faults (graph_in q).vertices) ≡ question_fault q
     unfolding question_fault sheet_fault number_in first_fault
-    classes_refused e = rw (passed, ← e)
+    lists_decide e = rw (passed, ← e)
 
-    module _ (surfaces : none ≡ surface_fault q.sheet q.classes) where
-      -- then the list of times, 57 to 59,
-      times_decide : {f : Fault} → f ≡ time_fault surfaced_in q.times → first_fault (f ∷ crew_faults (graph_in q).starts) ≡ question_fault q
-      unfolding question_fault sheet_fault number_in first_fault
-      times_decide e = rw (passed, ← surfaces, ← e)
+    pub lists_refused : {number : ℕ} → some number ≡ surface_fault q.sheet q.classes → some number ≡ question_fault q
+    unfolding first_fault
+    lists_refused e = lists_decide e
 
-      pub times_refused : {number : ℕ} → some number ≡ time_fault surfaced_in q.times → some number ≡ question_fault q
-      unfolding first_fault
-      times_refused e = times_decide e
-
-      -- then the crews, 21 and 55, on the vertices of the sheet.
-      pub crews_decide : {f : Fault} → none ≡ time_fault surfaced_in q.times → f ≡ first_fault (crew_faults n) → f ≡ question_fault q
-      unfolding first_fault
-      crews_decide {f} p e = rw (e, passed_counts.vertices_are ∙ sym (starts_timed surfaced_in (copies_by surfaced_in.vertices q.times))) (times_decide p)
+    -- then the crews, 21 and 55.
+    pub crews_decide : {f : Fault} → none ≡ surface_fault q.sheet q.classes → f ≡ first_fault (crew_faults n) → f ≡ question_fault q
+    unfolding first_fault
+    crews_decide {f} p e = rw (e, passed_vertices) (lists_decide p)
+      where
+        passed_vertices : n ≡ (graph_in q).vertices
+        passed_vertices = (yes_graph q.sheet passed).vertices_are ∙ sym (vertices_sheet q.sheet (listed q.classes))

@@ -8,8 +8,7 @@ use Rattle.rules.specs.Questions as rules
 use Rattle.rules.specs.Questions.{crew_fault, van_fault}
 use Rattle.admit.specs.declared.crews.Kind.{Kind}
 use Rattle.admit.specs.declared.crews.Kind.TheVariants.{Rooted, Unrooted}
-use Rattle.admit.specs.declared.refusal.Refusal.TheVariants.{Listed, Crews}
-use Rattle.admit.specs.declared.refusal.ListCause.TheVariants.{Vans}
+use Rattle.admit.specs.declared.refusal.Refusal.TheVariants.{Crews, Vans}
 use Rattle.admit.specs.declared.brought.Lists.{Lists}
 use Rattle.admit.specs.Refusals.{number_of}
 use Rattle.admit.specs.Brought.{brought}
@@ -23,16 +22,9 @@ kind_of Unrooted = rules.roving
 abbrev pub asks : Kind → ℕ → List ℕ → rules.Question
 asks kind k b = rules.question (kind_of kind) k b
 
-abbrev pub asks_with : Kind → ℕ → List ℕ → Lists → List ℕ → List ℕ → List ℕ → rules.Question
-asks_with kind k b lists classes vans times =
-    record {
-      kind = kind_of kind;
-      k = k;
-      sheet = b;
-      classes = brought lists.classes classes;
-      vans = brought lists.vans vans;
-      times = brought lists.times times;
-    }
+abbrev pub asks_with : Kind → ℕ → List ℕ → Lists → List ℕ → List ℕ → rules.Question
+asks_with kind k b lists classes vans =
+    record { kind = kind_of kind; k = k; sheet = b; classes = brought lists.classes classes; vans = brought lists.vans vans }
 
 abbrev pub crews_of : Kind → ℕ → Option (List ℕ) → cover.Crews
 crews_of kind k vans = rules.crews_by (kind_of kind) k vans
@@ -45,7 +37,7 @@ pub record CrewsTested (kind : Kind) (k n : ℕ) (given r : Bool) : Type 0 where
 -- r says whether a list of vans is not refused.
 pub record VansTested (k : ℕ) (vans : List ℕ) (n : ℕ) (r : Bool) : Type 0 where
   pub right : r ≡ true → van_fault rules.yards k (some vans) n ≡ none
-  pub wrong : r ≡ false → van_fault rules.yards k (some vans) n ≡ some (number_of (Listed Vans))
+  pub wrong : r ≡ false → van_fault rules.yards k (some vans) n ≡ some (number_of Vans)
 
 -- The vertex where crew j starts: one of `roots_by`, where there are so many.
 abbrev pub root_at : Option (List ℕ) → ℕ → ℕ

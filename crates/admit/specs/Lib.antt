@@ -3,7 +3,5 @@
 pub mod Refusals
 -- the lists that the code's values bring
 pub mod Brought
--- the list of times, and its copies
-pub mod Times
 -- the question that the code's values ask, and its crews
 pub mod Crews

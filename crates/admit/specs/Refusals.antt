@@ -4,25 +4,17 @@ use Rattle.std.specs.Prelude.{ℕ}
 use Rattle.std.proofs.Math.Option.{some, none}
 use Rattle.graph.specs.Fault.{Fault}
 use Rattle.graph_check.specs.Check as sheet
-use Rattle.admit.specs.declared.refusal.ListCause.{ListCause}
-use Rattle.admit.specs.declared.refusal.ListCause.TheVariants as list
 use Rattle.admit.specs.declared.refusal.Refusal.{Refusal}
-use Rattle.admit.specs.declared.refusal.Refusal.TheVariants.{Sheet, Listed, Crews, Limit, Room, Trials, Length, Starts, Entries, Trees, Vertices, TreeNumber, WalkRoom}
+use Rattle.admit.specs.declared.refusal.Refusal.TheVariants.{Sheet, Classes, Adjusted, Crews, Vans, Limit, Room, Trials, Length, Starts, Entries, Trees, Vertices, TreeNumber, WalkRoom}
 use Rattle.admit.specs.declared.Admitted.{Admitted}
 use Rattle.admit.specs.declared.Admitted.TheVariants.{Refused, Fits}
 
-abbrev pub list_number_of : ListCause → ℕ
-list_number_of list.Classes = 53
-list_number_of list.Adjusted = 54
-list_number_of list.Times = 57
-list_number_of list.Large = 58
-list_number_of list.Copies = 59
-list_number_of list.Vans = 55
-
 abbrev pub number_of : Refusal → ℕ
 number_of (Sheet f) = sheet.number_of f
-number_of (Listed f) = list_number_of f
+number_of Classes = 53
+number_of Adjusted = 54
 number_of Crews = 21
+number_of Vans = 55
 number_of Limit = 22
 number_of Room = 23
 number_of Trials = 56

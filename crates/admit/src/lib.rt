@@ -1,12 +1,11 @@
 // What every question about a graph brings, and whether it is admitted: the graph's bytes (11 to 16), the class list
-// beside them (53, 54), the list of times (57 to 59), then the crews (21) and the list of their roots (55). Every
-// question is tested here first, and refused by the same cause and number.
+// beside them (53, 54), then the crews (21) and the list of their roots (55). Every question is tested here first, and refused by the same cause and
+// number.
 // The words of the contracts stand in specs/ and in the definitions of the crate `rules`: `question_fault` is what is
 // refused.
 pub mod brought;
 pub mod crews;
 pub mod refusal;
-pub mod times;
 pub mod vans;
 
 ghost use Rattle.std.specs.Prelude.{◌≡◌, [], ◌∷◌};
@@ -19,7 +18,6 @@ ghost use Rattle.admit.specs.Refusals.{fault_in};
 use crate::brought::{Lists, admit_classes};
 use crate::crews::{Kind, crews_right};
 use crate::refusal::Refusal;
-use crate::times::admit_times;
 use crate::vans::admit_vans;
 use graph_check::Checked;
 
@@ -43,26 +41,15 @@ fn admit_crews(kind: Kind, k: usize, n: usize, lists: Lists, vans: &[u8]) -> Adm
 }
 
 // Tests what every question brings, in document 01's order.
-pub fn admit(
-    kind: Kind,
-    k: usize,
-    b: &[u8],
-    lists: Lists,
-    classes: &[u8],
-    vans: &[u8],
-    times: &[u8],
-) -> Admitted
+pub fn admit(kind: Kind, k: usize, b: &[u8], lists: Lists, classes: &[u8], vans: &[u8]) -> Admitted
     ensures { fault_in result ≡ question_fault (asks_with kind k b.now lists classes.now
-        vans.now times.now) }
+        vans.now) }
 {
     match graph_check::check_graph(b) {
         Checked::Refused(f) => Admitted::Refused(Refusal::Sheet(f)),
-        Checked::Counts(n, m) => match admit_classes(b, lists, classes) {
+        Checked::Counts(n, _) => match admit_classes(b, lists, classes) {
             Admitted::Refused(f) => Admitted::Refused(f),
-            Admitted::Fits => match admit_times(n, m, lists, times) {
-                Admitted::Refused(f) => Admitted::Refused(f),
-                Admitted::Fits => admit_crews(kind, k, n, lists, vans),
-            },
+            Admitted::Fits => admit_crews(kind, k, n, lists, vans),
         },
     }
 }

@@ -1,6 +1,6 @@
 // Every cause of a refusal (document 01, "Who causes which number", and document 02), and its number, here alone.
 ghost use Rattle.std.specs.Prelude.{◌≡◌};
-ghost use Rattle.admit.specs.Refusals.{list_number_of, number_of};
+ghost use Rattle.admit.specs.Refusals.{number_of};
 
 // "B is 0 to 2,048,000,000".
 pub const MOST_LIMIT: u64 = 2048000000;
@@ -14,32 +14,19 @@ pub const LEAST_ROOM: usize = 32708;
 // The same of a walk's: room for 511 stops.
 pub const LEAST_WALK_ROOM: usize = 1022;
 
-// What can be refused of the lists beside a sheet (document 02).
-#[derive(Drop)]
-pub enum ListCause {
-    // The class list has not one byte for each edge.
-    Classes,
-    // A weight by its class is too large.
-    Adjusted,
-    // The list of times has not four bytes for each vertex.
-    Times,
-    // A time is too large.
-    Large,
-    // With the copies of vertices that have a time there are too many vertices or edges.
-    Copies,
-    // The list of vans has not two bytes for each crew, or names no vertex.
-    Vans,
-}
-
 // What can be refused.
 #[derive(Drop)]
 pub enum Refusal {
     // The graph's bytes have a fault.
     Sheet(graph_check::Cause),
-    // A list beside them has a fault.
-    Listed(ListCause),
+    // The class list has not one byte for each edge.
+    Classes,
+    // A weight by its class is too large.
+    Adjusted,
     // There are no crews, too many, or more than vertices where each has a root and no list says which.
     Crews,
+    // The list of vans has not two bytes for each crew, or names no vertex.
+    Vans,
     // The limit is too large.
     Limit,
     // The buffer is too small.
@@ -54,26 +41,12 @@ pub enum Refusal {
     Entries,
     // A tree has a loop, or an edge that is not joined to its start.
     Trees,
-    // A vertex is not covered, or a time is listed in no tree or in two.
+    // A vertex is not covered.
     Vertices,
     // A walk: the cover has no such tree.
     TreeNumber,
     // The buffer is too small for some walk.
     WalkRoom,
-}
-
-// The number of a cause that a list has.
-fn list_number(cause: ListCause) -> u32
-    ensures { result ≡ list_number_of cause }
-{
-    match cause {
-        ListCause::Classes => 53,
-        ListCause::Adjusted => 54,
-        ListCause::Times => 57,
-        ListCause::Large => 58,
-        ListCause::Copies => 59,
-        ListCause::Vans => 55,
-    }
 }
 
 // The number of a cause.
@@ -82,8 +55,10 @@ pub fn number(refusal: Refusal) -> u32
 {
     match refusal {
         Refusal::Sheet(f) => graph_check::number(f) as u32,
-        Refusal::Listed(f) => list_number(f),
+        Refusal::Classes => 53,
+        Refusal::Adjusted => 54,
         Refusal::Crews => 21,
+        Refusal::Vans => 55,
         Refusal::Limit => 22,
         Refusal::Room => 23,
         Refusal::Trials => 56,

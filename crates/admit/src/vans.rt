@@ -11,7 +11,7 @@ ghost use Rattle.admit.specs.Refusals.{fault_in};
 use crate::Admitted;
 use crate::brought::Lists;
 use crate::crews::Kind;
-use crate::refusal::{ListCause, Refusal};
+use crate::refusal::Refusal;
 
 // The vertex where crew j of a rooted question starts: the j-th of the list, or j where none is brought.
 pub fn root_at(given: bool, vans: &[u8], j: usize) -> usize
@@ -66,7 +66,7 @@ pub(crate) fn admit_vans(kind: Kind, k: usize, n: usize, lists: Lists, vans: &[u
                 return Admitted::Fits;
             }
             if !vans_right(vans, k, n) {
-                return Admitted::Refused(Refusal::Listed(ListCause::Vans));
+                return Admitted::Refused(Refusal::Vans);
             }
             Admitted::Fits
         }

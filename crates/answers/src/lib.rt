@@ -13,22 +13,14 @@ use rooted_decide::no_cover_rooted;
 use unrooted::answer::{answer_unrooted, no_cover_unrooted};
 
 // Whether no cover by the crews exists at all.
-pub fn no_cover(
-    kind: Kind,
-    k: usize,
-    b: &[u8],
-    roots: &[u16],
-    kept: &[u16],
-    classes: &[u8],
-    copies: &[u32],
-) -> bool
-    requires { ForestReady kind (graph_of b.now classes.now copies.now) roots.now kept.now }
-    ensures { result ≡ no_cover_exists (graph_of b.now classes.now copies.now) (crews_with kind
-        k roots.now) }
+pub fn no_cover(kind: Kind, k: usize, b: &[u8], roots: &[u16], kept: &[u16], classes: &[u8]) -> bool
+    requires { ForestReady kind (graph_of b.now classes.now) roots.now kept.now }
+    ensures { result ≡ no_cover_exists (graph_of b.now classes.now) (crews_with kind k
+        roots.now) }
 {
     match kind {
-        Kind::Rooted => no_cover_rooted(b, roots, kept, classes, copies),
-        Kind::Unrooted => no_cover_unrooted(b, k, kept, classes, copies),
+        Kind::Rooted => no_cover_rooted(b, roots, kept, classes),
+        Kind::Unrooted => no_cover_unrooted(b, k, kept, classes),
     }
 }
 
@@ -49,17 +41,16 @@ pub fn answer_at(
     until: &[u16],
     buf: &mut [u8],
     classes: &[u8],
-    copies: &[u32],
 ) -> Reply
-    requires { LimitAsked kind k (graph_of b.now classes.now copies.now) roots.now limit order.now kept.now
-        bounds.now arcs.now distances.now lasts.now total.now until.now (length buf.old) }
-    ensures { Answers (graph_of b.now classes.now copies.now) (crews_with kind k
-        roots.now) limit buf.old buf.new result }
+    requires { LimitAsked kind k (graph_of b.now classes.now) roots.now limit order.now kept.now bounds.now
+        arcs.now distances.now lasts.now total.now until.now (length buf.old) }
+    ensures { Answers (graph_of b.now classes.now) (crews_with kind k roots.now)
+        limit buf.old buf.new result }
 {
     match kind {
         Kind::Rooted => answer_rooted(
-            b, roots, limit, order, kept, bounds, arcs, distances, lasts, buf, classes, copies,
+            b, roots, limit, order, kept, bounds, arcs, distances, lasts, buf, classes,
         ),
-        Kind::Unrooted => answer_unrooted(b, k, limit, kept, total, until, buf, classes, copies),
+        Kind::Unrooted => answer_unrooted(b, k, limit, kept, total, until, buf, classes),
     }
 }

@@ -70,7 +70,7 @@ module _ {kind : Kind} {k room : ℕ} {vans : Option (List ℕ)} {g : Graph} {as
         given =
             record {
               valid = b.valid;
-              inside = rw are (λ j h. omega (arith, b.fit.1 (get_or (roots_by k vans) j 0) (at_place 0 (roots_by k vans) j h), b.valid.copied.starts_most));
+              inside = rw are (λ j h. b.fit.1 (get_or (roots_by k vans) j 0) (at_place 0 (roots_by k vans) j h));
               some = rw are b.fit.0;
               few = rw are b.few;
             };

@@ -42,14 +42,13 @@ fn answer_within(
     trials: usize,
     buf: &mut [u8],
     classes: &[u8],
-    copies: &[u32],
 ) -> Told
-    requires { SearchReady kind k (graph_of b.now classes.now copies.now) roots.now order.now kept.now
-        bounds.now arcs.now distances.now lasts.now total.now until.now trials (length buf.old) }
-    ensures { Answered (Within trials) (graph_of b.now classes.now copies.now)
-        (crews_with kind k roots.now) buf.old buf.new result }
+    requires { SearchReady kind k (graph_of b.now classes.now) roots.now order.now kept.now bounds.now
+        arcs.now distances.now lasts.now total.now until.now trials (length buf.old) }
+    ensures { Answered (Within trials) (graph_of b.now classes.now) (crews_with kind k
+        roots.now) buf.old buf.new result }
 {
-    if no_cover(kind, k, b, roots, kept, classes, copies) {
+    if no_cover(kind, k, b, roots, kept, classes) {
         return Told {
             reply: Reply::NoCover,
             known: UNTRIED,
@@ -57,11 +56,10 @@ fn answer_within(
     }
     let found = find_limit(
         kind, k, b, roots, order, kept, bounds, arcs, distances, total, until, trials, classes,
-        copies,
     );
     let reply = answer_at(
         kind, k, b, roots, found.high, order, kept, bounds, arcs, distances, lasts, total, until,
-        buf, classes, copies,
+        buf, classes,
     );
     let known = found.known;
     Told {
@@ -87,18 +85,17 @@ pub(crate) fn answer_asked(
     until: &[u16],
     buf: &mut [u8],
     classes: &[u8],
-    copies: &[u32],
 ) -> Told
-    requires { AskedReady kind k (graph_of b.now classes.now copies.now) roots.now asked order.now kept.now
-        bounds.now arcs.now distances.now lasts.now total.now until.now (length buf.old) }
-    ensures { Answered asked (graph_of b.now classes.now copies.now) (crews_with
-        kind k roots.now) buf.old buf.new result }
+    requires { AskedReady kind k (graph_of b.now classes.now) roots.now asked order.now kept.now bounds.now
+        arcs.now distances.now lasts.now total.now until.now (length buf.old) }
+    ensures { Answered asked (graph_of b.now classes.now) (crews_with kind k
+        roots.now) buf.old buf.new result }
 {
     match asked {
         Asked::At(limit) => {
             let reply = answer_at(
                 kind, k, b, roots, limit, order, kept, bounds, arcs, distances, lasts, total,
-                until, buf, classes, copies,
+                until, buf, classes,
             );
             Told {
                 reply: reply,
@@ -107,7 +104,7 @@ pub(crate) fn answer_asked(
         }
         Asked::Within(trials) => answer_within(
             kind, k, b, roots, order, kept, bounds, arcs, distances, lasts, total, until, trials,
-            buf, classes, copies,
+            buf, classes,
         ),
     }
 }
@@ -121,21 +118,20 @@ pub fn ask_crews(
     asked: Asked,
     buf: &mut [u8],
     classes: &[u8],
-    copies: &[u32],
     given: bool,
     vans: &[u8],
 ) -> Told
-    requires { CrewsAsked kind k (brought given vans.now) (graph_of b.now classes.now copies.now) asked
+    requires { CrewsAsked kind k (brought given vans.now) (graph_of b.now classes.now) asked
         (length buf.old) }
-    ensures { Answered asked (graph_of b.now classes.now copies.now)
+    ensures { Answered asked (graph_of b.now classes.now)
         (crews_of kind k (brought given vans.now)) buf.old buf.new result }
 {
     match kind {
         Kind::Rooted => {
             let mut roots = [0u16; 32];
             put_roots(k, given, vans, &mut roots);
-            ask_rooted(b, &roots[..k], asked, buf, classes, copies)
+            ask_rooted(b, &roots[..k], asked, buf, classes)
         }
-        Kind::Unrooted => ask_unrooted(k, b, asked, buf, classes, copies),
+        Kind::Unrooted => ask_unrooted(k, b, asked, buf, classes),
     }
 }

@@ -25,18 +25,17 @@ fn ask_rooted_in(
     lasts: &mut [u32],
     buf: &mut [u8],
     classes: &[u8],
-    copies: &[u32],
 ) -> Told
-    requires { RootedLent (graph_of b.now classes.now copies.now) roots.now asked order.old kept.old
-        bounds.old all.old arcs.old distances.old lasts.old (length buf.old) }
-    ensures { RootedAnswered asked (graph_of b.now classes.now copies.now)
-        roots.now order.old order.new kept.old kept.new
-        bounds.old bounds.new all.old all.new arcs.old
-        arcs.new distances.old distances.new lasts.old lasts.new
-        buf.old buf.new result }
+    requires { RootedLent (graph_of b.now classes.now) roots.now asked order.old kept.old bounds.old
+        all.old arcs.old distances.old lasts.old (length buf.old) }
+    ensures { RootedAnswered asked (graph_of b.now classes.now) roots.now
+        order.old order.new kept.old kept.new bounds.old
+        bounds.new all.old all.new arcs.old arcs.new
+        distances.old distances.new lasts.old lasts.new buf.old
+        buf.new result }
 {
     let ready = prepare_rooted(
-        b, roots, order, kept, bounds, all, arcs, distances, lasts, classes, copies,
+        b, roots, order, kept, bounds, all, arcs, distances, lasts, classes,
     );
     answer_asked(
         Kind::Rooted,
@@ -54,22 +53,14 @@ fn ask_rooted_in(
         &[],
         buf,
         classes,
-        copies,
     )
 }
 
 // Lends arrays that a small graph and few crews fit in.
-fn ask_rooted_small(
-    b: &[u8],
-    roots: &[u16],
-    asked: Asked,
-    buf: &mut [u8],
-    classes: &[u8],
-    copies: &[u32],
-) -> Told
-    requires { RootedSmall (graph_of b.now classes.now copies.now) roots.now asked (length buf.old) }
-    ensures { Answered asked (graph_of b.now classes.now copies.now) (rooted
-        roots.now) buf.old buf.new result }
+fn ask_rooted_small(b: &[u8], roots: &[u16], asked: Asked, buf: &mut [u8], classes: &[u8]) -> Told
+    requires { RootedSmall (graph_of b.now classes.now) roots.now asked (length buf.old) }
+    ensures { Answered asked (graph_of b.now classes.now) (rooted roots.now)
+        buf.old buf.new result }
 {
     let mut order = [0u16; 512];
     let mut kept = [0u16; 64];
@@ -91,22 +82,14 @@ fn ask_rooted_small(
         &mut lasts,
         buf,
         classes,
-        copies,
     )
 }
 
 // Lends arrays that every graph and all crews fit in.
-fn ask_rooted_full(
-    b: &[u8],
-    roots: &[u16],
-    asked: Asked,
-    buf: &mut [u8],
-    classes: &[u8],
-    copies: &[u32],
-) -> Told
-    requires { RootedAsked (graph_of b.now classes.now copies.now) roots.now asked (length buf.old) }
-    ensures { Answered asked (graph_of b.now classes.now copies.now) (rooted
-        roots.now) buf.old buf.new result }
+fn ask_rooted_full(b: &[u8], roots: &[u16], asked: Asked, buf: &mut [u8], classes: &[u8]) -> Told
+    requires { RootedAsked (graph_of b.now classes.now) roots.now asked (length buf.old) }
+    ensures { Answered asked (graph_of b.now classes.now) (rooted roots.now)
+        buf.old buf.new result }
 {
     let mut order = [0u16; 2048];
     let mut kept = [0u16; 256];
@@ -128,18 +111,17 @@ fn ask_rooted_full(
         &mut lasts,
         buf,
         classes,
-        copies,
     )
 }
 
 // Whether the small arrays are enough.
-fn is_small(b: &[u8], k: usize, classes: &[u8], copies: &[u32]) -> bool
-    ensures { SizeTold (graph_of b.now classes.now copies.now) k result }
+fn is_small(b: &[u8], k: usize, classes: &[u8]) -> bool
+    ensures { SizeTold (graph_of b.now classes.now) k result }
 {
-    if 64 < graph::vertex_count(b, classes, copies) {
+    if 64 < graph::vertex_count(b, classes) {
         return false;
     }
-    if 512 < graph::edge_count(b, classes, copies) {
+    if 512 < graph::edge_count(b, classes) {
         return false;
     }
     k <= 8
@@ -152,14 +134,13 @@ pub(crate) fn ask_rooted(
     asked: Asked,
     buf: &mut [u8],
     classes: &[u8],
-    copies: &[u32],
 ) -> Told
-    requires { RootedAsked (graph_of b.now classes.now copies.now) roots.now asked (length buf.old) }
-    ensures { Answered asked (graph_of b.now classes.now copies.now) (rooted
-        roots.now) buf.old buf.new result }
+    requires { RootedAsked (graph_of b.now classes.now) roots.now asked (length buf.old) }
+    ensures { Answered asked (graph_of b.now classes.now) (rooted roots.now)
+        buf.old buf.new result }
 {
-    if is_small(b, roots.len(), classes, copies) {
-        return ask_rooted_small(b, roots, asked, buf, classes, copies);
+    if is_small(b, roots.len(), classes) {
+        return ask_rooted_small(b, roots, asked, buf, classes);
     }
-    ask_rooted_full(b, roots, asked, buf, classes, copies)
+    ask_rooted_full(b, roots, asked, buf, classes)
 }

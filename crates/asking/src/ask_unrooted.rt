@@ -20,19 +20,18 @@ fn ask_unrooted_in(
     order: &mut [u16],
     buf: &mut [u8],
     classes: &[u8],
-    copies: &[u32],
 ) -> Told
-    requires { UnrootedLent k (graph_of b.now classes.now copies.now) asked (length keys.old) (length
-        spare.old) (length order.old) (length buf.old) }
-    ensures { UnrootedAnswered asked k (graph_of b.now classes.now copies.now)
-        keys.old keys.new spare.old spare.new order.old
-        order.new buf.old buf.new result }
+    requires { UnrootedLent k (graph_of b.now classes.now) asked (length keys.old) (length spare.old)
+        (length order.old) (length buf.old) }
+    ensures { UnrootedAnswered asked k (graph_of b.now classes.now) keys.old
+        keys.new spare.old spare.new order.old order.new
+        buf.old buf.new result }
 {
     let mut kept = [0u16; 256];
     let mut total = [0u64; 256];
     let mut until = [0u16; 256];
     let ready = prepare_unrooted(
-        b, keys, spare, order, &mut kept, &mut total, &mut until, classes, copies,
+        b, keys, spare, order, &mut kept, &mut total, &mut until, classes,
     );
     answer_asked(
         Kind::Unrooted,
@@ -50,67 +49,41 @@ fn ask_unrooted_in(
         &until,
         buf,
         classes,
-        copies,
     )
 }
 
 // Lends arrays that 512 edges fit in.
-fn ask_unrooted_small(
-    k: usize,
-    b: &[u8],
-    asked: Asked,
-    buf: &mut [u8],
-    classes: &[u8],
-    copies: &[u32],
-) -> Told
-    requires { UnrootedSmall k (graph_of b.now classes.now copies.now) asked (length buf.old) }
-    ensures { Answered asked (graph_of b.now classes.now copies.now) (unrooted k)
-        buf.old buf.new result }
+fn ask_unrooted_small(k: usize, b: &[u8], asked: Asked, buf: &mut [u8], classes: &[u8]) -> Told
+    requires { UnrootedSmall k (graph_of b.now classes.now) asked (length buf.old) }
+    ensures { Answered asked (graph_of b.now classes.now) (unrooted k) buf.old
+        buf.new result }
 {
     let mut keys = [0u64; 512];
     let mut spare = [0u64; 512];
     let mut order = [0u16; 512];
-    ask_unrooted_in(
-        k, b, asked, &mut keys, &mut spare, &mut order, buf, classes, copies,
-    )
+    ask_unrooted_in(k, b, asked, &mut keys, &mut spare, &mut order, buf, classes)
 }
 
 // Lends arrays that the edges of every graph fit in.
-fn ask_unrooted_full(
-    k: usize,
-    b: &[u8],
-    asked: Asked,
-    buf: &mut [u8],
-    classes: &[u8],
-    copies: &[u32],
-) -> Told
-    requires { UnrootedAsked k (graph_of b.now classes.now copies.now) asked (length buf.old) }
-    ensures { Answered asked (graph_of b.now classes.now copies.now) (unrooted k)
-        buf.old buf.new result }
+fn ask_unrooted_full(k: usize, b: &[u8], asked: Asked, buf: &mut [u8], classes: &[u8]) -> Told
+    requires { UnrootedAsked k (graph_of b.now classes.now) asked (length buf.old) }
+    ensures { Answered asked (graph_of b.now classes.now) (unrooted k) buf.old
+        buf.new result }
 {
     let mut keys = [0u64; 2048];
     let mut spare = [0u64; 2048];
     let mut order = [0u16; 2048];
-    ask_unrooted_in(
-        k, b, asked, &mut keys, &mut spare, &mut order, buf, classes, copies,
-    )
+    ask_unrooted_in(k, b, asked, &mut keys, &mut spare, &mut order, buf, classes)
 }
 
 // The answer to a question by k crews without roots.
-pub(crate) fn ask_unrooted(
-    k: usize,
-    b: &[u8],
-    asked: Asked,
-    buf: &mut [u8],
-    classes: &[u8],
-    copies: &[u32],
-) -> Told
-    requires { UnrootedAsked k (graph_of b.now classes.now copies.now) asked (length buf.old) }
-    ensures { Answered asked (graph_of b.now classes.now copies.now) (unrooted k)
-        buf.old buf.new result }
+pub(crate) fn ask_unrooted(k: usize, b: &[u8], asked: Asked, buf: &mut [u8], classes: &[u8]) -> Told
+    requires { UnrootedAsked k (graph_of b.now classes.now) asked (length buf.old) }
+    ensures { Answered asked (graph_of b.now classes.now) (unrooted k) buf.old
+        buf.new result }
 {
-    if graph::edge_count(b, classes, copies) <= 512 {
-        return ask_unrooted_small(k, b, asked, buf, classes, copies);
+    if graph::edge_count(b, classes) <= 512 {
+        return ask_unrooted_small(k, b, asked, buf, classes);
     }
-    ask_unrooted_full(k, b, asked, buf, classes, copies)
+    ask_unrooted_full(k, b, asked, buf, classes)
 }

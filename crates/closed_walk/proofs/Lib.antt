@@ -1,8 +1,6 @@
 -- Laws that belong to no one function, in reading order.
 -- the entries of one tree
 pub mod OneRun
--- the lines of one tree, and its times
-pub mod LinesFirst
 -- the next edge as the arrays tell it
 pub mod NextFound
 -- the arrays after one turn
@@ -11,7 +9,5 @@ pub mod NextTurn
 pub mod StopsWritten
 -- the walk along one tree of a cover
 pub mod TreeWalks
--- what document 02 says of it
-pub mod TourPromise
 -- what the question promises
 pub mod Promised

@@ -1,15 +1,14 @@
--- The entries of one tree: where they begin, their edges, one by one, and those edges in two parts.
+-- The entries of one tree: where they begin, and their edges, one by one.
 -- Assumes nothing.
 use Prim.Native.Nat.{ℕ, ◌+◌, ◌-◌, ◌≤◌, ◌<◌}
-use mathlib.Core.Path.{◌≡◌, ap, ◌∙◌}
+use mathlib.Core.Path.{◌≡◌, ◌∙◌}
 use mathlib.Core.Bool.{true}
-use mathlib.Core.List.{List, ◌++◌, map, map-append}
+use mathlib.Core.List.{List}
 use native.Mathlib.Omega.{arith}
 use lib.ListN.{length, set, length-map}
 use Rattle.lists.specs.Count as Count
 use Rattle.lists.specs.Put.{PutTo}
 use Rattle.lists.proofs.Put.{put_to_none, put_more, put_length}
-use Rattle.lists.proofs.Numbered.{from_append}
 use Rattle.lists.proofs.Runs.{length_from}
 use Rattle.rules.specs.CoverBytes.{entry_edge}
 use Rattle.rules.specs.CheckCover.{entries_right}
@@ -27,16 +26,6 @@ module _ (c : List ℕ) where
   -- A run has an edge for each entry.
   pub run_length : (from to : ℕ) → length (run_edges c from to) ≡ to - from
   run_length from to = length-map (Count.from from (to - from)) (entry_edge c) ∙ length_from from (to - from)
-
-  -- A run up to a place, and the run from there on.
-  pub run_cut : (from mid to : ℕ) → from ≤ mid → mid ≤ to → run_edges c from to ≡ run_edges c from mid ++ run_edges c mid to
-  run_cut from mid to h l =
-      let whole : to - from ≡ (mid - from) + (to - mid) = omega arith in
-      let there : from + (mid - from) ≡ mid = omega arith in
-      ap (λ n. map (entry_edge c) (Count.from from n)) whole
-      ∙ ap (map (entry_edge c)) (from_append from (mid - from) (to - mid))
-      ∙ map-append (entry_edge c) (Count.from from (mid - from)) (Count.from (from + (mid - from)) (to - mid))
-      ∙ ap (λ k. run_edges c from mid ++ map (entry_edge c) (Count.from k (to - mid))) there
 
   -- Its edges before i are put into an array that has room for all.
   pub record RunPut (from to : ℕ) (out₀ out : List ℕ) (r i : ℕ) : Type 0 where

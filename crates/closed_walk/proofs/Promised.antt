@@ -14,27 +14,30 @@ use Rattle.lists.proofs.Below.{in_below}
 use Rattle.lists.proofs.Member.{in_map}
 use Rattle.graph.specs.Graph.{Graph}
 use Rattle.graph.specs.Fault.{Fault, fault_if, fault_unless, first_fault, refused_or}
+use Rattle.graph.specs.Valid.{Valid}
 use Rattle.graph.proofs.Faults.{quiet_unless, quiet_each}
+use Rattle.rules.specs.Cover.{Tree, IsTree}
 use Rattle.rules.specs.CoverBytes.{trees_in, tree_in, decode}
 use Rattle.rules.specs.CheckCover.{cover_fault}
+use Rattle.rules.specs.Reply as reply
 use Rattle.rules.specs.Questions.{Question, graph_in, crews_in, question_fault, check_fault, ask_check}
 use Rattle.rules.specs.WalkQuestion.{least_walk_room, walk_fault, refused, ask_walk, stop_bytes, walk_after}
 use Rattle.rules.proofs.Admitted.{admitted}
 use Rattle.cover_laws.proofs.PassedTests.{quiet_passed}
 use Rattle.cover_laws.proofs.CheckedCovers.{cover_read}
 use Rattle.cover_laws.proofs.CheckQuestion.{yes_says, number_says}
+use Rattle.cover_laws.proofs.ClosedWalk.{closed_walk_length, closed_walk_stops, closed_walk_few, walk_passes}
+use Rattle.cover_laws.proofs.OnlyWalk.{closed_walk_exactly}
 use Rattle.admit.specs.declared.refusal.Refusal.{Refusal}
 use Rattle.admit.specs.declared.refusal.Refusal.TheVariants.{TreeNumber, WalkRoom}
 use Rattle.admit.specs.Refusals.{number_of}
-use Rattle.filed_entries.proofs.StartTests.{starts_below_more}
 use Rattle.filed.specs.declared.check.Verdict.TheVariants as verdict
 use Rattle.filed.specs.Promise.{CheckPromise}
 use Rattle.replies.specs.Replies.{said}
 use Rattle.closed_walk.specs.declared.walk.Walked.{Walked}
 use Rattle.closed_walk.specs.declared.walk.Walked.TheVariants.{Refused}
-use Rattle.closed_walk.specs.Promise.{WalkReplied, WalkPromise}
+use Rattle.closed_walk.specs.Promise.{WalkReplied, WalksTree, WalkPromise}
 use Rattle.closed_walk.specs.Checked.{CheckedGiven, TreeAsked, TreeWalked, CheckedWalked}
-use Rattle.closed_walk.proofs.TourPromise.{walks_tree}
 
 -- A refusal says its number and leaves the buffer as it is.
 refuses : {number : ℕ} (f : Refusal) (buffer : List ℕ) → number ≡ number_of f → WalkReplied (refused number) buffer buffer (Refused f)
@@ -68,6 +71,17 @@ module _ (g : Graph) (c : List ℕ) (j : ℕ) (buffer : List ℕ) where
 
 -- THE CHECK BEFORE THEM
 
+-- The laws hold of the walk along a tree.
+walks_tree : {g : Graph} {t : Tree} → Valid g → IsTree g t → WalksTree g t
+walks_tree valid is = record {
+  is_tree = is;
+  exactly = closed_walk_exactly is;
+  long = closed_walk_length is;
+  count = closed_walk_stops is;
+  few = closed_walk_few is valid;
+  passes = walk_passes is;
+}
+
 module _ (q : Question) (c : List ℕ) where
   abbrev g : Graph
   g = graph_in q
@@ -85,7 +99,7 @@ module _ (q : Question) (c : List ℕ) where
       let tests = quiet_passed g (crews_in q) c (quiet_cover p) in
       let read : decode c ≡ filed.trees = ap decode filed.bytes ∙ cover_read g a.valid (crews_in q) a.few filed.trees filed.cover in
       record {
-        cover = record { valid = a.valid; starts = starts_below_more c a.valid.copied.starts_most tests.inside; entries = tests.entries };
+        cover = record { valid = a.valid; starts = tests.inside; entries = tests.entries };
         are_trees = λ t m. filed.cover.all_covered.are_trees t (subst (λ l. t ∈ l) read m);
       }
     where

@@ -83,13 +83,10 @@ module _ {g : Graph} {t : Tree} where
         behind = omega arith;
       }
 
-  -- A tree has at most 255 edges, so that there is room for their arcs, and for the way; it starts at a vertex.
+  -- A tree has at most 255 edges, so that there is room for their arcs, and for the way.
   module _ {room : ℕ} (asked : WriteAsked g t room) where
     pub few : length t.edges ≤ 255
     few = omega (arith, tree_edges_few g asked.valid t asked.is_tree, asked.valid.vertices_most)
-
-    pub start_vertex : t.start < g.vertices
-    start_vertex = omega (arith, asked.is_tree.start_inside, asked.valid.copied.starts_most)
 
     pub room_around : RoomAround g t.edges (replicate 257 0) (replicate 510 0)
     room_around = record {

@@ -6,11 +6,9 @@ use Rattle.graph.specs.Graph.{Graph}
 use Rattle.graph.specs.Fault.{Fault, fault_if, fault_unless, first_fault, refused_or}
 use Rattle.rules.specs.Cover.{Tree, IsTree}
 use Rattle.rules.specs.CoverBytes.{trees_in, tree_in, decode}
-use Rattle.rules.specs.ClosedWalk.{stops_of}
-use Rattle.rules.specs.TimedWalk.{tour_length, tour_along}
+use Rattle.rules.specs.ClosedWalk.{stops_of, length_of, closed_walk}
 use Rattle.rules.specs.WalkQuestion.{least_walk_room, WalkReply, refused, walks}
 use Rattle.cover.specs.Runs.{CoverGiven}
-use Rattle.filed.specs.Timed.{timed_graph, RoomForCopies}
 use Rattle.closed_walk.specs.declared.walk.Walked.{Walked}
 use Rattle.closed_walk.specs.Promise.{WalkReplied}
 
@@ -18,11 +16,6 @@ use Rattle.closed_walk.specs.Promise.{WalkReplied}
 pub record CheckedGiven (g : Graph) (c : List ℕ) : Type 0 where
   pub cover : CoverGiven g c
   pub are_trees : (t : Tree) → t ∈ decode c → IsTree g t
-
--- The same of a question that brings times: there is room for its copies.
-pub record TimedChecked (b c classes times : List ℕ) : Type 0 where
-  pub room : RoomForCopies b times
-  pub checked : CheckedGiven (timed_graph b classes times) c
 
 -- One of its trees, and room for any walk.
 pub record TreeAsked (g : Graph) (c : List ℕ) (j room : ℕ) : Type 0 where
@@ -32,7 +25,7 @@ pub record TreeAsked (g : Graph) (c : List ℕ) (j room : ℕ) : Type 0 where
 
 -- What is answered of a tree.
 abbrev pub reply_to : Graph → Tree → WalkReply
-reply_to g t = let walk = tour_along g t in walks (stops_of g walk.route) (tour_length g walk)
+reply_to g t = let walk = closed_walk g t in walks (stops_of g walk) (length_of g walk)
 
 abbrev pub TreeWalked : Graph → List ℕ → ℕ → List ℕ → List ℕ → Walked → Type 0
 TreeWalked g c j before after r = WalkReplied (reply_to g (tree_in c j)) before after r

@@ -1,16 +1,13 @@
--- What the question of the walk promises on every input, refused ones too (document 02, A.1 and A.7).
+-- What the question of the walk promises on every input, refused ones too (document 02, A.1).
 -- Assumes nothing.
-use Rattle.std.specs.Prelude.{ℕ, ◌+◌, ◌*◌, ◌≤◌, ◌<◌, ◌≡◌, List, [], ◌∷◌, ◌↔◌, length}
+use Rattle.std.specs.Prelude.{ℕ, ◌+◌, ◌*◌, ◌≤◌, ◌≡◌, List, [], ◌∷◌, ◌↔◌, length}
 use Rattle.std.proofs.Math.Option.{some, none}
-use Rattle.lists.specs.Lists.{times}
 use Rattle.lists.specs.Member.{◌∈◌}
-use Rattle.graph.specs.Graph.{Graph, one_end, line_count}
-use Rattle.rules.specs.Walk.{total_weight}
+use Rattle.graph.specs.Graph.{Graph}
 use Rattle.rules.specs.Cover.{Tree, IsTree, Covers, tree_weight}
 use Rattle.rules.specs.CoverBytes.{tree_in}
 use Rattle.rules.specs.Questions.{Question, graph_in}
-use Rattle.rules.specs.ClosedWalk.{stops_of, closed_walk}
-use Rattle.rules.specs.TimedWalk.{tour_length, line_tree, time_edges, tour_along}
+use Rattle.rules.specs.ClosedWalk.{stops_of, length_of, closed_walk}
 use Rattle.rules.specs.WalkRule.{IsClosedWalk}
 use Rattle.rules.specs.WalkQuestion.{walk_fault, WalkReply, refused, walks, ask_walk, walk_after}
 use Rattle.admit.specs.Refusals.{number_of}
@@ -33,19 +30,15 @@ pub record WalkReplied (reply : WalkReply) (before after : List ℕ) (r : Walked
   pub same : says r ≡ said_of reply
   pub buffer : after ≡ walk_after reply before
 
--- What the walk along a tree is: the only one that is closed, crosses each "line" of the tree exactly twice and no other edge, and goes by the rule; "at most
--- 511" stops, at the vertices that the tree covers, but for the copies. (Document 02, A.7: it "crosses no such line and spends each listed time once,
--- counted once in its length".) Each time is spent where the walk comes by, and the length is twice the lines and once the times.
+-- What the walk along a tree is: the only one that is closed, crosses each edge of the tree exactly twice and no other, and goes by the rule;
+-- "twice the tree's weight" long; "at most 511" stops, at the vertices that the tree covers.
 pub record WalksTree (g : Graph) (t : Tree) : Type 0 where
   pub is_tree : IsTree g t
-  pub exactly : (crossings : List ℕ) → IsClosedWalk g (line_tree g t) crossings ↔ (crossings ≡ (closed_walk g (line_tree g t)).crossings)
-  pub no_copy : (e : ℕ) → e ∈ (closed_walk g (line_tree g t)).crossings → e < line_count g
-  pub long : tour_length g (tour_along g t) ≡ 2 * tree_weight g (line_tree g t) + total_weight g (time_edges g t)
-  pub count : length (stops_of g (closed_walk g (line_tree g t))) ≡ 2 * length (line_tree g t).edges + 1
-  pub few : length (stops_of g (closed_walk g (line_tree g t))) ≤ 511
-  pub passes : (v : ℕ) → (v ∈ stops_of g (closed_walk g (line_tree g t))) ↔ (Covers g t v × (v < g.starts))
-  pub spent_once : (e : ℕ) → e ∈ time_edges g t → times e (time_edges g t) ≡ 1
-  pub spent_there : (e : ℕ) → e ∈ time_edges g t → one_end g e ∈ stops_of g (closed_walk g (line_tree g t))
+  pub exactly : (crossings : List ℕ) → IsClosedWalk g t crossings ↔ (crossings ≡ (closed_walk g t).crossings)
+  pub long : length_of g (closed_walk g t) ≡ 2 * tree_weight g t
+  pub count : length (stops_of g (closed_walk g t)) ≡ 2 * length t.edges + 1
+  pub few : length (stops_of g (closed_walk g t)) ≤ 511
+  pub passes : (v : ℕ) → (v ∈ stops_of g (closed_walk g t)) ↔ Covers g t v
 
 -- The question of the walk. Refused exactly where documents 01 and 02 say so, with the number alone, and no lent byte changes. Otherwise the answer and
 -- the buffer are those of the walk along the tree, which is what document 02 says of it.

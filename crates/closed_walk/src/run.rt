@@ -2,7 +2,7 @@
 ghost use Rattle.std.specs.Prelude.{◌-◌, ◌≤◌, length};
 ghost use Rattle.lists.specs.Put.{PutTo};
 ghost use Rattle.cover.specs.Runs.{run_edges, InEntries};
-ghost use Rattle.closed_walk.specs.Run.{FirstOf, LinesEnd};
+ghost use Rattle.closed_walk.specs.Run.{FirstOf};
 
 use cover::read::{entries_in, entry_edge, entry_tree};
 
@@ -19,22 +19,6 @@ pub fn run_begin(c: &[u8], j: usize) -> usize
         i += 1;
     }
     i
-}
-
-// Where the lines of a run of entries end, the edges below so many. Where edges rise those of copies stand last, so that
-// a run without any is left at once.
-pub fn lines_end(c: &[u8], from: usize, to: usize, lines: usize) -> usize
-    requires { from ≤ to }
-    ensures { LinesEnd c.now from to lines result }
-{
-    let mut r = to;
-    while from < r {
-        if entry_edge(c, r - 1) < lines {
-            return r;
-        }
-        r -= 1;
-    }
-    r
 }
 
 // The edges of a run of entries, written to the front of the array. Says how many.

@@ -2,17 +2,15 @@
 ghost use Rattle.std.specs.Prelude.{◌≡◌, length};
 ghost use Rattle.graph.specs.Bytes.{graph_of};
 ghost use Rattle.admit.specs.Crews.{asks_with};
-ghost use Rattle.filed.specs.Timed.{timed_graph};
 ghost use Rattle.closed_walk.specs.Promise.{says, WalkPromise};
-ghost use Rattle.closed_walk.specs.Checked.{CheckedGiven, TimedChecked, TreeAsked, TreeWalked, CheckedWalked};
+ghost use Rattle.closed_walk.specs.Checked.{CheckedGiven, TreeAsked, TreeWalked, CheckedWalked};
 
-use crate::run::{lines_end, read_run, run_begin};
+use crate::run::{read_run, run_begin};
 use crate::write::write_walk;
 use admit::brought::{Lists, read_list};
 use admit::crews::Kind;
 use admit::refusal::{LEAST_WALK_ROOM, Refusal};
-use admit::times::put_copies;
-use cover::heaviest::{edges_weight, run_weight};
+use cover::heaviest::edges_weight;
 use cover::read::{start_in, trees_in};
 use cover::runs::run_end;
 use filed::check::{Verdict, check};
@@ -36,44 +34,27 @@ pub fn number_of(walked: Walked) -> u32
     }
 }
 
-// The walk along one tree of a cover: its stops, two bytes each, and its length. It goes along the lines, each of which
-// is crossed twice; each time that the tree lists is spent once.
-fn walk_tree(
-    b: &[u8],
-    c: &[u8],
-    tree: usize,
-    buf: &mut [u8],
-    classes: &[u8],
-    copies: &[u32],
-) -> Walked
-    requires { TreeAsked (graph_of b.now classes.now copies.now) c.now tree (length buf.old) }
-    ensures { TreeWalked (graph_of b.now classes.now copies.now) c.now
-        tree buf.old buf.new result }
+// The walk along one tree of a cover: its stops, two bytes each, and its length, twice the tree's weight.
+fn walk_tree(b: &[u8], c: &[u8], tree: usize, buf: &mut [u8], classes: &[u8]) -> Walked
+    requires { TreeAsked (graph_of b.now classes.now) c.now tree (length buf.old) }
+    ensures { TreeWalked (graph_of b.now classes.now) c.now tree
+        buf.old buf.new result }
 {
     let from = run_begin(c, tree);
     let to = run_end(c, tree, from);
-    let behind_lines = lines_end(c, from, to, graph::sheet_edges(b));
     let mut room = [0u16; 255];
-    let q = read_run(c, from, behind_lines, &mut room);
-    let lines = &room[..q];
-    let written = write_walk(b, start_in(c, tree), lines, buf, classes, copies);
-    let crossed = 2 * edges_weight(b, lines, classes, copies);
-    let spent = run_weight(b, c, behind_lines, to, classes, copies);
-    Walked::Walk(written / 2, crossed + spent)
+    let q = read_run(c, from, to, &mut room);
+    let edges = &room[..q];
+    let written = write_walk(b, start_in(c, tree), edges, buf, classes);
+    let length = 2 * edges_weight(b, edges, classes);
+    Walked::Walk(written / 2, length)
 }
 
 // The same of a cover that passed the check, unless it has no such tree (51) or the buffer is too small (52).
-fn walk_checked(
-    b: &[u8],
-    c: &[u8],
-    tree: usize,
-    buf: &mut [u8],
-    classes: &[u8],
-    copies: &[u32],
-) -> Walked
-    requires { CheckedGiven (graph_of b.now classes.now copies.now) c.now }
-    ensures { CheckedWalked (graph_of b.now classes.now copies.now)
-        c.now tree buf.old buf.new result }
+fn walk_checked(b: &[u8], c: &[u8], tree: usize, buf: &mut [u8], classes: &[u8]) -> Walked
+    requires { CheckedGiven (graph_of b.now classes.now) c.now }
+    ensures { CheckedWalked (graph_of b.now classes.now) c.now tree
+        buf.old buf.new result }
 {
     if trees_in(c) <= tree {
         return Walked::Refused(Refusal::TreeNumber);
@@ -81,27 +62,7 @@ fn walk_checked(
     if buf.len() < LEAST_WALK_ROOM {
         return Walked::Refused(Refusal::WalkRoom);
     }
-    walk_tree(b, c, tree, buf, classes, copies)
-}
-
-// The same of a question that brings times. The copies are written down here, so that a question without times needs no
-// room for them.
-fn walk_timed(
-    b: &[u8],
-    c: &[u8],
-    tree: usize,
-    buf: &mut [u8],
-    classes: &[u8],
-    times: &[u8],
-) -> Walked
-    requires { TimedChecked b.now c.now classes.now times.now }
-    ensures { CheckedWalked (timed_graph b.now classes.now times.now)
-        c.now tree buf.old buf.new result }
-{
-    let mut room = [0u32; 128];
-    let count = put_copies(graph::sheet_vertices(b), times, &mut room);
-    let copies = &room[..count];
-    walk_checked(b, c, tree, buf, classes, copies)
+    walk_tree(b, c, tree, buf, classes)
 }
 
 // The walk along one tree of a filed cover, of a question with the lists that are brought.
@@ -115,19 +76,12 @@ pub fn walk(
     lists: Lists,
     classes: &[u8],
     vans: &[u8],
-    times: &[u8],
 ) -> Walked
-    ensures { WalkPromise (asks_with kind k b.now lists classes.now vans.now
-        times.now) c.now tree buf.old buf.new result }
+    ensures { WalkPromise (asks_with kind k b.now lists classes.now vans.now)
+        c.now tree buf.old buf.new result }
 {
-    match check(kind, k, b, c, lists, classes, vans, times) {
+    match check(kind, k, b, c, lists, classes, vans) {
         Verdict::Refused(f) => Walked::Refused(f),
-        Verdict::Yes(_) => {
-            let read = read_list(lists.classes, classes);
-            if lists.times {
-                return walk_timed(b, c, tree, buf, read, times);
-            }
-            walk_checked(b, c, tree, buf, read, &[])
-        }
+        Verdict::Yes(_) => walk_checked(b, c, tree, buf, read_list(lists.classes, classes)),
     }
 }

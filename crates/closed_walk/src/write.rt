@@ -11,21 +11,14 @@ use edges::around::put_around;
 use edges::index::wide;
 
 // Writes the stops as the buffer's first bytes, two turns for each edge. The answer is how many bytes.
-pub fn write_walk(
-    b: &[u8],
-    start: usize,
-    edges: &[u16],
-    buf: &mut [u8],
-    classes: &[u8],
-    copies: &[u32],
-) -> usize
-    requires { WriteAsked (graph_of b.now classes.now copies.now) (tree_of start edges.now) (length buf.old) }
-    ensures { PutTo 0 (u16_list (walk_stops (graph_of b.now classes.now copies.now)
-        (tree_of start edges.now))) buf.old buf.new result }
+pub fn write_walk(b: &[u8], start: usize, edges: &[u16], buf: &mut [u8], classes: &[u8]) -> usize
+    requires { WriteAsked (graph_of b.now classes.now) (tree_of start edges.now) (length buf.old) }
+    ensures { PutTo 0 (u16_list (walk_stops (graph_of b.now classes.now) (tree_of start
+        edges.now))) buf.old buf.new result }
 {
     let mut bounds = [0u16; 257];
     let mut arcs = [0u64; 510];
-    put_around(b, edges, &mut bounds, &mut arcs, classes, copies);
+    put_around(b, edges, &mut bounds, &mut arcs, classes);
     let mut places = [0u16; 256];
     let mut marks = [0u8; 2048];
     let mut way = [0u16; 257];

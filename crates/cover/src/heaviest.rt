@@ -10,20 +10,17 @@ ghost use Rattle.cover.specs.Runs.{run_edges, InEntries, CoverGiven};
 use crate::index::{edges_at, number_at};
 use crate::read::{entry_edge, trees_in};
 use crate::runs::run_end;
-use graph::times;
 
 // The weight of the edges of a run of entries.
-pub fn run_weight(b: &[u8], c: &[u8], from: usize, to: usize, classes: &[u8], copies: &[u32]) -> u64
+pub fn run_weight(b: &[u8], c: &[u8], from: usize, to: usize, classes: &[u8]) -> u64
     requires { InEntries c.now from to }
-    ensures { result ≡ total_weight (graph_of b.now classes.now copies.now) (run_edges
-        c.now from to) }
+    ensures { result ≡ total_weight (graph_of b.now classes.now) (run_edges c.now from
+        to) }
 {
-    let n = graph::vertex_count(b, classes, copies);
-    let m = graph::edge_count(b, classes, copies);
     let mut sum: u64 = 0;
     let mut i = from;
     while i < to {
-        sum += times::weight(b, n, m, entry_edge(c, i), classes, copies);
+        sum += graph::weight(b, entry_edge(c, i), classes);
         i += 1;
     }
     sum
@@ -38,10 +35,9 @@ fn larger(x: u64, y: u64) -> u64
 
 // The weight of the heaviest tree of a cover. The entries of one tree stand side by side, so that one walk through the
 // entries serves all trees.
-pub fn heaviest_tree(b: &[u8], c: &[u8], classes: &[u8], copies: &[u32]) -> u64
-    requires { CoverGiven (graph_of b.now classes.now copies.now) c.now }
-    ensures { result ≡ heaviest (graph_of b.now classes.now copies.now) (decode
-        c.now) }
+pub fn heaviest_tree(b: &[u8], c: &[u8], classes: &[u8]) -> u64
+    requires { CoverGiven (graph_of b.now classes.now) c.now }
+    ensures { result ≡ heaviest (graph_of b.now classes.now) (decode c.now) }
 {
     let t = trees_in(c);
     let mut most: u64 = 0;
@@ -49,7 +45,7 @@ pub fn heaviest_tree(b: &[u8], c: &[u8], classes: &[u8], copies: &[u32]) -> u64
     let mut j = 0;
     while j < t {
         let to = run_end(c, j, from);
-        most = larger(most, run_weight(b, c, from, to, classes, copies));
+        most = larger(most, run_weight(b, c, from, to, classes));
         from = to;
         j += 1;
     }
@@ -57,17 +53,14 @@ pub fn heaviest_tree(b: &[u8], c: &[u8], classes: &[u8], copies: &[u32]) -> u64
 }
 
 // The weight of the edges of a list.
-pub fn edges_weight(b: &[u8], edges: &[u16], classes: &[u8], copies: &[u32]) -> u64
+pub fn edges_weight(b: &[u8], edges: &[u16], classes: &[u8]) -> u64
     requires { length edges.now < 2 ^ 16 }
-    ensures { result ≡ total_weight (graph_of b.now classes.now copies.now)
-        edges.now }
+    ensures { result ≡ total_weight (graph_of b.now classes.now) edges.now }
 {
-    let n = graph::vertex_count(b, classes, copies);
-    let m = graph::edge_count(b, classes, copies);
     let mut sum: u64 = 0;
     let mut i = 0;
     while i < edges.len() {
-        sum += times::weight(b, n, m, number_at(edges, i), classes, copies);
+        sum += graph::weight(b, number_at(edges, i), classes);
         i += 1;
     }
     sum
@@ -80,20 +73,16 @@ pub fn heaviest_chosen(
     edges: &[u16],
     chosen: &[u16],
     classes: &[u8],
-    copies: &[u32],
 ) -> u64
     requires { AllHeld bounds.now edges.now chosen.now }
-    ensures { HeaviestChosen (graph_of b.now classes.now copies.now)
-        bounds.now edges.now chosen.now result }
+    ensures { HeaviestChosen (graph_of b.now classes.now) bounds.now
+        edges.now chosen.now result }
 {
     let mut most: u64 = 0;
     let mut j = 0;
     while j < chosen.len() {
         let c = number_at(chosen, j);
-        most = larger(
-            most,
-            edges_weight(b, edges_at(bounds, edges, c), classes, copies),
-        );
+        most = larger(most, edges_weight(b, edges_at(bounds, edges, c), classes));
         j += 1;
     }
     most

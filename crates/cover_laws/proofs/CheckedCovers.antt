@@ -10,7 +10,7 @@ use Rattle.lists.specs.Count.{below}
 use Rattle.lists.specs.Member.{◌∈◌}
 use Rattle.lists.specs.InOrder.{Rising}
 use Rattle.lists.proofs.Member.{of_map}
-use Rattle.graph.specs.Graph.{Graph, edge_count, copy_count}
+use Rattle.graph.specs.Graph.{Graph, edge_count}
 use Rattle.graph.specs.Valid.{Valid}
 use Rattle.rules.specs.Cover.{Tree, IsTree, Crews, Starts, IsCover, heaviest}
 use Rattle.rules.specs.CoverBytes.{trees_in, tree_in, encode, decode}
@@ -23,7 +23,6 @@ use Rattle.cover_laws.proofs.Reading.{entries_read, tree_in_grouped}
 use Rattle.cover_laws.proofs.Writing.{Fits, length_entries, length_encode, trees_again, count_again, entries_read_again, decode_encode}
 use Rattle.cover_laws.proofs.EntryTest.{Named, passed_named, named_passes, passed_again}
 use Rattle.cover_laws.proofs.VertexTest.{passed_covered, covered_passes}
-use Rattle.cover_laws.proofs.TimeTest.{passed_served, served_passes}
 use Rattle.cover_laws.proofs.TreeTest.{passed_trees, trees_pass}
 use Rattle.cover_laws.proofs.CoverSize.{cover_fits}
 use Rattle.cover_laws.proofs.StartTest.{passed_starts, starts_pass, passed_inside, inside_passes}
@@ -47,7 +46,7 @@ module _ (g : Graph) (crews : Crews) (b : List ℕ) (p : Passed g crews b) where
       let rising = subst Rising (sym r.1) (edges_rise r.0 entries.ordered.rises) in
       let q = passed_trees g (decode b) p.trees t m rising in
       record {
-        start_inside = passed_inside g.starts b p.inside t m;
+        start_inside = passed_inside g.vertices b p.inside t m;
         edges_inside = λ e k. inside r e k;
         rising = rising;
         joined = q.1;
@@ -65,14 +64,13 @@ module _ (g : Graph) (crews : Crews) (b : List ℕ) (p : Passed g crews b) where
       record {
         starts = passed_starts crews b p.starts;
         all_covered = record { are_trees = read_tree; covered = passed_covered g (decode b) p.covered };
-        served_once = passed_served g (decode b) p.served;
       }
 
   -- Bytes that pass are the bytes of what is read.
   read_bytes : Bytes b → encode (decode b) ≡ b
   read_bytes by = passed_again (edge_count g) b by p.sized p.entries
 
-module _ (g : Graph) (crews : Crews) (trees : List Tree) (cover : IsCover g crews trees) (fits : Fits trees) (few : copy_count g ≤ edge_count g) where
+module _ (g : Graph) (crews : Crews) (trees : List Tree) (cover : IsCover g crews trees) (fits : Fits trees) where
   again : decode (encode trees) ≡ trees
   again = decode_encode trees fits
 
@@ -100,11 +98,10 @@ module _ (g : Graph) (crews : Crews) (trees : List Tree) (cover : IsCover g crew
       record {
         sized = omega (arith, length_encode trees, trees_again trees fits, count_again trees fits, length_entries trees);
         starts = starts_pass crews (encode trees) (subst (Starts crews) (sym again) cover.starts);
-        inside = inside_passes g.starts (encode trees) (λ t m. (are t (subst (λ l. t ∈ l) again m)).start_inside);
+        inside = inside_passes g.vertices (encode trees) (λ t m. (are t (subst (λ l. t ∈ l) again m)).start_inside);
         entries = named_passes (edge_count g) (encode trees) cover_named;
         trees = rw again (trees_pass g trees (λ t m. let r = are t m in (r.rising, r.no_loop, r.joined)));
         covered = rw again (covered_passes g trees cover.all_covered.covered);
-        served = rw again (served_passes g trees few cover.served_once);
       }
 
 module _ (g : Graph) (valid : Valid g) (crews : Crews) (few : crew_count crews ≤ 32) where
@@ -125,4 +122,4 @@ module _ (g : Graph) (valid : Valid g) (crews : Crews) (few : crew_count crews �
 
       other : (trees : List Tree) × IsCover g crews trees × (b ≡ encode trees) → cover_fault g crews b ≡ none
       other (trees, cover, e) =
-          rw e (passed_quiet g crews (encode trees) (cover_passes g crews trees cover (cover_fits g valid crews few trees cover) valid.copied.copies_most))
+          rw e (passed_quiet g crews (encode trees) (cover_passes g crews trees cover (cover_fits g valid crews few trees cover)))

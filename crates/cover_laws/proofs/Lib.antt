@@ -21,8 +21,6 @@ pub mod LoopTest
 pub mod TreeTest
 -- vertices (35)
 pub mod VertexTest
--- the test of the times
-pub mod TimeTest
 -- the five tests together
 pub mod PassedTests
 -- How large a cover is:
@@ -46,7 +44,3 @@ pub mod ClosedWalk
 pub mod OneCrossing
 -- the walk along a tree goes by the rule, and no other closed walk does
 pub mod OnlyWalk
--- the lines of a tree are a tree, which covers all that the tree covers but its copies
-pub mod LineTree
--- the walk along a tree that lists times
-pub mod Tours

@@ -1,7 +1,6 @@
 -- A vertex that a tree covers is within the tree's weight of the tree's start.
 -- Assumes nothing.
-use Prim.Native.Nat.{ℕ, ◌<◌}
-use native.Mathlib.Omega.{arith}
+use Prim.Native.Nat.{ℕ}
 use Rattle.graph.specs.Graph.{Graph}
 use Rattle.graph.specs.Valid.{Valid}
 use Rattle.rules.specs.Walk.{Linked}
@@ -21,11 +20,7 @@ module _ {g : Graph} {t : Tree} (tree : IsTree g t) where
   pub covered_light : {v : ℕ} → Covers g t v → LightLink g t.edges t.start v
   covered_light c = linked_light (covered_linked c)
 
-  -- A tree starts at a vertex.
-  pub start_vertex : Valid g → t.start < g.vertices
-  start_vertex valid = omega (arith, tree.start_inside, valid.copied.starts_most)
-
   -- The distance from a tree's start to whatever it covers is at most the tree's weight.
   pub covered_near : Valid g → {v : ℕ} → Covers g t v → AtMost (distance_to g t.start v) (tree_weight g t)
   unfolding tree_weight
-  covered_near valid c = let w = covered_light c in looser (distance_most valid (start_vertex valid) w.leads) w.light
+  covered_near valid c = let w = covered_light c in looser (distance_most valid tree.start_inside w.leads) w.light

@@ -19,24 +19,17 @@ fn nearer(dist: &[u32], u: usize, v: usize) -> usize
 }
 
 // A vertex of the part with this start and these edges that is nearest: the start, unless an end of an edge is nearer.
-pub fn nearest_vertex(
-    b: &[u8],
-    dist: &[u32],
-    start: usize,
-    edges: &[u16],
-    classes: &[u8],
-    copies: &[u32],
-) -> usize
-    requires { NearestGiven (graph_of b.now classes.now copies.now) dist.now start }
-    ensures { Nearest (graph_of b.now classes.now copies.now) dist.now
-        (tree_of start edges.now) result }
+pub fn nearest_vertex(b: &[u8], dist: &[u32], start: usize, edges: &[u16], classes: &[u8]) -> usize
+    requires { NearestGiven (graph_of b.now classes.now) dist.now start }
+    ensures { Nearest (graph_of b.now classes.now) dist.now (tree_of start
+        edges.now) result }
 {
     let mut v = start;
     let mut i = 0;
     while i < edges.len() {
         let e = wide(edges[i]);
-        let one = graph::one_end(b, e, classes, copies);
-        let other = graph::other_end(b, e, classes, copies);
+        let one = graph::one_end(b, e, classes);
+        let other = graph::other_end(b, e, classes);
         v = nearer(dist, v, one);
         v = nearer(dist, v, other);
         i += 1;

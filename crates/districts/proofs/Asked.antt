@@ -1,22 +1,16 @@
--- The replies of the planner can be printed: of a question that is refused none is a cover.
+-- The replies of the planner can be printed.
 -- Assumes nothing.
 use Prim.Native.Nat.{ℕ, ◌≤◌}
-use mathlib.Core.Path.{◌≡◌, refl, sym, ap, ◌∙◌}
-use mathlib.Core.List.{List, [], ◌∷◌}
-use mathlib.Core.Option.{some, none}
-use native.Mathlib.Omega.{arith}
+use mathlib.Core.List.{List}
 use lib.ListN.{length}
-use Rattle.graph.specs.Fault.{Fault, first_fault}
-use Rattle.rules.specs.Questions.{Question, graph_in, question_fault, trial_fault, within_fault, ask_trial, ask_within}
+use Rattle.graph.specs.Graph.{Graph}
+use Rattle.rules.specs.Questions.{Question, graph_in, ask_trial, ask_within}
 use Rattle.replies.specs.declared.Reply.{Reply}
-use Rattle.replies.specs.declared.Reply.TheVariants.{Cover}
 use Rattle.replies.specs.declared.Told.{Told}
-use Rattle.replies.specs.Replies.{Said, said, says}
 use Rattle.asking.specs.declared.ask.Asked.{Asked}
 use Rattle.asking.specs.declared.ask.Asked.TheVariants.{At, Within}
 use Rattle.planner.specs.Promise.{TrialPromise, WithinPromise, AskPromise}
 use Rattle.reply_text.specs.Replies.{TextAsked}
-use Rattle.gate_replies.specs.Whole.{WholeAsked}
 use Rattle.reply_text.proofs.PrintableReplies.{ask_trial_printable, ask_within_printable}
 
 module _ {q : Question} {before after : List ℕ} {r : Reply} {room : ℕ} where
@@ -41,34 +35,10 @@ module _ {q : Question} {before after : List ℕ} {t : Told} {room : ℕ} where
         enough = enough;
       }
 
-ask_text : (asked : Asked) (q : Question) (before : List ℕ) {after : List ℕ} (t : Told) {room : ℕ} → AskPromise asked q before after t → 65536 ≤ room → TextAsked (graph_in q) t.reply after room
-ask_text (At limit) q before t p enough = trial_asked p.promise enough
-ask_text (Within n) q before t p enough = within_asked p enough
-
--- A refusal says a number and no values, a cover has three.
-refused_uncovered : {n limit heaviest t : ℕ} → said 0 (limit ∷ heaviest ∷ t ∷ []) ≡ said n [] → ⊥
-refused_uncovered {limit = limit} {heaviest} {t} q = let e : limit ∷ heaviest ∷ t ∷ [] ≡ [] = ap (λ (s : Said). s.values) q in let z : ◌≡◌ {A = ℕ} 0 1 = cc in omega arith
-
-says_refused : (asked : Asked) (q : Question) (before after : List ℕ) (t : Told) → AskPromise asked q before after t → {n : ℕ} → question_fault q ≡ some n → says t.reply ≡ said n []
-unfolding first_fault trial_fault within_fault
-says_refused (At limit) q before after t p {n} e = p.promise.refuses.number n (rw e)
-says_refused (Within trials) q before after t p {n} e = p.refuses.number n (rw e)
-
-pub ask_asked : (asked : Asked) (q : Question) (before : List ℕ) {after : List ℕ} (t : Told) {room : ℕ} → AskPromise asked q before after t → 65536 ≤ room → WholeAsked q t.reply after room
-ask_asked asked q before {after} t p enough = record {
-  text = ask_text asked q before t p enough;
-  admitted = λ limit heaviest trees is. go (question_fault q) refl is;
-}
-  where
-    go : (f : Fault) → question_fault q ≡ f → {limit heaviest trees : ℕ} → t.reply ≡ Cover limit heaviest trees → question_fault q ≡ none
-    go none e is = e
-    go (some n) e is = absurd (refused_uncovered (ap says (sym is) ∙ says_refused asked q before after t p e))
+pub ask_asked : (asked : Asked) (q : Question) (before : List ℕ) {after : List ℕ} (t : Told) {room : ℕ} → AskPromise asked q before after t → 65536 ≤ room → TextAsked (graph_in q) t.reply after room
+ask_asked (At limit) q before t p enough = trial_asked p.promise enough
+ask_asked (Within n) q before t p enough = within_asked p enough
 
 -- More room does no harm.
-pub wide_asked : {q : Question} {buf : List ℕ} {reply : Reply} {room more : ℕ} → WholeAsked q reply buf room → 65536 ≤ more → WholeAsked q reply buf more
-wide_asked w enough =
-    let a = w.text in
-    record {
-      text = record { ruled = a.ruled; earlier = a.earlier; replied = a.replied; printable = a.printable; enough = enough };
-      admitted = w.admitted;
-    }
+pub wide_asked : {g : Graph} {buf : List ℕ} {reply : Reply} {room more : ℕ} → TextAsked g reply buf room → 65536 ≤ more → TextAsked g reply buf more
+wide_asked a enough = record { ruled = a.ruled; earlier = a.earlier; replied = a.replied; printable = a.printable; enough = enough }

@@ -42,4 +42,4 @@ module _ (v : Verdict) {before after : List ℕ} {r : ℕ} where
 
   pub number_put : {f : Refusal} → v ≡ Refused f → RefusalWritten (number_of f) before after r → PutTo 0 (verdict_text (says v)) before after r
   unfolding verdict_text text_of
-  number_put q p = subst (λ x. PutTo 0 (verdict_text (says x)) before after r) (sym q) (p.text (graph_of [] [] []))
+  number_put q p = subst (λ x. PutTo 0 (verdict_text (says x)) before after r) (sym q) (p.text (graph_of [] []))

@@ -3,16 +3,17 @@
 // trial, 3 rooted best, 4 unrooted best, 5 rooted check, 6 unrooted check, 7 rooted and 8 unrooted best with a number of
 // trials), k (2), the limit or the number of trials (4), how long the lent buffer is (2), whether the reply is printed
 // whole (2: 1 if it is), the length of the graph's bytes (2) and of the filed cover's (2), which lists are brought (2, a
-// bit for each: 1 the class bytes, 2 the vans, 4 the times), the length of the class list (2), of the list of vans (2)
-// and of the list of times (2), all lowest byte first, then these bytes: the graph's, the cover's, the class list, the
-// list of vans, the list of times.
+// bit for each: 1 the class bytes, 2 the vans), the length of the class list (2), of the list of vans (2) and of a list
+// to come (2, zeros), all lowest byte first, then these bytes: the graph's, the cover's, the class list, the list of
+// vans.
 // What it must print was printed by an unrelated implementation. The replies in full go to standard error, as bytes,
 // for a judge that knows which choices are free.
 mod text;
 
 ghost use Rattle.std.specs.Prelude.{◌^◌, ◌≤◌, ◌<◌, length};
+ghost use Rattle.rules.specs.Questions.{graph_in};
 ghost use Rattle.admit.specs.Crews.{asks_with};
-ghost use Rattle.gate_replies.specs.Whole.{WholeAsked};
+ghost use Rattle.reply_text.specs.Replies.{TextAsked};
 
 use admit::brought::Lists;
 use admit::crews::Kind;
@@ -34,13 +35,12 @@ fn print_reply(
     lists: Lists,
     classes: &[u8],
     vans: &[u8],
-    times: &[u8],
 )
-    requires { WholeAsked (asks_with kind k b.now lists classes.now vans.now times.now) reply buf.now 65536 }
+    requires { TextAsked (graph_in (asks_with kind k b.now lists classes.now vans.now)) reply buf.now 65536 }
 {
     let mut out = room();
     let end = write_text(
-        whole, kind, k, b, reply, buf, &mut out, lists, classes, vans, times,
+        whole, kind, k, b, reply, buf, &mut out, lists, classes, vans,
     );
     io::write_all(STDOUT_FILENO, &out[..end]);
 }
@@ -71,12 +71,11 @@ fn told_to(
     lists: Lists,
     classes: &[u8],
     vans: &[u8],
-    times: &[u8],
 ) -> Told
-    ensures { WholeAsked (asks_with kind k b.now lists classes.now vans.now
-        times.now) result.reply buf.new 65536 }
+    ensures { TextAsked (graph_in (asks_with kind k b.now lists classes.now vans.now)) result.reply
+        buf.new 65536 }
 {
-    planner::question::ask(asked, kind, k, b, buf, lists, classes, vans, times)
+    planner::question::ask(asked, kind, k, b, buf, lists, classes, vans)
 }
 
 // Asks the planner, and prints and files the reply; prints what is known besides, where that is asked for.
@@ -91,13 +90,12 @@ fn answer(
     lists: Lists,
     classes: &[u8],
     vans: &[u8],
-    times: &[u8],
 )
     requires { length buf.old ≤ 65536 }
 {
-    let told = told_to(asked, kind, k, b, buf, lists, classes, vans, times);
+    let told = told_to(asked, kind, k, b, buf, lists, classes, vans);
     let reply = told.reply;
-    print_reply(whole, kind, k, b, reply, buf, lists, classes, vans, times);
+    print_reply(whole, kind, k, b, reply, buf, lists, classes, vans);
     file_reply(reply, buf);
     if besides {
         let known = told.known;
@@ -117,7 +115,6 @@ fn ask(
     lists: Lists,
     classes: &[u8],
     vans: &[u8],
-    times: &[u8],
 )
     requires { lent < 2 ^ 16 }
 {
@@ -133,23 +130,13 @@ fn ask(
         lists,
         classes,
         vans,
-        times,
     );
 }
 
 // Asks the check, and prints its answer.
-fn check(
-    kind: Kind,
-    k: usize,
-    b: &[u8],
-    filed: &[u8],
-    lists: Lists,
-    classes: &[u8],
-    vans: &[u8],
-    times: &[u8],
-) {
+fn check(kind: Kind, k: usize, b: &[u8], filed: &[u8], lists: Lists, classes: &[u8], vans: &[u8]) {
     let mut out = room();
-    let verdict = filed::check::check(kind, k, b, filed, lists, classes, vans, times);
+    let verdict = filed::check::check(kind, k, b, filed, lists, classes, vans);
     let end = write_verdict(verdict, &mut out);
     io::write_all(STDOUT_FILENO, &out[..end]);
 }
@@ -166,7 +153,6 @@ fn answer_record(
     lists: Lists,
     classes: &[u8],
     vans: &[u8],
-    times: &[u8],
 )
     requires { (lent < 2 ^ 16) × (question < 2 ^ 16) }
 {
@@ -175,16 +161,10 @@ fn answer_record(
     let best = Asked::Within(MOST_TRIALS);
     let within = Asked::Within(limit as usize);
     match (question + 1) / 2 {
-        1 => ask(
-            at, false, whole, lent, kind, k, b, lists, classes, vans, times,
-        ),
-        2 => ask(
-            best, false, whole, lent, kind, k, b, lists, classes, vans, times,
-        ),
-        3 => check(kind, k, b, filed, lists, classes, vans, times),
-        _ => ask(
-            within, true, whole, lent, kind, k, b, lists, classes, vans, times,
-        ),
+        1 => ask(at, false, whole, lent, kind, k, b, lists, classes, vans),
+        2 => ask(best, false, whole, lent, kind, k, b, lists, classes, vans),
+        3 => check(kind, k, b, filed, lists, classes, vans),
+        _ => ask(within, true, whole, lent, kind, k, b, lists, classes, vans),
     }
 }
 
@@ -197,18 +177,11 @@ fn kind_of(question: usize) -> Kind {
 }
 
 // Reads the bytes behind a record's head.
-fn read_bytes(
-    sheet: &mut [u8],
-    filed: &mut [u8],
-    classes: &mut [u8],
-    vans: &mut [u8],
-    times: &mut [u8],
-) {
+fn read_bytes(sheet: &mut [u8], filed: &mut [u8], classes: &mut [u8], vans: &mut [u8]) {
     io::read_full(STDIN_FILENO, sheet);
     io::read_full(STDIN_FILENO, filed);
     io::read_full(STDIN_FILENO, classes);
     io::read_full(STDIN_FILENO, vans);
-    io::read_full(STDIN_FILENO, times);
 }
 
 // The lists that a number names.
@@ -216,20 +189,12 @@ fn lists_of(brought: usize) -> Lists {
     Lists {
         classes: brought % 2 == 1,
         vans: brought / 2 % 2 == 1,
-        times: brought / 4 % 2 == 1,
     }
 }
 
 // Reads the rest of a record, of which the head was read, and answers it.
-fn read_rest(
-    head: &[u8],
-    sheet: &mut [u8],
-    filed: &mut [u8],
-    classes: &mut [u8],
-    vans: &mut [u8],
-    times: &mut [u8],
-) {
-    read_bytes(sheet, filed, classes, vans, times);
+fn read_rest(head: &[u8], sheet: &mut [u8], filed: &mut [u8], classes: &mut [u8], vans: &mut [u8]) {
+    read_bytes(sheet, filed, classes, vans);
     answer_record(
         graph::u16_at(head, 0),
         graph::u16_at(head, 2),
@@ -241,7 +206,6 @@ fn read_rest(
         lists_of(graph::u16_at(head, 16)),
         classes,
         vans,
-        times,
     );
 }
 
@@ -255,19 +219,16 @@ fn answer_one() -> bool {
     let cover_length = graph::u16_at(&head, 14);
     let class_length = graph::u16_at(&head, 18);
     let van_length = graph::u16_at(&head, 20);
-    let time_length = graph::u16_at(&head, 22);
     let mut sheet = io::large_buffer();
     let mut filed = io::large_buffer();
     let mut classes = io::large_buffer();
     let mut vans = io::large_buffer();
-    let mut times = io::large_buffer();
     read_rest(
         &head,
         &mut sheet[..sheet_length],
         &mut filed[..cover_length],
         &mut classes[..class_length],
         &mut vans[..van_length],
-        &mut times[..time_length],
     );
     true
 }

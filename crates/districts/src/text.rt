@@ -1,19 +1,19 @@
 // What is printed of a reply, and of the check's answer.
 ghost use Rattle.std.specs.Prelude.{◌≤◌, length};
 ghost use Rattle.lists.specs.Put.{PutTo};
+ghost use Rattle.rules.specs.Questions.{graph_in};
 ghost use Rattle.admit.specs.Crews.{asks_with};
 ghost use Rattle.filed.specs.Promise.{says};
-ghost use Rattle.gate_replies.specs.Whole.{WholeAsked};
+ghost use Rattle.reply_text.specs.Replies.{TextAsked};
 ghost use Rattle.districts.specs.Text.{DistrictWritten, known_text, verdict_text};
 
-use admit::brought::Lists;
+use admit::brought::{Lists, read_list};
 use admit::crews::Kind;
 use filed::check::Verdict;
 use gate_replies::fixed::write_fixed;
-use gate_replies::whole::write_whole;
 use replies::{Reply, bit};
 use reply_text::lines::{put_last, put_line, put_spaced, put_word};
-use reply_text::reply::write_refused;
+use reply_text::reply::{write_refused, write_reply};
 
 // The whole text of a reply, or what the rules fix of it, as the first bytes of `out`. Says how many.
 pub(crate) fn write_text(
@@ -27,17 +27,15 @@ pub(crate) fn write_text(
     lists: Lists,
     classes: &[u8],
     vans: &[u8],
-    times: &[u8],
 ) -> usize
-    requires { WholeAsked (asks_with kind k b.now lists classes.now vans.now times.now) reply buf.now
-        (length out.old) }
-    ensures { DistrictWritten whole (asks_with kind k b.now lists classes.now
-        vans.now times.now) reply buf.now out.old out.new result }
+    requires { TextAsked (graph_in (asks_with kind k b.now lists classes.now vans.now)) reply buf.now (length out.old) }
+    ensures { DistrictWritten whole (asks_with kind k b.now lists classes.now vans.now) reply
+        buf.now out.old out.new result }
 {
     if whole {
-        return write_whole(kind, k, b, reply, buf, out, lists, classes, vans, times);
+        return write_reply(b, reply, buf, out, read_list(lists.classes, classes));
     }
-    write_fixed(kind, k, b, reply, buf, out, lists, classes, vans, times)
+    write_fixed(kind, k, b, reply, buf, out, lists, classes, vans)
 }
 
 // `known` trials floor, and 1 where they are spent, 0 where not, as the first bytes of `out`. Says how many.

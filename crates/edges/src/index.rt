@@ -11,9 +11,8 @@ pub fn wide(x: u16) -> usize
 }
 
 // The weight of an edge; 0 past the last edge.
-pub fn weight_of(b: &[u8], e: u16, classes: &[u8], copies: &[u32]) -> u64
-    ensures { Reads (weight_of (graph_of b.now classes.now copies.now) e) (2 ^ 33)
-        result }
+pub fn weight_of(b: &[u8], e: u16, classes: &[u8]) -> u64
+    ensures { Reads (weight_of (graph_of b.now classes.now) e) (2 ^ 33) result }
 {
-    graph::weight(b, wide(e), classes, copies)
+    graph::weight(b, wide(e), classes)
 }

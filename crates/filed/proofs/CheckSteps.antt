@@ -13,7 +13,7 @@ use Rattle.graph.proofs.Faults.{one_fault}
 use Rattle.graph.specs.Fault.{fault_unless, first_fault, refused_or}
 use Rattle.rules.specs.Cover.{Crews, heaviest}
 use Rattle.rules.specs.CoverBytes.{cover_length, decode}
-use Rattle.rules.specs.CheckCover.{starts_right, starts_below, entries_right, trees_right, vertices_covered, times_served, cover_fault}
+use Rattle.rules.specs.CheckCover.{starts_right, starts_below, entries_right, trees_right, vertices_covered, cover_fault}
 use Rattle.rules.specs.Reply as reply
 use Rattle.rules.specs.Questions.{Question, graph_in, crews_in, question_fault, check_fault, ask_check}
 use Rattle.rules.proofs.Fields.{Bytes}
@@ -36,8 +36,8 @@ module _ (g : Graph) (crews : Crews) (c : List ℕ) where
 
     module _ (q : length c ≡ cover_length c) where
       -- What is tried after the length.
-      sized : answer g c (first_fault (fault_unless (starts_right crews c && starts_below g.starts c) 32
-          ∷ fault_unless (entries_right (edge_count g) c) 33 ∷ fault_unless (trees_right g (decode c)) 34 ∷ fault_unless (vertices_covered g (decode c) && times_served g (decode c)) 35 ∷ []))
+      sized : answer g c (first_fault (fault_unless (starts_right crews c && starts_below g.vertices c) 32
+          ∷ fault_unless (entries_right (edge_count g) c) 33 ∷ fault_unless (trees_right g (decode c)) 34 ∷ fault_unless (vertices_covered g (decode c)) 35 ∷ []))
           ≡ answer g c (cover_fault g crews c)
       unfolding cover_fault first_fault fault_unless refused_or
       sized = rw (le-leb 4 (length c) h, eq-eqb (length c) (cover_length c) q)
@@ -48,17 +48,17 @@ module _ (g : Graph) (crews : Crews) (c : List ℕ) where
       other_starts s = rw s at sized
 
       module _ (s : starts_right crews c ≡ true) where
-        pub starts_above : starts_below g.starts c ≡ false → reply.number 32 ≡ answer g c (cover_fault g crews c)
+        pub starts_above : starts_below g.vertices c ≡ false → reply.number 32 ≡ answer g c (cover_fault g crews c)
         unfolding first_fault fault_unless refused_or
         starts_above b = rw (s, b) at sized
 
-        module _ (b : starts_below g.starts c ≡ true) where
+        module _ (b : starts_below g.vertices c ≡ true) where
           -- 33
           pub entries_wrong : entries_right (edge_count g) c ≡ false → reply.number 33 ≡ answer g c (cover_fault g crews c)
           unfolding first_fault fault_unless refused_or
           entries_wrong t = rw (s, b, t) at sized
 
-          -- The trees, the vertices and the times decide.
+          -- The trees and the vertices decide.
           pub entries_pass : entries_right (edge_count g) c ≡ true → answer g c (trees_fault g c) ≡ answer g c (cover_fault g crews c)
           unfolding trees_fault first_fault fault_unless refused_or
           entries_pass t = rw (s, b, t) at sized
@@ -74,14 +74,9 @@ module _ (g : Graph) (c : List ℕ) where
     unfolding trees_fault first_fault fault_unless refused_or
     vertex_uncovered u = rw (t, u)
 
-    module _ (u : vertices_covered g (decode c) ≡ true) where
-      pub time_unserved : times_served g (decode c) ≡ false → reply.number 35 ≡ answer g c (trees_fault g c)
-      unfolding trees_fault first_fault fault_unless refused_or
-      time_unserved v = rw (t, u, v)
-
-      pub all_pass : times_served g (decode c) ≡ true → reply.yes (heaviest g (decode c)) ≡ answer g c (trees_fault g c)
-      unfolding trees_fault first_fault fault_unless refused_or
-      all_pass v = rw (t, u, v)
+    pub all_pass : vertices_covered g (decode c) ≡ true → reply.yes (heaviest g (decode c)) ≡ answer g c (trees_fault g c)
+    unfolding trees_fault first_fault fault_unless refused_or
+    all_pass u = rw (t, u)
 
 -- The question: what every question brings comes first, then the cover's bytes.
 module _ (q : Question) (c : List ℕ) where

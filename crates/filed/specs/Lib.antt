@@ -3,7 +3,5 @@
 pub mod Parents
 -- one tree and its run of entries
 pub mod Trees
--- a question that brings times
-pub mod Timed
 -- what the check promises
 pub mod Promise

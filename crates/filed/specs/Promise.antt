@@ -1,11 +1,11 @@
 -- What the check of a filed cover promises on every input.
 -- Assumes nothing.
-use Rattle.std.specs.Prelude.{ℕ, ◌≡◌, ◌&&◌, ◌↔◌, List, [], ◌∷◌}
+use Rattle.std.specs.Prelude.{ℕ, ◌≡◌, ◌↔◌, List, [], ◌∷◌}
 use Rattle.graph.specs.Graph.{Graph}
 use Rattle.graph.specs.Fault.{Fault, fault_unless, first_fault, refused_or}
 use Rattle.rules.specs.Cover as cover
 use Rattle.rules.specs.CoverBytes.{decode}
-use Rattle.rules.specs.CheckCover.{trees_right, vertices_covered, times_served}
+use Rattle.rules.specs.CheckCover.{trees_right, vertices_covered}
 use Rattle.rules.specs.Reply as reply
 use Rattle.rules.specs.Questions.{Question, ask_check}
 use Rattle.rules.specs.Filed.{Filed}
@@ -31,7 +31,7 @@ answer g c fault = refused_or reply.number fault (reply.yes (cover.heaviest g (d
 unfoldable pub trees_fault : Graph → List ℕ → Fault
 trees_fault g c =
     let trees = decode c in
-    first_fault (fault_unless (trees_right g trees) 34 ∷ fault_unless (vertices_covered g trees && times_served g trees) 35 ∷ [])
+    first_fault (fault_unless (trees_right g trees) 34 ∷ fault_unless (vertices_covered g trees) 35 ∷ [])
 
 -- The answer is that of document 01's rules, and it is yes exactly where the bytes are those of a cover by the crews, with its heaviest weight.
 pub record CheckPromise (q : Question) (c : List ℕ) (r : Verdict) : Type 0 where

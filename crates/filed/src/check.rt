@@ -1,5 +1,5 @@
-// The check of a filed cover: the graph's bytes (11 to 16), the class list (53, 54), the list of times (57 to 59), the
-// crews (21) and the list of their roots (55), then the cover's bytes (31 to 35), in that order.
+// The check of a filed cover: the graph's bytes (11 to 16), the class list (53, 54), the crews (21) and the list of
+// their roots (55), then the cover's bytes (31 to 35), in that order.
 ghost use Rattle.std.specs.Prelude.{◌≡◌};
 ghost use Rattle.graph.specs.Bytes.{graph_of};
 ghost use Rattle.graph.specs.Valid.{Valid};
@@ -7,20 +7,17 @@ ghost use Rattle.rules.specs.CheckCover.{starts_right, cover_fault};
 ghost use Rattle.cover.specs.Runs.{CoverGiven};
 ghost use Rattle.admit.specs.Brought.{brought};
 ghost use Rattle.admit.specs.Crews.{asks, asks_with, crews_of};
-ghost use Rattle.filed.specs.Timed.{timed_graph, TimedGiven};
 ghost use Rattle.filed.specs.Promise.{says, number_or0, answer, trees_fault, CheckPromise};
 
 use crate::trees::trees_right;
 use admit::Admitted;
-use admit::brought::{Lists, NO_LISTS, read_list};
+use admit::brought::{Lists, NO_LISTS};
 use admit::crews::Kind;
 use admit::refusal::Refusal;
-use admit::times::put_copies;
 use cover::heaviest::heaviest_tree;
 use cover::read::cover_length;
 use filed_entries::entries::entries_right;
 use filed_entries::starts::{starts_at_most, starts_at_roots, starts_below};
-use filed_entries::times::times_served;
 use filed_entries::vertices::vertices_covered;
 
 // What the check answers.
@@ -52,27 +49,23 @@ fn starts_right(kind: Kind, k: usize, c: &[u8], given: bool, vans: &[u8]) -> boo
     }
 }
 
-// The check of the trees, the vertices and the times, where starts and entries passed their tests.
-fn check_trees(b: &[u8], c: &[u8], classes: &[u8], copies: &[u32]) -> Verdict
-    requires { CoverGiven (graph_of b.now classes.now copies.now) c.now }
-    ensures { says result ≡ answer (graph_of b.now classes.now copies.now)
-        c.now (trees_fault (graph_of b.now classes.now copies.now)
-        c.now) }
+// The check of the trees and the vertices, where starts and entries passed their tests.
+fn check_trees(b: &[u8], c: &[u8], classes: &[u8]) -> Verdict
+    requires { CoverGiven (graph_of b.now classes.now) c.now }
+    ensures { says result ≡ answer (graph_of b.now classes.now) c.now
+        (trees_fault (graph_of b.now classes.now) c.now) }
 {
     let mut parents = [0u8; 256];
-    if !trees_right(b, c, &mut parents, classes, copies) {
+    if !trees_right(b, c, &mut parents, classes) {
         return Verdict::Refused(Refusal::Trees);
     }
-    if !vertices_covered(b, c, classes, copies) {
+    if !vertices_covered(b, c, classes) {
         return Verdict::Refused(Refusal::Vertices);
     }
-    if !times_served(b, c, classes, copies) {
-        return Verdict::Refused(Refusal::Vertices);
-    }
-    Verdict::Yes(heaviest_tree(b, c, classes, copies))
+    Verdict::Yes(heaviest_tree(b, c, classes))
 }
 
-// The check of the cover's bytes, for a graph. It is called at three places, and so compiled apart from the test of the
+// The check of the cover's bytes, for a graph. It is called at two places, and so compiled apart from the test of the
 // question: in one function with it, it is slower.
 fn check_filed(
     kind: Kind,
@@ -80,13 +73,12 @@ fn check_filed(
     b: &[u8],
     c: &[u8],
     classes: &[u8],
-    copies: &[u32],
     given: bool,
     vans: &[u8],
 ) -> Verdict
-    requires { Valid (graph_of b.now classes.now copies.now) }
-    ensures { says result ≡ answer (graph_of b.now classes.now copies.now)
-        c.now (cover_fault (graph_of b.now classes.now copies.now)
+    requires { Valid (graph_of b.now classes.now) }
+    ensures { says result ≡ answer (graph_of b.now classes.now) c.now
+        (cover_fault (graph_of b.now classes.now)
         (crews_of kind k (brought given vans.now)) c.now) }
 {
     if c.len() < 4 {
@@ -98,36 +90,13 @@ fn check_filed(
     if !starts_right(kind, k, c, given, vans) {
         return Verdict::Refused(Refusal::Starts);
     }
-    if !starts_below(c, graph::sheet_vertices(b)) {
+    if !starts_below(c, graph::vertex_count(b, classes)) {
         return Verdict::Refused(Refusal::Starts);
     }
-    if !entries_right(c, graph::edge_count(b, classes, copies)) {
+    if !entries_right(c, graph::edge_count(b, classes)) {
         return Verdict::Refused(Refusal::Entries);
     }
-    check_trees(b, c, classes, copies)
-}
-
-// The same for a question that brings times. The copies are written down here, so that a question without times needs no
-// room for them.
-fn check_timed(
-    kind: Kind,
-    k: usize,
-    b: &[u8],
-    c: &[u8],
-    classes: &[u8],
-    given: bool,
-    vans: &[u8],
-    times: &[u8],
-) -> Verdict
-    requires { TimedGiven b.now classes.now times.now }
-    ensures { says result ≡ answer (timed_graph b.now classes.now times.now)
-        c.now (cover_fault (timed_graph b.now classes.now times.now)
-        (crews_of kind k (brought given vans.now)) c.now) }
-{
-    let mut room = [0u32; 128];
-    let count = put_copies(graph::sheet_vertices(b), times, &mut room);
-    let copies = &room[..count];
-    check_filed(kind, k, b, c, classes, copies, given, vans)
+    check_trees(b, c, classes)
 }
 
 // The check, of a question with the lists that are brought: whether c is the bytes of a cover of the graph by the
@@ -140,30 +109,17 @@ pub fn check(
     lists: Lists,
     classes: &[u8],
     vans: &[u8],
-    times: &[u8],
 ) -> Verdict
-    ensures { CheckPromise (asks_with kind k b.now lists classes.now vans.now
-        times.now) c.now result }
+    ensures { CheckPromise (asks_with kind k b.now lists classes.now vans.now)
+        c.now result }
 {
-    match admit::admit(kind, k, b, lists, classes, vans, times) {
+    match admit::admit(kind, k, b, lists, classes, vans) {
         Admitted::Refused(f) => Verdict::Refused(f),
         Admitted::Fits => {
-            if lists.times {
-                return check_timed(
-                    kind,
-                    k,
-                    b,
-                    c,
-                    read_list(lists.classes, classes),
-                    lists.vans,
-                    vans,
-                    times,
-                );
-            }
             if lists.classes {
-                return check_filed(kind, k, b, c, classes, &[], lists.vans, vans);
+                return check_filed(kind, k, b, c, classes, lists.vans, vans);
             }
-            check_filed(kind, k, b, c, &[], &[], lists.vans, vans)
+            check_filed(kind, k, b, c, &[], lists.vans, vans)
         }
     }
 }
@@ -172,5 +128,5 @@ pub fn check(
 pub fn check_cover(kind: Kind, k: usize, b: &[u8], c: &[u8]) -> Verdict
     ensures { CheckPromise (asks kind k b.now) c.now result }
 {
-    check(kind, k, b, c, NO_LISTS, &[], &[], &[])
+    check(kind, k, b, c, NO_LISTS, &[], &[])
 }

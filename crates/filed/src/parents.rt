@@ -42,13 +42,13 @@ pub fn stands_for(parents: &mut [u8], v: usize) -> usize
 
 // Joins the ends of edge e, and says whether they were not yet joined: the higher of the two that stand for them takes
 // the lower for its parent.
-pub fn join_ends(b: &[u8], e: usize, parents: &mut [u8], classes: &[u8], copies: &[u32]) -> bool
-    requires { Joinable (graph_of b.now classes.now copies.now) parents.old }
-    ensures { EndsJoined (graph_of b.now classes.now copies.now) e
-        parents.old parents.new result }
+pub fn join_ends(b: &[u8], e: usize, parents: &mut [u8], classes: &[u8]) -> bool
+    requires { Joinable (graph_of b.now classes.now) parents.old }
+    ensures { EndsJoined (graph_of b.now classes.now) e parents.old
+        parents.new result }
 {
-    let u = stands_for(parents, graph::one_end(b, e, classes, copies));
-    let v = stands_for(parents, graph::other_end(b, e, classes, copies));
+    let u = stands_for(parents, graph::one_end(b, e, classes));
+    let v = stands_for(parents, graph::other_end(b, e, classes));
     if u == v {
         return false;
     }

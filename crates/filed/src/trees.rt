@@ -20,15 +20,14 @@ fn run_loop_free(
     to: usize,
     parents: &mut [u8],
     classes: &[u8],
-    copies: &[u32],
 ) -> bool
-    requires { (from ≤ to) × Joinable (graph_of b.now classes.now copies.now) parents.old }
-    ensures { RunTaken (graph_of b.now classes.now copies.now) c.now
-        from to parents.old parents.new result }
+    requires { (from ≤ to) × Joinable (graph_of b.now classes.now) parents.old }
+    ensures { RunTaken (graph_of b.now classes.now) c.now from to
+        parents.old parents.new result }
 {
     let mut i = from;
     while i < to {
-        if !join_ends(b, entry_edge(c, i), parents, classes, copies) {
+        if !join_ends(b, entry_edge(c, i), parents, classes) {
             return false;
         }
         i += 1;
@@ -45,17 +44,16 @@ fn run_joined(
     start: usize,
     parents: &mut [u8],
     classes: &[u8],
-    copies: &[u32],
 ) -> bool
-    requires { (start < (graph_of b.now classes.now copies.now).vertices)
-        × Joinable (graph_of b.now classes.now copies.now) parents.old }
-    ensures { RunJoined (graph_of b.now classes.now copies.now) c.now
-        from to start parents.old parents.new result }
+    requires { (start < (graph_of b.now classes.now).vertices) × Joinable (graph_of b.now classes.now)
+        parents.old }
+    ensures { RunJoined (graph_of b.now classes.now) c.now from to start
+        parents.old parents.new result }
 {
     let home = stands_for(parents, start);
     let mut i = from;
     while i < to {
-        let u = graph::one_end(b, entry_edge(c, i), classes, copies);
+        let u = graph::one_end(b, entry_edge(c, i), classes);
         if stands_for(parents, u) != home {
             return false;
         }
@@ -73,10 +71,9 @@ fn tree_right(
     to: usize,
     parents: &mut [u8],
     classes: &[u8],
-    copies: &[u32],
 ) -> bool
-    requires { TreeGiven (graph_of b.now classes.now copies.now) c.now j from to parents.old }
-    ensures { TreeTold (graph_of b.now classes.now copies.now) (record {
+    requires { TreeGiven (graph_of b.now classes.now) c.now j from to parents.old }
+    ensures { TreeTold (graph_of b.now classes.now) (record {
       start = start_in c.now j;
       edges = run_edges
           c.now from to;
@@ -84,24 +81,24 @@ fn tree_right(
         parents.old parents.new result }
 {
     set_apart(parents);
-    if !run_loop_free(b, c, from, to, parents, classes, copies) {
+    if !run_loop_free(b, c, from, to, parents, classes) {
         return false;
     }
-    run_joined(b, c, from, to, start_in(c, j), parents, classes, copies)
+    run_joined(b, c, from, to, start_in(c, j), parents, classes)
 }
 
 // Says whether every tree is so. The parents are scratch.
-pub fn trees_right(b: &[u8], c: &[u8], parents: &mut [u8], classes: &[u8], copies: &[u32]) -> bool
-    requires { TreesGiven (graph_of b.now classes.now copies.now) c.now parents.old }
-    ensures { TreesTold (graph_of b.now classes.now copies.now) (decode
-        c.now) parents.old parents.new result }
+pub fn trees_right(b: &[u8], c: &[u8], parents: &mut [u8], classes: &[u8]) -> bool
+    requires { TreesGiven (graph_of b.now classes.now) c.now parents.old }
+    ensures { TreesTold (graph_of b.now classes.now) (decode c.now)
+        parents.old parents.new result }
 {
     let t = trees_in(c);
     let mut from = 0;
     let mut j = 0;
     while j < t {
         let to = run_end(c, j, from);
-        if !tree_right(b, c, j, from, to, parents, classes, copies) {
+        if !tree_right(b, c, j, from, to, parents, classes) {
             return false;
         }
         from = to;

@@ -5,5 +5,3 @@ pub mod EntryTests
 pub mod StartTests
 -- marks, vertex by vertex
 pub mod Marking
--- times listed in the entries
-pub mod TimesListed

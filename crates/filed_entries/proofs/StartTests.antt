@@ -9,6 +9,7 @@ use native.Mathlib.Omega.{arith}
 use lib.ListN.{length, get_or}
 use lib.Dec.{eqb, leb, ltb}
 use borrow.Author.Tests.{ltb-true, lt-ltb, le-ltb, le-leb, lt-leb, eq-eqb, ne_eqb}
+use Rattle.lists.specs.Count.{below}
 use Rattle.lists.proofs.AllBelow.{all_below, not_below, each_below}
 use Rattle.rules.specs.Cover.{rooted, unrooted}
 use Rattle.rules.specs.CoverBytes.{trees_in, start_in}
@@ -64,7 +65,3 @@ module _ (b : List ℕ) where
     pub all_starts : ((j : ℕ) → j < trees_in b → start_in b j < n) → starts_below n b ≡ true
     unfolding starts_below
     all_starts h = all_below (λ k. ltb (start_in b k) n) (trees_in b) (λ j l. lt-ltb (start_in b j) n (h j l))
-
-  -- Starts that pass below n pass below any more.
-  pub starts_below_more : {n m : ℕ} → n ≤ m → starts_below n b ≡ true → starts_below m b ≡ true
-  starts_below_more {n} {m} h t = all_starts m (λ j l. omega (arith, start_passed n t j l))

@@ -1,5 +1,3 @@
 -- What the contracts of `filed_entries` say, in reading order.
 -- marked vertices
 pub mod Vertices
--- times listed in the entries
-pub mod Times

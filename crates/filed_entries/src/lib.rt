@@ -1,7 +1,5 @@
-// The tests of a filed cover that look at single starts, entries, vertices and times (document 01, 32, 33 and 35, and
-// document 02, A.7).
+// The tests of a filed cover that look at single starts, entries and vertices (document 01, 32, 33 and 35).
 // The words of the contracts stand in specs/ and in the definitions of `rules`.
 pub mod entries;
 pub mod starts;
-pub mod times;
 pub mod vertices;

@@ -1,5 +1,4 @@
-// The starts of a filed cover (32): as many as the crews may have, each where its crew begins, each a vertex
-// where a tree may start.
+// The starts of a filed cover (32): as many as the crews may have, each where its crew begins, each a vertex.
 ghost use Rattle.std.specs.Prelude.{◌≡◌};
 ghost use Rattle.rules.specs.Cover.{rooted, unrooted};
 ghost use Rattle.rules.specs.CheckCover.{starts_right, starts_below};

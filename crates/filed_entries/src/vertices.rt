@@ -25,17 +25,17 @@ fn mark_starts(c: &[u8], marks: &mut [u8])
 }
 
 // Marks both ends of each entry's edge.
-fn mark_ends(b: &[u8], c: &[u8], marks: &mut [u8], classes: &[u8], copies: &[u32])
-    requires { Labelable (graph_of b.now classes.now copies.now) marks.old }
-    ensures { EndsMarked (graph_of b.now classes.now copies.now) c.now
-        (entries_in c.now) marks.old marks.new }
+fn mark_ends(b: &[u8], c: &[u8], marks: &mut [u8], classes: &[u8])
+    requires { Labelable (graph_of b.now classes.now) marks.old }
+    ensures { EndsMarked (graph_of b.now classes.now) c.now (entries_in
+        c.now) marks.old marks.new }
 {
     let q = entries_in(c);
     let mut i = 0;
     while i < q {
         let e = entry_edge(c, i);
-        let u = graph::one_end(b, e, classes, copies);
-        let v = graph::other_end(b, e, classes, copies);
+        let u = graph::one_end(b, e, classes);
+        let v = graph::other_end(b, e, classes);
         marks[u] = 1;
         marks[v] = 1;
         i += 1;
@@ -43,13 +43,12 @@ fn mark_ends(b: &[u8], c: &[u8], marks: &mut [u8], classes: &[u8], copies: &[u32
 }
 
 // Says whether each vertex is covered.
-pub fn vertices_covered(b: &[u8], c: &[u8], classes: &[u8], copies: &[u32]) -> bool
-    requires { CoverGiven (graph_of b.now classes.now copies.now) c.now }
-    ensures { result ≡ vertices_covered (graph_of b.now classes.now copies.now) (decode
-        c.now) }
+pub fn vertices_covered(b: &[u8], c: &[u8], classes: &[u8]) -> bool
+    requires { CoverGiven (graph_of b.now classes.now) c.now }
+    ensures { result ≡ vertices_covered (graph_of b.now classes.now) (decode c.now) }
 {
     let mut marks = [0u8; 256];
     mark_starts(c, &mut marks);
-    mark_ends(b, c, &mut marks, classes, copies);
-    all_marked(&marks, graph::vertex_count(b, classes, copies))
+    mark_ends(b, c, &mut marks, classes);
+    all_marked(&marks, graph::vertex_count(b, classes))
 }

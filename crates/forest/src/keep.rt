@@ -5,21 +5,19 @@ ghost use Rattle.forest.specs.Keeping.{Labelable, Keepable, KeptWritten};
 
 use crate::labels::merge_labels;
 use edges::index::wide;
-use graph::times;
 
 // Joins the ends of edge e, and says whether they were not yet joined. Where they were, no label changes.
-pub fn join_ends(b: &[u8], e: usize, label: &mut [u16], classes: &[u8], copies: &[u32]) -> bool
-    requires { Labelable (graph_of b.now classes.now copies.now) label.old }
-    ensures { Joined (graph_of b.now classes.now copies.now) e
-        label.old label.new result }
+pub fn join_ends(b: &[u8], e: usize, label: &mut [u16], classes: &[u8]) -> bool
+    requires { Labelable (graph_of b.now classes.now) label.old }
+    ensures { Joined (graph_of b.now classes.now) e label.old label.new
+        result }
 {
-    let n = graph::vertex_count(b, classes, copies);
-    let m = graph::edge_count(b, classes, copies);
-    let u = times::one_end(b, n, m, e, classes, copies);
-    let v = times::other_end(b, n, m, e, classes, copies);
+    let u = graph::one_end(b, e, classes);
+    let v = graph::other_end(b, e, classes);
     if label[u] == label[v] {
         return false;
     }
+    let n = graph::vertex_count(b, classes);
     merge_labels(label, n, u, v);
     true
 }
@@ -32,18 +30,17 @@ pub fn keep_edges(
     label: &mut [u16],
     kept: &mut [u16],
     classes: &[u8],
-    copies: &[u32],
 ) -> usize
-    requires { Keepable (graph_of b.now classes.now copies.now) label.old kept.old }
-    ensures { KeptWritten (graph_of b.now classes.now copies.now)
-        edges.now label.old label.new kept.old kept.new result }
+    requires { Keepable (graph_of b.now classes.now) label.old kept.old }
+    ensures { KeptWritten (graph_of b.now classes.now) edges.now
+        label.old label.new kept.old kept.new result }
 {
     let mut r = 0;
     let mut i = 0;
     while i < edges.len() {
         let e = edges[i];
         i += 1;
-        if !join_ends(b, wide(e), label, classes, copies) {
+        if !join_ends(b, wide(e), label, classes) {
             continue;
         }
         kept[r] = e;

@@ -31,7 +31,7 @@ module _ (g : Graph) (root : ℕ) (union : List ℕ) where
   union_spans = thinned_spans g union
 
   -- it is a tree, where the union's edges are linked to the root
-  pub union_is_tree : root < g.starts → ((e : ℕ) → e ∈ union → Linked g union root (one_end g e)) → IsTree g (union_tree g root union)
+  pub union_is_tree : root < g.vertices → ((e : ℕ) → e ∈ union → Linked g union root (one_end g e)) → IsTree g (union_tree g root union)
   unfolding union_tree
   union_is_tree inside hangs = record {
     start_inside = inside;

@@ -7,8 +7,6 @@ pub mod FillLaws
 pub mod BehindRoom
 -- replies in full: what they write, and how long what they say is
 pub mod FullReplies
--- the text of a reply that is no cover has nothing of the graph
-pub mod ShortTexts
 -- how long the lines are of what the rules fix
 pub mod FixedLines
 -- what is written of a reply, reply by reply, and that it fits

@@ -5,5 +5,3 @@ pub mod Fields
 pub mod Full
 -- what the rules fix of a reply, as text
 pub mod Fixed
--- what the whole text of a reply asks
-pub mod Whole

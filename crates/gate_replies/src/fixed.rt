@@ -8,7 +8,7 @@ ghost use Rattle.filed.specs.Promise.{says};
 ghost use Rattle.reply_text.specs.Replies.{TextAsked};
 ghost use Rattle.gate_replies.specs.Fixed.{is_yes, confirmed, yes_word, sure_line, FixedWritten};
 
-use admit::brought::Lists;
+use admit::brought::{Lists, read_list};
 use admit::crews::Kind;
 use cover::read::cover_length;
 use filed::check::{Verdict, check};
@@ -36,12 +36,11 @@ fn confirms(
     lists: Lists,
     classes: &[u8],
     vans: &[u8],
-    times: &[u8],
 ) -> bool
-    ensures { result ≡ confirmed (asks_with kind k b.now lists classes.now vans.now
-        times.now) c.now heaviest }
+    ensures { result ≡ confirmed (asks_with kind k b.now lists classes.now vans.now) c.now
+        heaviest }
 {
-    is_yes(check(kind, k, b, c, lists, classes, vans, times), heaviest)
+    is_yes(check(kind, k, b, c, lists, classes, vans), heaviest)
 }
 
 // A space and `yes` or `no`, from a place on.
@@ -77,34 +76,22 @@ pub fn write_fixed(
     lists: Lists,
     classes: &[u8],
     vans: &[u8],
-    times: &[u8],
 ) -> usize
-    requires { TextAsked (graph_in (asks_with kind k b.now lists classes.now vans.now times.now)) reply buf.now
-        (length out.old) }
-    ensures { FixedWritten (asks_with kind k b.now lists classes.now vans.now
-        times.now) reply buf.now out.old out.new result }
+    requires { TextAsked (graph_in (asks_with kind k b.now lists classes.now vans.now)) reply buf.now (length out.old) }
+    ensures { FixedWritten (asks_with kind k b.now lists classes.now vans.now) reply
+        buf.now out.old out.new result }
 {
     match reply {
         Reply::Cover(limit, heaviest, t) => {
             let end = cover_length(buf);
-            let sure = confirms(
-                kind,
-                k,
-                b,
-                &buf[..end],
-                heaviest,
-                lists,
-                classes,
-                vans,
-                times,
-            );
+            let sure = confirms(kind, k, b, &buf[..end], heaviest, lists, classes, vans);
             return write_sure(limit, sure, t as u64, out);
         }
         Reply::Parts(_, _) => {
             return put_word(b"too low parts\n", out, 0);
         }
         _ => {
-            return write_reply(b, reply, buf, out, &[], &[]);
+            return write_reply(b, reply, buf, out, read_list(lists.classes, classes));
         }
     }
 }

@@ -7,14 +7,10 @@ pub mod Decoded
 pub mod Faults
 -- of a valid graph, the ranges that callers use
 pub mod Ranges
--- a graph without copies
-pub mod Plain
 -- weights by class
 pub mod Adjusted
 -- a graph with its weights by class
 pub mod Surfaced
--- a graph with copies behind its vertices
-pub mod Timed
 -- a view shows its own bytes
 pub mod Viewed
 -- the walk of a reader through a view

@@ -10,12 +10,11 @@ use lib.ListN.{length, get_or, get_or-eq_default}
 use Rattle.lists.proofs.Runs.{length_map_below, get_or_map_below, map_below}
 use Rattle.graph.specs.Graph.{Edge, Graph, edge_count, no_edge, edge_at, one_end, other_end, weight_of}
 use Rattle.graph.specs.Surface.{percent_of, adjusted, class_at, with_class, surfaced}
-use Rattle.graph.specs.Bytes.{sheet_graph, surfaced_graph}
-use Rattle.graph.specs.Valid.{ValidEdge, Valid}
+use Rattle.graph.specs.Bytes.{sheet_graph, graph_of}
+use Rattle.graph.specs.Valid.{Valid}
 use Rattle.graph.specs.View.{CountsOf}
 use Rattle.graph.proofs.Adjusted.{adjusted_most, adjusted_same}
 use Rattle.graph.proofs.Decoded.{edge_past}
-use Rattle.graph.proofs.Plain.{plain_copied, sheet_plain}
 
 -- Past the list's end a class counts 100 percent, so that the weight stays.
 pub past_same : (weight : ℕ) (classes : List ℕ) (e : ℕ) → length classes ≤ e → adjusted weight (class_at classes e) ≡ weight
@@ -33,10 +32,6 @@ module _ (g : Graph) (classes : List ℕ) where
   pub vertices_same : (surfaced g classes).vertices ≡ g.vertices
   unfolding surfaced
   vertices_same = refl
-
-  pub starts_same : (surfaced g classes).starts ≡ g.starts
-  unfolding surfaced
-  starts_same = refl
 
   pub edge_count_same : edge_count (surfaced g classes) ≡ edge_count g
   unfolding surfaced
@@ -63,64 +58,57 @@ module _ (g : Graph) (classes : List ℕ) where
   pub weight_adjusted : (e : ℕ) → weight_of (surfaced g classes) e ≡ adjusted (weight_of g e) (class_at classes e)
   weight_adjusted e = ap (λ (x : Edge). x.weight) (edge_surfaced e)
 
-  -- It is valid where no weight is too large, and there are no copies.
-  pub surfaced_valid : Valid g → g.starts ≡ g.vertices → ((e : ℕ) → e < edge_count (surfaced g classes) → weight_of (surfaced g classes) e ≤ 1000000) → Valid (surfaced g classes)
-  surfaced_valid v plain most =
-      let each : (e : ℕ) → e < edge_count (surfaced g classes) → ValidEdge (surfaced g classes).vertices (edge_at (surfaced g classes) e) = λ e h.
-      let l : e < edge_count g = omega (arith, edge_count_same) in
-      let x = v.each_edge e l in
-      record {
-        one_end = rw (vertices_same, one_end_same e) x.one_end;
-        other_end = rw (vertices_same, other_end_same e) x.other_end;
-        no_loop = rw (one_end_same e, other_end_same e) x.no_loop;
-        weight_most = most e h;
-      } in
+  -- It is valid where no weight is too large.
+  pub surfaced_valid : Valid g → ((e : ℕ) → e < edge_count (surfaced g classes) → weight_of (surfaced g classes) e ≤ 1000000) → Valid (surfaced g classes)
+  surfaced_valid v most =
       record {
         vertices_some = rw vertices_same v.vertices_some;
         vertices_most = rw vertices_same v.vertices_most;
         edges_most = rw edge_count_same v.edges_most;
-        each_edge = each;
-        copied = plain_copied (surfaced g classes) (starts_same ∙ plain ∙ sym vertices_same) (rw vertices_same v.vertices_some) each;
+        each_edge = λ e h.
+            let l : e < edge_count g = omega (arith, edge_count_same) in
+            let x = v.each_edge e l in
+            record {
+              one_end = rw (vertices_same, one_end_same e) x.one_end;
+              other_end = rw (vertices_same, other_end_same e) x.other_end;
+              no_loop = rw (one_end_same e, other_end_same e) x.no_loop;
+              weight_most = most e h;
+            };
       }
 
 -- Without a class list the graph is as it was.
 plain_same : (g : Graph) → surfaced g [] ≡ g
 unfolding surfaced
 plain_same g =
-    ap (λ (es : List Edge). record { vertices = g.vertices; edges = es; starts = g.starts }) (map_below (λ e. with_class (edge_at g e) (class_at [] e)) no_edge g.edges
+    ap (λ (es : List Edge). record { vertices = g.vertices; edges = es }) (map_below (λ e. with_class (edge_at g e) (class_at [] e)) no_edge g.edges
     (λ e h. ap (λ (w : ℕ). record { one = one_end g e; other = other_end g e; weight = w }) (past_same (weight_of g e) [] e (omega arith))))
 
 -- The graph that a sheet and its classes spell: counts and ends are the sheet's.
 module _ (b classes : List ℕ) where
-  pub vertices_sheet : (surfaced_graph b classes).vertices ≡ (sheet_graph b).vertices
-  unfolding surfaced_graph
+  pub vertices_sheet : (graph_of b classes).vertices ≡ (sheet_graph b).vertices
+  unfolding graph_of
   vertices_sheet = vertices_same (sheet_graph b) classes
 
-  -- A tree may start at every vertex.
-  pub plain_surfaced : (surfaced_graph b classes).starts ≡ (surfaced_graph b classes).vertices
-  unfolding surfaced_graph
-  plain_surfaced = starts_same (sheet_graph b) classes ∙ sheet_plain b ∙ sym (vertices_same (sheet_graph b) classes)
-
-  pub edge_count_sheet : edge_count (surfaced_graph b classes) ≡ edge_count (sheet_graph b)
-  unfolding surfaced_graph
+  pub edge_count_sheet : edge_count (graph_of b classes) ≡ edge_count (sheet_graph b)
+  unfolding graph_of
   edge_count_sheet = edge_count_same (sheet_graph b) classes
 
-  pub counts_sheet : {n m : ℕ} → CountsOf (surfaced_graph b classes) n m → CountsOf (sheet_graph b) n m
+  pub counts_sheet : {n m : ℕ} → CountsOf (graph_of b classes) n m → CountsOf (sheet_graph b) n m
   counts_sheet c = record { vertices_are = c.vertices_are ∙ vertices_sheet; edges_are = c.edges_are ∙ edge_count_sheet }
 
-  pub one_end_sheet : (e : ℕ) → one_end (surfaced_graph b classes) e ≡ one_end (sheet_graph b) e
-  unfolding surfaced_graph
+  pub one_end_sheet : (e : ℕ) → one_end (graph_of b classes) e ≡ one_end (sheet_graph b) e
+  unfolding graph_of
   one_end_sheet = one_end_same (sheet_graph b) classes
 
-  pub other_end_sheet : (e : ℕ) → other_end (surfaced_graph b classes) e ≡ other_end (sheet_graph b) e
-  unfolding surfaced_graph
+  pub other_end_sheet : (e : ℕ) → other_end (graph_of b classes) e ≡ other_end (sheet_graph b) e
+  unfolding graph_of
   other_end_sheet = other_end_same (sheet_graph b) classes
 
-  pub weight_by_class : (e : ℕ) → weight_of (surfaced_graph b classes) e ≡ adjusted (weight_of (sheet_graph b) e) (class_at classes e)
-  unfolding surfaced_graph
+  pub weight_by_class : (e : ℕ) → weight_of (graph_of b classes) e ≡ adjusted (weight_of (sheet_graph b) e) (class_at classes e)
+  unfolding graph_of
   weight_by_class = weight_adjusted (sheet_graph b) classes
 
 -- Without a class list it is the sheet's own graph.
-pub plain_graph : (b : List ℕ) → surfaced_graph b [] ≡ sheet_graph b
-unfolding surfaced_graph
+pub plain_graph : (b : List ℕ) → graph_of b [] ≡ sheet_graph b
+unfolding graph_of
 plain_graph b = plain_same (sheet_graph b)

@@ -1,11 +1,10 @@
--- The graph's bytes (document 01: a "sheet"), the class bytes and the copies beside them, and the graph that they spell. Nothing above this file speaks of places in the bytes.
+-- The graph's bytes (document 01: a "sheet"), the class bytes beside them, and the graph that they spell. Nothing above this file speaks of places in the bytes.
 -- A list of bytes is read as 0 past its end, so that every definition here holds for every list.
 -- Assumes nothing.
 use Rattle.std.specs.Prelude.{ℕ, ◌+◌, ◌*◌, ◌<◌, ◌≡◌, cond, List, map, length, get_or, eqb}
 use Rattle.lists.specs.Count.{below}
 use Rattle.graph.specs.Graph.{Edge, Graph}
 use Rattle.graph.specs.Surface.{surfaced}
-use Rattle.graph.specs.Times.{timed, copies_held}
 
 -- The field of two bytes at a place, lowest byte first.
 unfoldable pub u16_at : List ℕ → ℕ → ℕ
@@ -49,15 +48,12 @@ edges_held b = cond (eqb (length b) (length_for (edges_in b))) (edges_in b) 0
 
 -- The graph that the bytes spell, with the weights as given.
 unfoldable pub sheet_graph : List ℕ → Graph
-sheet_graph b = record { vertices = vertices_in b; edges = map (edge_in b) (below (edges_held b)); starts = vertices_in b }
+sheet_graph b = record { vertices = vertices_in b; edges = map (edge_in b) (below (edges_held b)) }
 
--- The graph that the bytes and the class bytes beside them spell, with the weights by class. Without a class list the latter are none.
-unfoldable pub surfaced_graph : List ℕ → List ℕ → Graph
-surfaced_graph b classes = surfaced (sheet_graph b) classes
-
--- The same with the copies that are listed beside them: what a question is about. Without times there are none.
-unfoldable pub graph_of : List ℕ → List ℕ → List ℕ → Graph
-graph_of b classes copies = timed (surfaced_graph b classes) (copies_held copies)
+-- The graph that the bytes and the class bytes beside them spell, with the weights by class: what a question is about. Without a class list the
+-- latter are none.
+unfoldable pub graph_of : List ℕ → List ℕ → Graph
+graph_of b classes = surfaced (sheet_graph b) classes
 
 -- What a reader hands back: the value that is meant, below the bound of its field.
 pub record Reads (meant bound r : ℕ) : Type 0 where

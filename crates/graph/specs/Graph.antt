@@ -1,6 +1,6 @@
 -- A graph, apart from its bytes. All that stands above the reader of bytes speaks of this.
 -- Assumes nothing.
-use Rattle.std.specs.Prelude.{ℕ, ◌-◌, List, get_or, length}
+use Rattle.std.specs.Prelude.{ℕ, List, get_or, length}
 
 -- An edge (document 01: a "line"): its two ends, in the order of the bytes, and its weight.
 pub record Edge : Type 0 where
@@ -9,12 +9,10 @@ pub record Edge : Type 0 where
   pub weight : ℕ
 
 -- A graph (document 01: a "district" on its "sheet"): how many vertices ("stops") there are, numbered from 0,
--- and the edges, each numbered by its place in the list. A tree may start at the first vertices alone, so many as `starts` says: at all, but for the
--- "copies" of document 02, A.7.
+-- and the edges, each numbered by its place in the list.
 pub record Graph : Type 0 where
   pub vertices : ℕ
   pub edges : List Edge
-  pub starts : ℕ
 
 -- How many edges there are.
 abbrev pub edge_count : Graph → ℕ
@@ -37,11 +35,3 @@ other_end g e = (edge_at g e).other
 
 abbrev pub weight_of : Graph → ℕ → ℕ
 weight_of g e = (edge_at g e).weight
-
--- How many copies there are: the vertices from `starts` on.
-abbrev pub copy_count : Graph → ℕ
-copy_count g = g.vertices - g.starts
-
--- How many edges are "lines": all but the copies' edges, which stand last.
-abbrev pub line_count : Graph → ℕ
-line_count g = edge_count g - copy_count g

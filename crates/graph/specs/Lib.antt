@@ -3,8 +3,6 @@
 pub mod Graph
 -- weights by the class of an edge's surface
 pub mod Surface
--- copies of the vertices with a time
-pub mod Times
 -- the bytes, field by field, and the graph that they spell
 pub mod Bytes
 -- numbers of refusal, tried one after the other

@@ -22,5 +22,4 @@ with_class x class = record { one = x.one; other = x.other; weight = adjusted x.
 
 -- The graph, with "the weights so adjusted".
 unfoldable pub surfaced : Graph → List ℕ → Graph
-surfaced g classes =
-    record { vertices = g.vertices; edges = map (λ e. with_class (edge_at g e) (class_at classes e)) (below (edge_count g)); starts = g.starts }
+surfaced g classes = record { vertices = g.vertices; edges = map (λ e. with_class (edge_at g e) (class_at classes e)) (below (edge_count g)) }

@@ -1,11 +1,9 @@
-// The graph's bytes (document 01: a "sheet"): readers of its fields, and of the graph that they, the class bytes and the
-// copies beside them spell. The check of the bytes stands in the crate `graph_check`. Everything is read from the
-// caller's own bytes, and every public function of this file but `u16_within` takes any bytes. Edges are read through a
-// view.
-// The words of the contracts stand in specs/: `sheet_graph` is the graph with its weights as given, `surfaced_graph` with
-// its weights by class, `graph_of` with the copies besides.
+// The graph's bytes (document 01: a "sheet"): readers of its fields, and of the graph that they and the class bytes
+// beside them spell. The check of the bytes stands in the crate `graph_check`. Everything is read from the caller's own
+// bytes, and every public function of this file but `u16_within` takes any bytes. Edges are read through a view.
+// The words of the contracts stand in specs/: `sheet_graph` is the graph with its weights as given, `graph_of` with its
+// weights by class.
 pub mod surface;
-pub mod times;
 pub mod view;
 
 ghost use Rattle.std.specs.Prelude.{◌≡◌, ◌+◌, ◌^◌, ◌≤◌, length};
@@ -110,62 +108,59 @@ pub(crate) fn weight_at(b: &[u8], m: usize, e: usize) -> u64
     }
 }
 
-// The readers of the graph that a sheet, its classes and its copies spell. The vertices do not depend on the classes:
-// these readers take them too, so that what they promise is of the same graph as the weight is.
+// The readers of the graph that a sheet and its classes spell. Counts and ends are the sheet's own: these readers take
+// the classes too, so that what they promise is of the same graph as the weight is.
 
-// How many vertices ("stops") the graph has, copies among them.
-pub fn vertex_count(b: &[u8], classes: &[u8], copies: &[u32]) -> usize
-    ensures { Reads (graph_of b.now classes.now copies.now).vertices (2 ^ 17) result }
+// How many vertices ("stops") the graph has.
+pub fn vertex_count(b: &[u8], classes: &[u8]) -> usize
+    ensures { Reads (graph_of b.now classes.now).vertices (2 ^ 16) result }
 {
-    sheet_vertices(b) + times::copy_count(copies)
+    sheet_vertices(b)
 }
 
-// How many edges ("lines") the graph has, those of copies among them.
-pub fn edge_count(b: &[u8], classes: &[u8], copies: &[u32]) -> usize
-    ensures { Reads (edge_count (graph_of b.now classes.now copies.now)) (2 ^ 17) result }
+// How many edges ("lines") the graph has.
+pub fn edge_count(b: &[u8], classes: &[u8]) -> usize
+    ensures { Reads (edge_count (graph_of b.now classes.now)) (2 ^ 16) result }
 {
-    sheet_edges(b) + times::copy_count(copies)
+    sheet_edges(b)
 }
 
-// One end of edge e; 0 past the last edge. Who has the counts at hand calls the reader of `times`, which does not count
-// again.
-pub fn one_end(b: &[u8], e: usize, classes: &[u8], copies: &[u32]) -> usize
-    ensures { Reads (one_end (graph_of b.now classes.now copies.now) e) (2 ^ 16) result }
+// One end of edge e; 0 past the last edge. Who has the counts at hand calls the reader of `surface`, which does not
+// count again.
+pub fn one_end(b: &[u8], e: usize, classes: &[u8]) -> usize
+    ensures { Reads (one_end (graph_of b.now classes.now) e) (2 ^ 16) result }
 {
-    times::one_end(
+    surface::one_end(
         b,
-        vertex_count(b, classes, copies),
-        edge_count(b, classes, copies),
+        vertex_count(b, classes),
+        edge_count(b, classes),
         e,
         classes,
-        copies,
     )
 }
 
 // The other end of edge e; 0 past the last edge.
-pub fn other_end(b: &[u8], e: usize, classes: &[u8], copies: &[u32]) -> usize
-    ensures { Reads (other_end (graph_of b.now classes.now copies.now) e) (2 ^ 64) result }
+pub fn other_end(b: &[u8], e: usize, classes: &[u8]) -> usize
+    ensures { Reads (other_end (graph_of b.now classes.now) e) (2 ^ 16) result }
 {
-    times::other_end(
+    surface::other_end(
         b,
-        vertex_count(b, classes, copies),
-        edge_count(b, classes, copies),
+        vertex_count(b, classes),
+        edge_count(b, classes),
         e,
         classes,
-        copies,
     )
 }
 
-// The weight of edge e, by its class or its time; 0 past the last edge.
-pub fn weight(b: &[u8], e: usize, classes: &[u8], copies: &[u32]) -> u64
-    ensures { Reads (weight_of (graph_of b.now classes.now copies.now) e) (2 ^ 33) result }
+// The weight of edge e, by its class; 0 past the last edge.
+pub fn weight(b: &[u8], e: usize, classes: &[u8]) -> u64
+    ensures { Reads (weight_of (graph_of b.now classes.now) e) (2 ^ 33) result }
 {
-    times::weight(
+    surface::weight(
         b,
-        vertex_count(b, classes, copies),
-        edge_count(b, classes, copies),
+        vertex_count(b, classes),
+        edge_count(b, classes),
         e,
         classes,
-        copies,
     )
 }

@@ -21,7 +21,6 @@ use Rattle.graph.specs.Fault.{Fault, fault_if, refused_or}
 use Rattle.graph.specs.Valid.{ValidEdge, IsGraph, Counted}
 use Rattle.graph.proofs.Decoded.{vertices_head, edges_sized}
 use Rattle.graph.proofs.Faults.{quiet_if, quiet_each}
-use Rattle.graph.proofs.Plain.{plain_copied, sheet_plain}
 use Rattle.graph_check.specs.Check.{yes, edge_fault, edges_fault, head_fault, answer_to, check_of}
 use Rattle.graph_check.proofs.Steps.{fault_from, fault_later, fault_done, edge_passed, head_passed, edges_decide}
 
@@ -96,7 +95,6 @@ module _ (b : List ℕ) where
                     vertices_most = omega (arith, vertices_head b, ltb-false 256 (vertices_in b) vertices.1);
                     edges_most = omega (arith, edges_sized b s, ltb-false 2048 (edges_in b) edges);
                     each_edge = edges_valid g edges_none;
-                    copied = plain_copied g (sheet_plain b) (omega (arith, vertices_head b, eqb-false (vertices_in b) 0 vertices.0)) (edges_valid g edges_none);
                   };
             };
         vertices_are = cc;

@@ -6,29 +6,19 @@ ghost use Rattle.near.specs.Held.{PieceAsked, NearTree, NearPiecesAsked, NearPie
 
 use cover::index::{edges_at, number_at};
 use edges::index::wide;
-use graph::times;
 
 // Those near the tree with this start and these edges: near the start, or near an end of an edge.
-fn near_piece(
-    b: &[u8],
-    near: &[u32],
-    start: usize,
-    edges: &[u16],
-    classes: &[u8],
-    copies: &[u32],
-) -> u32
-    requires { PieceAsked (graph_of b.now classes.now copies.now) near.now start }
-    ensures { NearTree (graph_of b.now classes.now copies.now)
-        near.now (tree_of start edges.now) result }
+fn near_piece(b: &[u8], near: &[u32], start: usize, edges: &[u16], classes: &[u8]) -> u32
+    requires { PieceAsked (graph_of b.now classes.now) near.now start }
+    ensures { NearTree (graph_of b.now classes.now) near.now (tree_of start
+        edges.now) result }
 {
-    let n = graph::vertex_count(b, classes, copies);
-    let m = graph::edge_count(b, classes, copies);
     let mut word = near[start];
     let mut i = 0;
     while i < edges.len() {
         let e = wide(edges[i]);
-        let one = times::one_end(b, n, m, e, classes, copies);
-        let other = times::other_end(b, n, m, e, classes, copies);
+        let one = graph::one_end(b, e, classes);
+        let other = graph::other_end(b, e, classes);
         word = word | (near[one] | near[other]);
         i += 1;
     }
@@ -45,19 +35,18 @@ pub fn near_pieces(
     places: &[u16],
     words: &mut [u32],
     classes: &[u8],
-    copies: &[u32],
 )
-    requires { NearPiecesAsked (graph_of b.now classes.now copies.now) near.now starts.now cuts.now
-        members.now places.now words.old }
-    ensures { NearPieces (graph_of b.now classes.now copies.now)
-        near.now starts.now cuts.now members.now places.now
-        words.old words.new }
+    requires { NearPiecesAsked (graph_of b.now classes.now) near.now starts.now cuts.now members.now
+        places.now words.old }
+    ensures { NearPieces (graph_of b.now classes.now) near.now
+        starts.now cuts.now members.now places.now words.old
+        words.new }
 {
     let mut i = 0;
     while i < places.len() {
         let c = wide(places[i]);
         let start = number_at(starts, c);
-        words[i] = near_piece(b, near, start, edges_at(cuts, members, c), classes, copies);
+        words[i] = near_piece(b, near, start, edges_at(cuts, members, c), classes);
         i += 1;
     }
 }

@@ -44,26 +44,24 @@ fn merge_edge(
     total: &mut [u64],
     until: &mut [u16],
     classes: &[u8],
-    copies: &[u32],
 )
-    requires { EdgeAsked (graph_of b.now classes.now copies.now) e number label.old made.old total.old
-        until.old }
-    ensures { EdgeMerged (graph_of b.now classes.now copies.now) e number
-        label.old label.new made.old made.new total.old
-        total.new until.old until.new }
+    requires { EdgeAsked (graph_of b.now classes.now) e number label.old made.old total.old until.old }
+    ensures { EdgeMerged (graph_of b.now classes.now) e number label.old
+        label.new made.old made.new total.old total.new
+        until.old until.new }
 {
-    let a = wide(label[graph::one_end(b, e, classes, copies)]);
-    let c = wide(label[graph::other_end(b, e, classes, copies)]);
+    let a = wide(label[graph::one_end(b, e, classes)]);
+    let c = wide(label[graph::other_end(b, e, classes)]);
     note_merge(
         a,
         c,
-        graph::weight(b, e, classes, copies),
+        graph::weight(b, e, classes),
         number,
         made,
         total,
         until,
     );
-    join_ends(b, e, label, classes, copies);
+    join_ends(b, e, label, classes);
 }
 
 // Merges along each edge of the whole forest, one after the other.
@@ -75,51 +73,30 @@ fn merge_all(
     total: &mut [u64],
     until: &mut [u16],
     classes: &[u8],
-    copies: &[u32],
 )
-    requires { MergesAsked (graph_of b.now classes.now copies.now) kept.now label.old made.old total.old
-        until.old }
-    ensures { AllMerged (graph_of b.now classes.now copies.now)
-        kept.now label.old label.new made.old made.new
-        total.old total.new until.old until.new }
+    requires { MergesAsked (graph_of b.now classes.now) kept.now label.old made.old total.old until.old }
+    ensures { AllMerged (graph_of b.now classes.now) kept.now
+        label.old label.new made.old made.new total.old
+        total.new until.old until.new }
 {
     let mut i = 0;
     while i < kept.len() {
-        merge_edge(
-            b,
-            wide(kept[i]),
-            i + 1,
-            label,
-            made,
-            total,
-            until,
-            classes,
-            copies,
-        );
+        merge_edge(b, wide(kept[i]), i + 1, label, made, total, until, classes);
         i += 1;
     }
 }
 
 // The history of the whole forest, where no vertex is a root.
-pub fn record_merges(
-    b: &[u8],
-    kept: &[u16],
-    total: &mut [u64],
-    until: &mut [u16],
-    classes: &[u8],
-    copies: &[u32],
-)
-    requires { HistoryAsked (graph_of b.now classes.now copies.now) kept.now total.old until.old }
-    ensures { HistoryWritten (graph_of b.now classes.now copies.now)
-        kept.now total.old total.new until.old until.new }
+pub fn record_merges(b: &[u8], kept: &[u16], total: &mut [u64], until: &mut [u16], classes: &[u8])
+    requires { HistoryAsked (graph_of b.now classes.now) kept.now total.old until.old }
+    ensures { HistoryWritten (graph_of b.now classes.now) kept.now
+        total.old total.new until.old until.new }
 {
     let mut label = [0u16; 256];
     let mut made = [0u16; 256];
-    start_labels(&[], graph::vertex_count(b, classes, copies), &mut label);
+    start_labels(&[], graph::vertex_count(b, classes), &mut label);
     total[0] = 0;
-    merge_all(
-        b, kept, &mut label, &mut made, total, until, classes, copies,
-    );
+    merge_all(b, kept, &mut label, &mut made, total, until, classes);
 }
 
 // What the tree of a merge needs besides its component's first tree, where it is there after `light` merges: one for

@@ -7,18 +7,12 @@ use pieces::whole::label_edges;
 
 // The lowest vertex of each component that the edges make, rising, written to the front of the array. Says how many
 // components there are.
-pub fn component_roots(
-    b: &[u8],
-    edges: &[u16],
-    roots: &mut [u16],
-    classes: &[u8],
-    copies: &[u32],
-) -> usize
-    requires { RootsAsked (graph_of b.now classes.now copies.now) roots.old }
-    ensures { RootsWritten (graph_of b.now classes.now copies.now)
-        edges.now roots.old roots.new result }
+pub fn component_roots(b: &[u8], edges: &[u16], roots: &mut [u16], classes: &[u8]) -> usize
+    requires { RootsAsked (graph_of b.now classes.now) roots.old }
+    ensures { RootsWritten (graph_of b.now classes.now) edges.now
+        roots.old roots.new result }
 {
     let mut label = [0u16; 256];
-    label_edges(b, &[], edges, &mut label, classes, copies);
-    lowest_of_each(&label, graph::vertex_count(b, classes, copies), roots)
+    label_edges(b, &[], edges, &mut label, classes);
+    lowest_of_each(&label, graph::vertex_count(b, classes), roots)
 }

@@ -8,19 +8,12 @@ use edges::around::put_around;
 use edges::sweep::sweep_edges;
 
 // The arcs around each vertex over the edges, by rising number.
-pub fn put_arcs(
-    b: &[u8],
-    edges: &[u16],
-    bounds: &mut [u16],
-    arcs: &mut [u64],
-    classes: &[u8],
-    copies: &[u32],
-)
-    requires { ArcsAsked (graph_of b.now classes.now copies.now) edges.now bounds.old arcs.old }
-    ensures { AroundPut (graph_of b.now classes.now copies.now) (rise
-        edges.now) bounds.old bounds.new arcs.old arcs.new }
+pub fn put_arcs(b: &[u8], edges: &[u16], bounds: &mut [u16], arcs: &mut [u64], classes: &[u8])
+    requires { ArcsAsked (graph_of b.now classes.now) edges.now bounds.old arcs.old }
+    ensures { AroundPut (graph_of b.now classes.now) (rise edges.now)
+        bounds.old bounds.new arcs.old arcs.new }
 {
     let mut rising = [0u16; 256];
-    let r = sweep_edges(edges, graph::edge_count(b, classes, copies), &mut rising);
-    put_around(b, &rising[..r], bounds, arcs, classes, copies);
+    let r = sweep_edges(edges, graph::edge_count(b, classes), &mut rising);
+    put_around(b, &rising[..r], bounds, arcs, classes);
 }

@@ -11,54 +11,36 @@ use forest::labels::start_labels;
 use forest::lowest::{Found, lowest_unjoined};
 
 // Joins the ends of each edge, one edge after the other, from the labels given.
-fn join_all(b: &[u8], edges: &[u16], label: &mut [u16], classes: &[u8], copies: &[u32])
-    requires { Labelable (graph_of b.now classes.now copies.now) label.old }
-    ensures { AllJoined (graph_of b.now classes.now copies.now)
-        edges.now label.old label.new }
+fn join_all(b: &[u8], edges: &[u16], label: &mut [u16], classes: &[u8])
+    requires { Labelable (graph_of b.now classes.now) label.old }
+    ensures { AllJoined (graph_of b.now classes.now) edges.now
+        label.old label.new }
 {
     let mut i = 0;
     while i < edges.len() {
-        join_ends(b, wide(edges[i]), label, classes, copies);
+        join_ends(b, wide(edges[i]), label, classes);
         i += 1;
     }
 }
 
 // The labels that the edges make, where all roots ("yards") are joined from the start.
-pub fn label_edges(
-    b: &[u8],
-    roots: &[u16],
-    edges: &[u16],
-    label: &mut [u16],
-    classes: &[u8],
-    copies: &[u32],
-)
-    requires { Labelable (graph_of b.now classes.now copies.now) label.old }
-    ensures { EdgesLabelled (graph_of b.now classes.now copies.now)
-        roots.now edges.now label.old label.new }
+pub fn label_edges(b: &[u8], roots: &[u16], edges: &[u16], label: &mut [u16], classes: &[u8])
+    requires { Labelable (graph_of b.now classes.now) label.old }
+    ensures { EdgesLabelled (graph_of b.now classes.now) roots.now
+        edges.now label.old label.new }
 {
-    start_labels(roots, graph::vertex_count(b, classes, copies), label);
-    join_all(b, edges, label, classes, copies);
+    start_labels(roots, graph::vertex_count(b, classes), label);
+    join_all(b, edges, label, classes);
 }
 
 // The lowest vertex that the edges join to no root ("stop v"), if there is one. The labels are scratch.
-pub fn stop_at(
-    b: &[u8],
-    roots: &[u16],
-    edges: &[u16],
-    label: &mut [u16],
-    classes: &[u8],
-    copies: &[u32],
-) -> Found
-    requires { StopAsked (graph_of b.now classes.now copies.now) roots.now label.old }
-    ensures { StopFound (graph_of b.now classes.now copies.now)
-        roots.now edges.now label.old label.new result }
+pub fn stop_at(b: &[u8], roots: &[u16], edges: &[u16], label: &mut [u16], classes: &[u8]) -> Found
+    requires { StopAsked (graph_of b.now classes.now) roots.now label.old }
+    ensures { StopFound (graph_of b.now classes.now) roots.now
+        edges.now label.old label.new result }
 {
-    label_edges(b, roots, edges, label, classes, copies);
-    lowest_unjoined(
-        label,
-        graph::vertex_count(b, classes, copies),
-        wide(roots[0]),
-    )
+    label_edges(b, roots, edges, label, classes);
+    lowest_unjoined(label, graph::vertex_count(b, classes), wide(roots[0]))
 }
 
 // The whole forest, from all edges in order, with all roots joined from the start. Says how many edges it has.
@@ -69,21 +51,19 @@ pub fn keep_whole(
     label: &mut [u16],
     kept: &mut [u16],
     classes: &[u8],
-    copies: &[u32],
 ) -> usize
-    requires { WholeAsked (graph_of b.now classes.now copies.now) order.now label.old kept.old }
-    ensures { WholeForest (graph_of b.now classes.now copies.now)
-        roots.now label.old label.new kept.old kept.new result }
+    requires { WholeAsked (graph_of b.now classes.now) order.now label.old kept.old }
+    ensures { WholeForest (graph_of b.now classes.now) roots.now
+        label.old label.new kept.old kept.new result }
 {
-    start_labels(roots, graph::vertex_count(b, classes, copies), label);
-    keep_edges(b, order, label, kept, classes, copies)
+    start_labels(roots, graph::vertex_count(b, classes), label);
+    keep_edges(b, order, label, kept, classes)
 }
 
 // How many edges of the whole forest are within the limit: these are the first, and they are the forest at the limit.
-pub fn light_forest(b: &[u8], kept: &[u16], limit: u64, classes: &[u8], copies: &[u32]) -> usize
-    requires { WholeKept (graph_of b.now classes.now copies.now) kept.now }
-    ensures { LightForest (graph_of b.now classes.now copies.now)
-        kept.now limit result }
+pub fn light_forest(b: &[u8], kept: &[u16], limit: u64, classes: &[u8]) -> usize
+    requires { WholeKept (graph_of b.now classes.now) kept.now }
+    ensures { LightForest (graph_of b.now classes.now) kept.now limit result }
 {
-    light_count(b, kept, limit, classes, copies)
+    light_count(b, kept, limit, classes)
 }

@@ -1,19 +1,17 @@
 -- The questions test by test, in the order of document 01: what each test makes of what is refused; and what the replies mean.
 -- Assumes nothing.
 use Prim.Native.Nat.{ℕ, ◌≤◌, ◌<◌}
-use mathlib.Core.Path.{◌≡◌, refl, sym, ap, ap₂, ◌∙◌, subst}
+use mathlib.Core.Path.{◌≡◌, refl, sym, ◌∙◌, subst}
 use mathlib.Core.Bool.{true, ◌||◌, true≢false}
 use mathlib.Core.List.Memᴰ
-use mathlib.Core.List.{List, [], ◌∷◌, ◌++◌, map}
+use mathlib.Core.List.{List, [], ◌∷◌, ◌++◌}
 use mathlib.Core.Option.{some, none, some-ne-none}
 use lib.ListN.{length}
 use lib.Dec.{leb, ltb}
 use borrow.Author.Tests.{leb-true, leb-false, lt-ltb, le-ltb, ltb-false}
 use native.Mathlib.Omega.{arith}
 use Rattle.lists.proofs.Every.{first_false}
-use Rattle.graph.specs.Graph.{Graph}
-use Rattle.graph.specs.Times.{packed}
-use Rattle.graph.specs.Bytes.{sheet_graph, graph_of}
+use Rattle.graph.specs.Bytes.{graph_of}
 use Rattle.graph.specs.Fault.{Fault, fault_if, first_fault, refused_or}
 use Rattle.graph.proofs.Faults.{quiet_if, quiet_each}
 use Rattle.rules.specs.Reply as rules
@@ -21,7 +19,7 @@ use Rattle.rules.specs.RootedTrial.{no_choices}
 use Rattle.rules.specs.Search.{trial, best, best_limit}
 use Rattle.rules.specs.FewTrials as few
 use Rattle.rules.specs.FewTrials.{untried, before_trials, within}
-use Rattle.rules.specs.Questions.{most_limit, least_room, most_trials, Question, listed, copies_by, graph_in, crews_in, limit_fault, room_fault, trials_fault, question_fault, trial_fault, ask_trial, best_fault, ask_best, within_fault, ask_within, written, buffer_after}
+use Rattle.rules.specs.Questions.{most_limit, least_room, most_trials, Question, listed, graph_in, crews_in, limit_fault, room_fault, trials_fault, question_fault, trial_fault, ask_trial, best_fault, ask_best, within_fault, ask_within, written, buffer_after}
 use Rattle.rules.specs.Fit.{GoodFor}
 use Rattle.rules.proofs.Admitted.{Admitted, admitted}
 use Rattle.planner_laws.proofs.BothKinds.{trial_bounds}
@@ -33,7 +31,6 @@ use Rattle.admit.specs.declared.refusal.Refusal.TheVariants.{Room, Trials}
 use Rattle.admit.specs.declared.brought.Lists.{Lists}
 use Rattle.admit.specs.Crews.{asks_with}
 use Rattle.admit.specs.Refusals.{number_of}
-use Rattle.admit.proofs.Spelt.{untimed_spelt, copies_spelt}
 use Rattle.replies.specs.declared.Reply.TheVariants.{Refused}
 use Rattle.replies.specs.declared.Told.{Told}
 use Rattle.replies.specs.Replies.{Replied, alone, Tells}
@@ -133,12 +130,9 @@ module _ (asked : Asked) (q : Question) (room : ℕ) where
     quiet : first_fault (faults asked q room) ≡ none
     quiet = in_order asked q room ∙ e
 
-    pub asked_unrefused : question_fault q ≡ none
-    unfolding faults
-    asked_unrefused = quiet_each (faults asked q room) quiet (Memᴰ.head refl)
-
     question_quiet : Admitted q
-    question_quiet = admitted q asked_unrefused
+    unfolding faults
+    question_quiet = admitted q (quiet_each (faults asked q room) quiet (Memᴰ.head refl))
 
     asked_quiet : AskedFits asked
     unfolding faults
@@ -150,33 +144,19 @@ module _ (asked : Asked) (q : Question) (room : ℕ) where
     unfolding faults room_fault
     room_quiet = ltb-false room least_room (quiet_if (ltb room least_room) _ (quiet_each (faults asked q room) quiet (Memᴰ.tail (Memᴰ.tail (Memᴰ.head refl)))))
 
--- So the question can be asked, about its graph as it is read.
-module _ (asked : Asked) (kind : Kind) (k : ℕ) (b : List ℕ) (lists : Lists) (classes vans times : List ℕ) (room : ℕ) where
+-- So the question can be asked, by the class bytes that are read.
+module _ (asked : Asked) (kind : Kind) (k : ℕ) (b : List ℕ) (lists : Lists) (classes vans : List ℕ) (room : ℕ) where
   abbrev q : Question
-  q = asks_with kind k b lists classes vans times
+  q = asks_with kind k b lists classes vans
 
-  pub can_ask : {g : Graph} → g ≡ graph_in q → none ≡ fault_of asked q room → CrewsAsked kind k q.vans g asked room
-  can_ask is e =
+  pub can_ask : {read : List ℕ} → listed q.classes ≡ read → none ≡ fault_of asked q room → CrewsAsked kind k q.vans (graph_of b read) asked room
+  can_ask {read} is e =
       let a = question_quiet asked q room (sym e) in
       let can : CrewsAsked kind k q.vans (graph_in q) asked room =
       record { valid = a.valid; few = a.few; fit = a.fit; asked_fits = asked_quiet asked q room (sym e); room_most = room_quiet asked q room (sym e) } in
-      subst (λ g. CrewsAsked kind k q.vans g asked room) (sym is) can
-
--- That graph, by the class bytes that are read: of a question without times, and of one with times by the copies that are written.
-module _ (q : Question) where
-  pub untimed_read : {read : List ℕ} → listed q.classes ≡ read → q.times ≡ none → graph_of q.sheet read [] ≡ graph_in q
-  untimed_read is none_brought = ap (λ read. graph_of q.sheet read []) (sym is) ∙ untimed_spelt q none_brought
-
-  pub timed_read : question_fault q ≡ none → {n : ℕ} → n ≡ (sheet_graph q.sheet).vertices → {times read copies : List ℕ} → q.times ≡ some times
-      → read ≡ listed q.classes → copies ≡ map packed (copies_by n (some times)) → graph_of q.sheet read copies ≡ graph_in q
-  timed_read quiet vertices brings is are = ap₂ (graph_of q.sheet) is are ∙ copies_spelt q quiet vertices brings
+      rw is at can
 
 module _ (asked : Asked) (q : Question) where
-  -- An answer about the graph as it is read is one about the question's graph.
-  pub about : {g : Graph} {before after : List ℕ} {t : Told} → g ≡ graph_in q → Answered asked g (crews_in q) before after t
-      → Answered asked (graph_in q) (crews_in q) before after t
-  about {before = before} {after = after} {t = t} is a = subst (λ g. Answered asked g (crews_in q) before after t) is a
-
   -- A question that is refused: the reply says its number, and the buffer is as it came.
   pub refusal_given : (f : Refusal) {before : List ℕ} → some (number_of f) ≡ fault_of asked q (length before) → QuestionPromise asked q before before (alone (Refused f))
   unfolding refused_or untried buffer_after written
@@ -187,13 +167,10 @@ module _ (asked : Asked) (q : Question) where
         good = λ quiet. absurd (some-ne-none (number_of f) (e ∙ quiet));
       }
 
-  -- A question that is not: it is answered, about its graph as it is read.
-  pub answer_given : {g : Graph} {before after : List ℕ} {t : Told} → g ≡ graph_in q → none ≡ fault_of asked q (length before) → Answered asked g (crews_in q) before after t
-      → QuestionPromise asked q before after t
+  -- A question that is not: it is answered.
+  pub answer_given : {before after : List ℕ} {t : Told} → none ≡ fault_of asked q (length before) → Answered asked (graph_in q) (crews_in q) before after t → QuestionPromise asked q before after t
   unfolding refused_or
-  answer_given is e answered =
-      let a = about is answered in
-      record { choices = a.choices; rule = rw (sym e) a.tells; good = λ quiet. a.good }
+  answer_given e a = record { choices = a.choices; rule = rw (sym e) a.tells; good = λ quiet. a.good }
 
 -- WHAT THE REPLIES MEAN
 
@@ -220,7 +197,7 @@ trial_promised {q} {limit} {before} {after} {t} p =
         choices = p.choices;
         rule = tells.replied;
         good = p.good;
-        means = λ e. let a = question_quiet (At limit) q (length before) e in trial_means a.valid.copied (crews_in q) a.fit (trial_bounds a.valid (crews_in q) a.fit) limit p.choices (p.good e);
+        means = λ e. let a = question_quiet (At limit) q (length before) e in trial_means (crews_in q) a.fit (trial_bounds a.valid (crews_in q) a.fit) limit p.choices (p.good e);
       };
       known = tells.known;
     }

@@ -28,8 +28,7 @@ pub record Refuses (fault : Fault) (before after : List ℕ) (r : Reply) : Type 
 
 -- The trial at limit B. Refused exactly where document 01 says so, with its number. Otherwise the reply and the buffer are what the rules make of
 -- free choices that are good, and the reply means what it says: a cover by these crews within four times B, or that every cover by them is above B.
--- Where B is 0 it is a cover exactly where there is no time and weightless edges join every vertex to a root, or into at most k components (`at_zero` of
--- `TrialMeans`).
+-- Where B is 0 it is a cover exactly where weightless edges join every vertex to a root, or into at most k components (`at_zero` of `TrialMeans`).
 pub record TrialPromise (q : Question) (limit : ℕ) (before after : List ℕ) (r : Reply) : Type 0 where
   pub refuses : Refuses (trial_fault q limit (length before)) before after r
   pub choices : Choices
@@ -39,7 +38,7 @@ pub record TrialPromise (q : Question) (limit : ℕ) (before after : List ℕ) (
 
 -- The best limit. Refused exactly where document 01 says so. Otherwise "no cover" exactly where none exists; or the limit where the search ends, with
 -- the cover of the trial there, whose heaviest is at most four times that of every cover by the same crews, while no cover's heaviest is below that limit.
--- The limit is 0 exactly where there is no time and weightless edges join every vertex to a root, or into at most k components (`at_zero` of `BestMeans`).
+-- The limit is 0 exactly where weightless edges join every vertex to a root, or into at most k components (`at_zero` of `BestMeans`).
 pub record BestPromise (q : Question) (before after : List ℕ) (r : Reply) : Type 0 where
   pub refuses : Refuses (best_fault q (length before)) before after r
   pub choices : Choices
@@ -95,11 +94,6 @@ pub record LimitTested (asked : Asked) (r : Bool) : Type 0 where
 pub record TrialsTested (asked : Asked) (r : Bool) : Type 0 where
   pub right : r ≡ true → trials_fault_of asked ≡ none
   pub wrong : r ≡ false → trials_fault_of asked ≡ some (number_of Trials)
-
--- Nothing is refused of a question that brings times.
-pub record TimedAsked (asked : Asked) (q : Question) (times : List ℕ) (room : ℕ) : Type 0 where
-  pub quiet : fault_of asked q room ≡ none
-  pub brings : q.times ≡ some times
 
 -- A refusal, or the answer.
 abbrev pub refused_or_told : Fault → few.Told → few.Told

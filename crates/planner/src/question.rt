@@ -1,17 +1,14 @@
 // The questions that a user asks, on any input: refused in document 01's order ("Who causes which number"), and
 // otherwise answered.
-ghost use Rattle.std.specs.Prelude.{◌≡◌, length};
-ghost use Rattle.rules.specs.Questions.{graph_in, crews_in};
+ghost use Rattle.std.specs.Prelude.{◌≡◌};
 ghost use Rattle.admit.specs.Crews.{asks, asks_with};
 ghost use Rattle.admit.specs.Refusals.{fault_in};
-ghost use Rattle.asking.specs.Asking.{Answered};
-ghost use Rattle.planner.specs.Promise.{LimitTested, TrialsTested, fault_of, TimedAsked, TrialPromise, BestPromise, AskPromise};
+ghost use Rattle.planner.specs.Promise.{LimitTested, TrialsTested, fault_of, TrialPromise, BestPromise, AskPromise};
 
 use admit::Admitted;
-use admit::brought::{Lists, NO_LISTS, read_list};
+use admit::brought::{Lists, NO_LISTS};
 use admit::crews::Kind;
 use admit::refusal::{LEAST_ROOM, MOST_LIMIT, MOST_TRIALS, Refusal};
-use admit::times::put_copies;
 use asking::ask::{Asked, ask_crews};
 use replies::{Reply, Told, UNTRIED};
 
@@ -35,7 +32,7 @@ fn trials_right(asked: Asked) -> bool
     }
 }
 
-// Tests the question, with so much room for what is written. The asking stands apart, called at several places: so the
+// Tests the question, with so much room for what is written. The asking stands apart, called at two places: so the
 // arrays of an answer are in none of these frames, and a refusal takes next to no stack.
 fn test(
     kind: Kind,
@@ -46,12 +43,11 @@ fn test(
     lists: Lists,
     classes: &[u8],
     vans: &[u8],
-    times: &[u8],
 ) -> Admitted
     ensures { fault_in result ≡ fault_of asked (asks_with kind k b.now lists classes.now
-        vans.now times.now) room }
+        vans.now) room }
 {
-    match admit::admit(kind, k, b, lists, classes, vans, times) {
+    match admit::admit(kind, k, b, lists, classes, vans) {
         Admitted::Refused(f) => Admitted::Refused(f),
         Admitted::Fits => {
             if !limit_right(asked) {
@@ -68,30 +64,6 @@ fn test(
     }
 }
 
-// The answer to a question that is not refused and brings times: the copies that they make are written to an array.
-fn ask_timed(
-    asked: Asked,
-    kind: Kind,
-    k: usize,
-    b: &[u8],
-    buf: &mut [u8],
-    lists: Lists,
-    classes: &[u8],
-    vans: &[u8],
-    times: &[u8],
-) -> Told
-    requires { TimedAsked asked (asks_with kind k b.now lists classes.now vans.now times.now) times.now
-        (length buf.old) }
-    ensures { Answered asked (graph_in (asks_with kind k b.now lists classes.now
-        vans.now times.now)) (crews_in (asks_with kind k b.now lists
-        classes.now vans.now times.now)) buf.old buf.new result }
-{
-    let mut copies = [0u32; 128];
-    let c = put_copies(graph::sheet_vertices(b), times, &mut copies);
-    let read = read_list(lists.classes, classes);
-    ask_crews(kind, k, b, asked, buf, read, &copies[..c], lists.vans, vans)
-}
-
 // Either question, with the lists that are brought: a trial at a limit, or the search for the best limit with at most so
 // many trials (document 02, A.6).
 pub fn ask(
@@ -103,24 +75,20 @@ pub fn ask(
     lists: Lists,
     classes: &[u8],
     vans: &[u8],
-    times: &[u8],
 ) -> Told
     ensures { AskPromise asked (asks_with kind k b.now lists classes.now
-        vans.now times.now) buf.old buf.new result }
+        vans.now) buf.old buf.new result }
 {
-    match test(kind, k, asked, b, buf.len(), lists, classes, vans, times) {
+    match test(kind, k, asked, b, buf.len(), lists, classes, vans) {
         Admitted::Refused(f) => Told {
             reply: Reply::Refused(f),
             known: UNTRIED,
         },
         Admitted::Fits => {
-            if lists.times {
-                return ask_timed(asked, kind, k, b, buf, lists, classes, vans, times);
-            }
             if lists.classes {
-                return ask_crews(kind, k, b, asked, buf, classes, &[], lists.vans, vans);
+                return ask_crews(kind, k, b, asked, buf, classes, lists.vans, vans);
             }
-            ask_crews(kind, k, b, asked, buf, &[], &[], lists.vans, vans)
+            ask_crews(kind, k, b, asked, buf, &[], lists.vans, vans)
         }
     }
 }
@@ -129,7 +97,7 @@ pub fn ask(
 pub fn trial(kind: Kind, k: usize, limit: u64, b: &[u8], buf: &mut [u8]) -> Reply
     ensures { TrialPromise (asks kind k b.now) limit buf.old buf.new result }
 {
-    let told = ask(Asked::At(limit), kind, k, b, buf, NO_LISTS, &[], &[], &[]);
+    let told = ask(Asked::At(limit), kind, k, b, buf, NO_LISTS, &[], &[]);
     let reply = told.reply;
     reply
 }
@@ -146,7 +114,6 @@ pub fn best(kind: Kind, k: usize, b: &[u8], buf: &mut [u8]) -> Reply
         b,
         buf,
         NO_LISTS,
-        &[],
         &[],
         &[],
     );

@@ -28,9 +28,9 @@ abbrev pub asked_of : ℕ → ℕ → Asked
 asked_of zero limit = At limit
 asked_of (suc other) limit = Within most_trials
 
--- The lowest bit says whether class bytes are brought, the next whether a list of vans is, the third whether a list of times is.
+-- The lowest bit says whether class bytes are brought, the next whether a list of vans is.
 abbrev pub lists_of : ℕ → Lists
-lists_of brought = record { classes = eqb (brought % 2) 1; vans = eqb (brought / 2 % 2) 1; times = eqb (brought / 4 % 2) 1 }
+lists_of brought = record { classes = eqb (brought % 2) 1; vans = eqb (brought / 2 % 2) 1 }
 
 -- What the question with a number of trials says: what its reply does, but 5 where the trials are spent; and behind a cover's values the trials made, the
 -- floor, and 1 where they are spent, 0 where not.

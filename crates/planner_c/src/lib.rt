@@ -92,7 +92,6 @@ pub extern "C" fn planner_walk(
         NO_LISTS,
         &[],
         &[],
-        &[],
     );
     put_walk(walked, values);
     closed_walk::walk::number_of(walked)
@@ -109,13 +108,12 @@ pub extern "C" fn planner_ask(
     brought: u32,
     classes: &[u8],
     vans: &[u8],
-    times: &[u8],
     values: &mut [u64; 3],
     buffer: &mut [u8],
 ) -> u32
     ensures { AskExported asked limit (asks_with (kind_of kind) k graph.now (lists_of brought)
-        classes.now vans.now times.now) values.old values.new
-        buffer.old buffer.new result }
+        classes.now vans.now) values.old values.new buffer.old
+        buffer.new result }
 {
     let question = asked_of(asked, limit);
     let told = ask(
@@ -127,7 +125,6 @@ pub extern "C" fn planner_ask(
         lists_of(brought),
         classes,
         vans,
-        times,
     );
     let reply = told.reply;
     put_values(reply, values);
@@ -145,13 +142,12 @@ pub extern "C" fn planner_within(
     brought: u32,
     classes: &[u8],
     vans: &[u8],
-    times: &[u8],
     values: &mut [u64; 6],
     buffer: &mut [u8],
 ) -> u32
     ensures { WithinExported (asks_with (kind_of kind) k graph.now (lists_of brought)
-        classes.now vans.now times.now) trials values.old
-        values.new buffer.old buffer.new result }
+        classes.now vans.now) trials values.old values.new
+        buffer.old buffer.new result }
 {
     let told = ask(
         Asked::Within(trials),
@@ -162,7 +158,6 @@ pub extern "C" fn planner_within(
         lists_of(brought),
         classes,
         vans,
-        times,
     );
     put_told(told, values);
     number_told(told)
@@ -177,13 +172,12 @@ pub extern "C" fn planner_verify(
     brought: u32,
     classes: &[u8],
     vans: &[u8],
-    times: &[u8],
     cover: &[u8],
     values: &mut [u64; 3],
 ) -> u32
     ensures { CheckExported (asks_with (kind_of kind) k graph.now (lists_of brought)
-        classes.now vans.now times.now) cover.now values.old
-        values.new result }
+        classes.now vans.now) cover.now values.old values.new
+        result }
 {
     let verdict = check(
         kind_of(kind),
@@ -193,7 +187,6 @@ pub extern "C" fn planner_verify(
         lists_of(brought),
         classes,
         vans,
-        times,
     );
     put_heaviest(verdict, values);
     filed::check::number_of(verdict)
@@ -208,14 +201,13 @@ pub extern "C" fn planner_route(
     brought: u32,
     classes: &[u8],
     vans: &[u8],
-    times: &[u8],
     cover: &[u8],
     tree: usize,
     values: &mut [u64; 2],
     buffer: &mut [u8],
 ) -> u32
     ensures { WalkExported (asks_with (kind_of kind) k graph.now (lists_of brought)
-        classes.now vans.now times.now) cover.now tree values.old
+        classes.now vans.now) cover.now tree values.old
         values.new buffer.old buffer.new result }
 {
     let walked = walk(
@@ -228,7 +220,6 @@ pub extern "C" fn planner_route(
         lists_of(brought),
         classes,
         vans,
-        times,
     );
     put_walk(walked, values);
     closed_walk::walk::number_of(walked)

@@ -33,14 +33,13 @@ pub(crate) fn asked_of(asked: u32, limit: u64) -> Asked
     }
 }
 
-// The lists that a number names, a bit for each: 1 the class bytes, 2 the vans, 4 the times.
+// The lists that a number names, a bit for each: 1 the class bytes, 2 the vans.
 pub(crate) fn lists_of(brought: u32) -> Lists
     ensures { result ≡ lists_of brought }
 {
     Lists {
         classes: brought % 2 == 1,
         vans: brought / 2 % 2 == 1,
-        times: brought / 4 % 2 == 1,
     }
 }
 

@@ -1,5 +1,5 @@
 -- A limit above the sum of all weights is accepted wherever "no cover" is not said. At that limit every edge is light; with roots no part reaches
--- the threshold, so that none is to be assigned; without roots each component needs one tree, and no time is above it. So the trial there gives a cover.
+-- the threshold, so that none is to be assigned; without roots each component needs one tree. So the trial there gives a cover.
 -- Assumes nothing.
 use Prim.Native.Nat.{ℕ, suc, ◌*◌, ◌/◌, ◌≤◌, ◌<◌}
 use mathlib.Core.Path.{◌≡◌, refl, sym, ap, ◌∙◌}
@@ -20,7 +20,7 @@ use Rattle.lists.proofs.Sums.{sum_within}
 use Rattle.lists.proofs.SumsAlike.{sum_same, length_sum}
 use Rattle.lists.proofs.Times.{times_append, times_once}
 use Rattle.graph.specs.Graph.{Graph, edge_count, weight_of}
-use Rattle.graph.specs.Valid.{Copied, Valid}
+use Rattle.graph.specs.Valid.{Valid}
 use Rattle.matching.specs.Assignable.{assignable}
 use Rattle.rules.specs.Walk.{total_weight}
 use Rattle.rules.specs.Cover.{Tree, tree_weight, Crews, rooted, unrooted, IsCover}
@@ -37,7 +37,6 @@ use Rattle.forest_laws.proofs.Forest.{forest_light}
 use Rattle.forest_laws.proofs.Ordering.{in_ordered, of_ordered}
 use Rattle.planner_laws.proofs.RootedPieces.{rooted_part, parts_once}
 use Rattle.planner_laws.proofs.ComponentEdges.{component_roots, component_edge, component_once}
-use Rattle.planner_laws.proofs.CopiesServed.{none_unserved}
 use Rattle.planner_laws.proofs.SomeChoices.{good_choices}
 use Rattle.planner_laws.proofs.TrialBounds.{trial_trees}
 use Rattle.planner_laws.proofs.BothKinds.{trial_bounds}
@@ -110,16 +109,14 @@ module _ (g : Graph) where
   -- BOTH KINDS
 
   -- Where "no cover" is not said, the limit is accepted.
-  pub above_accepted : Copied g → (crews : Crews) → no_cover_exists g crews ≡ false → accepts g crews above_sum ≡ true
-  unfolding no_cover_exists accepts no_vertex unjoined_at
-  above_accepted copied (rooted roots) t =
+  pub above_accepted : (crews : Crews) → no_cover_exists g crews ≡ false → accepts g crews above_sum ≡ true
+  unfolding no_cover_exists accepts unjoined_at
+  above_accepted (rooted roots) t =
       rw (above_labels (together roots), not-false (no_vertex (unjoined g roots (merge_all g (together roots) (ordered g)))) t, above_assignable roots) refl
-  above_accepted copied (unrooted k) t =
-      let served = (none_unserved copied above_sum).1 (λ i h. within_above (omega (arith, copied.copies_most))) in
-      rw served (le-leb (needed g above_sum) k (omega (arith, above_needed, ltb-false k (length (lowest g (merge_all g apart (ordered g)))) t)))
+  above_accepted (unrooted k) t = le-leb (needed g above_sum) k (omega (arith, above_needed, ltb-false k (length (lowest g (merge_all g apart (ordered g)))) t))
 
 -- So there is a cover, the trial's own.
 pub some_cover : {g : Graph} → Valid g → (crews : Crews) → CrewsFit g crews → no_cover_exists g crews ≡ false → (trees : List Tree) × IsCover g crews trees
 some_cover {g} valid crews fit t =
     let (c, good) = good_choices valid crews fit (above_sum g) in
-    (trial_trees g crews (above_sum g) c, ((trial_bounds valid crews fit).accepted_covers (above_sum g) c (above_accepted g valid.copied crews t) good).cover)
+    (trial_trees g crews (above_sum g) c, ((trial_bounds valid crews fit).accepted_covers (above_sum g) c (above_accepted g crews t) good).cover)

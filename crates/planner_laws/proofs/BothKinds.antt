@@ -1,7 +1,6 @@
 -- For either kind of crews that fit a valid graph: a refused limit is below every cover's heaviest, and at an accepted limit B the trial's
 -- trees are a cover of heaviest at most 4B - 2.
 -- Assumes nothing.
-use native.Mathlib.Omega.{arith}
 use Rattle.graph.specs.Graph.{Graph}
 use Rattle.graph.specs.Valid.{Valid}
 use Rattle.rules.specs.Cover.{Crews, rooted, unrooted}
@@ -11,7 +10,6 @@ use Rattle.planner_laws.proofs.RootedStop.{stop_too_low}
 use Rattle.planner_laws.proofs.RootedParts.{parts_too_low}
 use Rattle.planner_laws.proofs.RootedAssigned.{AcceptedAt}
 use Rattle.planner_laws.proofs.RootedCover.{accepted_covers, accepted_heaviest}
-use Rattle.planner_laws.proofs.CopiesServed.{copy_too_low}
 use Rattle.planner_laws.proofs.UnrootedTooLow.{needs_too_low}
 use Rattle.planner_laws.proofs.UnrootedCover.{accepted_covers_unrooted}
 use Rattle.planner_laws.proofs.TrialBounds.{TrialBounds, rooted_bounds, unrooted_bounds}
@@ -25,13 +23,12 @@ trial_bounds {g} valid (rooted roots) (some, inside) =
       accepted_covers =
           λ limit c joined assigned good.
           let at : AcceptedAt g roots limit c =
-          record { valid = valid; some_root = some; roots_inside = λ r m. omega (arith, inside r m, valid.copied.starts_most); roots_start = inside; all_joined_lem = joined; assignable = assigned; good = good } in
+          record { valid = valid; some_root = some; roots_inside = inside; all_joined_lem = joined; assignable = assigned; good = good } in
           record { cover = accepted_covers at; light = accepted_heaviest at };
     })
 trial_bounds {g} valid (unrooted k) some =
     unrooted_bounds
     (record {
-      time_too_low = λ limit v q trees cover. copy_too_low valid.copied limit q cover.all_covered;
       needs_too_low = λ limit. needs_too_low (valid_ends valid) k limit;
-      accepted_covers = λ limit served few. let (cover, light) = accepted_covers_unrooted valid k limit served few in record { cover = cover; light = light };
+      accepted_covers = λ limit few. let (cover, light) = accepted_covers_unrooted valid k limit few in record { cover = cover; light = light };
     })

@@ -52,8 +52,6 @@ pub mod UnrootedServed
 -- Both kinds:
 -- a leaf edge above the limit: where no tree starts at the leaf, every cover has a tree above the limit
 pub mod Unserved
--- so each time stands in exactly one tree of an answer, and no tree starts at a copy; below some time no cover is within the limit (document 02, A.7)
-pub mod CopiesServed
 -- What the answers mean (document 01, "A trial at limit B" and "The best limit"):
 -- the two facts of a trial on which the rest stands
 pub mod TrialBounds

@@ -10,15 +10,15 @@ use mathlib.Core.Option.{Option, some, none}
 use native.Mathlib.Omega.{arith}
 use lib.Dec.{leb}
 use Rattle.graph.specs.Graph.{Graph}
-use Rattle.graph.specs.Valid.{Copied, Valid}
+use Rattle.graph.specs.Valid.{Valid}
 use Rattle.rules.specs.Cover.{Tree, heaviest, Crews, rooted, unrooted, IsCover}
-use Rattle.rules.specs.Reply.{Reply, refused, covered, too_low_stop, too_low_parts, too_low_needs, no_cover, stop_or}
-use Rattle.rules.specs.RootedTrial.{Choices, unjoined_at, is_assignable, rooted_trial}
-use Rattle.rules.specs.UnrootedTrial.{needed, unserved, unrooted_trial}
+use Rattle.rules.specs.Reply.{Reply, refused, covered, too_low_stop, too_low_parts, too_low_needs, no_cover}
+use Rattle.rules.specs.RootedTrial.{Choices, stop_or, unjoined_at, is_assignable, rooted_trial}
+use Rattle.rules.specs.UnrootedTrial.{needed, unrooted_trial}
 use Rattle.rules.specs.Search.{no_vertex, accepts, trial, no_cover_exists, Bounds, best_limit, best}
 use Rattle.rules.specs.FewTrials.{standing, Known, known, Told, untried, before_trials, within}
 use Rattle.rules.specs.Questions.{most_trials}
-use Rattle.rules.specs.Weightless.{ZeroAccepted}
+use Rattle.rules.specs.Weightless.{WeightlessJoined}
 use Rattle.rules.specs.Fit.{GoodFor, CrewsFit}
 use Rattle.planner_laws.specs.Meaning.{NoneWithin, NoneAtAll, AtZero, TrialSays, TrialMeans, BestSays, BestMeans, WithinSays, WithinMeans}
 use Rattle.planner_laws.proofs.AboveSum.{some_cover}
@@ -35,16 +35,13 @@ use Rattle.planner_laws.proofs.ZeroLimit.{zero_accepts}
 pub accepted_covered : (g : Graph) (crews : Crews) (limit : ℕ) (c : Choices) → accepts g crews limit ≡ true
     → trial g crews limit c ≡ covered limit (heaviest g (trial_trees g crews limit c)) (trial_trees g crews limit c)
 unfolding accepts trial rooted_trial unrooted_trial stop_or no_vertex
-accepted_covered g crews limit c t = by_kind crews t
+accepted_covered g (rooted roots) limit c t = go (unjoined_at g roots limit) (is_assignable g roots limit) _ _ t
   where
     go : (o : Option ℕ) (a : Bool) (x y : Reply) → (no_vertex o && a) ≡ true → stop_or o (cond a x y) ≡ x
     go (some v) a x y t = absurd (false≢true t)
     go none true x y t = refl
     go none false x y t = absurd (false≢true t)
-
-    by_kind : (crews : Crews) → accepts g crews limit ≡ true → trial g crews limit c ≡ covered limit (heaviest g (trial_trees g crews limit c)) (trial_trees g crews limit c)
-    by_kind (rooted roots) t = go (unjoined_at g roots limit) (is_assignable g roots limit) _ _ t
-    by_kind (unrooted k) t = go (unserved g limit) (leb (needed g limit) k) _ _ t
+accepted_covered g (unrooted k) limit c t = rw t
 
 -- A trial that replies with trees was accepted.
 pub covered_accepted : (g : Graph) (crews : Crews) (limit : ℕ) (c : Choices) {replied h : ℕ} {trees : List Tree} → trial g crews limit c ≡ covered replied h trees
@@ -56,12 +53,11 @@ covered_accepted g (rooted roots) limit c {replied} {h} {trees} q = go (unjoined
     go (some v) a x T D parts q = let z : ◌≡◌ {A = ℕ} 0 1 = cc in absurd (omega arith)
     go none true x T D parts q = refl
     go none false x T D parts q = let z : ◌≡◌ {A = ℕ} 0 1 = cc in absurd (omega arith)
-covered_accepted g (unrooted k) limit c {replied} {h} {trees} q = go (unserved g limit) (leb (needed g limit) k) _ _ q
+covered_accepted g (unrooted k) limit c {replied} {h} {trees} q = go (leb (needed g limit) k) _ _ q
   where
-    go : (o : Option ℕ) (a : Bool) (x : Reply) (C : ℕ) → stop_or o (cond a x (too_low_needs C)) ≡ covered replied h trees → (no_vertex o && a) ≡ true
-    go (some v) a x C q = let z : ◌≡◌ {A = ℕ} 0 1 = cc in absurd (omega arith)
-    go none true x C q = refl
-    go none false x C q = let z : ◌≡◌ {A = ℕ} 0 1 = cc in absurd (omega arith)
+    go : (a : Bool) (x : Reply) (C : ℕ) → cond a x (too_low_needs C) ≡ covered replied h trees → a ≡ true
+    go true x C q = refl
+    go false x C q = let z : ◌≡◌ {A = ℕ} 0 1 = cc in absurd (omega arith)
 
 -- Both ways: a limit is accepted exactly where the trial replies with its trees.
 pub accepts_is_covered : (g : Graph) (crews : Crews) (limit : ℕ) (c : Choices) → (accepts g crews limit ≡ true)
@@ -84,17 +80,15 @@ trial_says {g} (rooted roots) bounds limit c good =
     go (some v) a trees T D parts covers below fewer = below refl
     go none true trees T D parts covers below fewer = accepted_says (covers refl)
     go none false trees T D parts covers below fewer = record { none_within = below refl; fewer = fewer refl }
-trial_says {g} (unrooted k) bounds limit c good = go (unserved g limit) (leb (needed g limit) k) _ _ (λ t. bounds.accepted_covers limit c t good) (bounds.refused_below limit)
+trial_says {g} (unrooted k) bounds limit c good = go (leb (needed g limit) k) _ _ (λ t. bounds.accepted_covers limit c t good) (bounds.refused_below limit)
   where
-    go : (o : Option ℕ) (a : Bool) (trees : List Tree) (C : ℕ) → ((no_vertex o && a) ≡ true → CoverWithin g (unrooted k) limit trees)
-        → ((no_vertex o && a) ≡ false → NoneWithin g (unrooted k) limit)
-        → TrialSays g (unrooted k) limit (stop_or o (cond a (covered limit (heaviest g trees) trees) (too_low_needs C)))
-    go (some v) a trees C covers below = below refl
-    go none true trees C covers below = accepted_says (covers refl)
-    go none false trees C covers below = below refl
+    go : (a : Bool) (trees : List Tree) (C : ℕ) → (a ≡ true → CoverWithin g (unrooted k) limit trees) → (a ≡ false → NoneWithin g (unrooted k) limit)
+        → TrialSays g (unrooted k) limit (cond a (covered limit (heaviest g trees) trees) (too_low_needs C))
+    go true trees C covers below = accepted_says (covers refl)
+    go false trees C covers below = below refl
 
 -- What is replied at limit 0.
-module _ {g : Graph} {crews : Crews} (copied : Copied g) (fit : CrewsFit g crews) (bounds : TrialBounds g crews) (limit : ℕ) (c : Choices) (good : GoodFor g crews limit c) where
+module _ {g : Graph} {crews : Crews} (fit : CrewsFit g crews) (bounds : TrialBounds g crews) (limit : ℕ) (c : Choices) (good : GoodFor g crews limit c) where
   abbrev ours : List Tree
   ours = trial_trees g crews limit c
 
@@ -102,11 +96,11 @@ module _ {g : Graph} {crews : Crews} (copied : Copied g) (fit : CrewsFit g crews
   same : {h : ℕ} {trees : List Tree} → trial g crews limit c ≡ covered 0 h trees → covered limit (heaviest g ours) ours ≡ covered 0 h trees
   same q = sym (accepted_covered g crews limit c (covered_accepted g crews limit c q)) ∙ q
 
-  zero_joined : {h : ℕ} {trees : List Tree} → trial g crews limit c ≡ covered 0 h trees → ZeroAccepted g crews
+  zero_joined : {h : ℕ} {trees : List Tree} → trial g crews limit c ≡ covered 0 h trees → WeightlessJoined g crews
   zero_joined q =
       let r = same q in
       let z : limit ≡ 0 = cc in
-      (zero_accepts copied crews fit).0 (subst (λ l. accepts g crews l ≡ true) z (covered_accepted g crews limit c q))
+      (zero_accepts g crews fit).0 (subst (λ l. accepts g crews l ≡ true) z (covered_accepted g crews limit c q))
 
   zero_weighs : {h : ℕ} {trees : List Tree} → trial g crews limit c ≡ covered 0 h trees → h ≡ 0
   zero_weighs {h} q =
@@ -116,7 +110,7 @@ module _ {g : Graph} {crews : Crews} (copied : Copied g) (fit : CrewsFit g crews
       omega (arith, (bounds.accepted_covers limit c (covered_accepted g crews limit c q) good).light)
 
   -- It is such a cover wherever weightless edges join what they should, if the limit is 0 and accepted there.
-  trial_zero : (ZeroAccepted g crews → (limit ≡ 0) × (accepts g crews limit ≡ true)) → AtZero g crews (trial g crews limit c)
+  trial_zero : (WeightlessJoined g crews → (limit ≡ 0) × (accepts g crews limit ≡ true)) → AtZero g crews (trial g crews limit c)
   trial_zero accepted = record {
     exactly = (λ r. let (h, trees, q) = r in zero_joined q, λ w. replied (accepted w));
     weighs_nothing = λ h trees q. zero_weighs q;
@@ -126,11 +120,11 @@ module _ {g : Graph} {crews : Crews} (copied : Copied g) (fit : CrewsFit g crews
       replied (z, a) = (heaviest g ours, ours, accepted_covered g crews limit c a ∙ ap (λ l. covered l (heaviest g ours) ours) z)
 
 -- A trial's reply means what the documents say of it.
-pub trial_means : {g : Graph} → Copied g → (crews : Crews) → CrewsFit g crews → TrialBounds g crews → (limit : ℕ) (c : Choices) → GoodFor g crews limit c
+pub trial_means : {g : Graph} (crews : Crews) → CrewsFit g crews → TrialBounds g crews → (limit : ℕ) (c : Choices) → GoodFor g crews limit c
     → TrialMeans g crews limit (trial g crews limit c)
-trial_means {g} copied crews fit bounds limit c good = record {
+trial_means {g} crews fit bounds limit c good = record {
   says = trial_says crews bounds limit c good;
-  at_zero = λ z. trial_zero copied fit bounds limit c good (λ w. (z, subst (λ l. accepts g crews l ≡ true) (sym z) ((zero_accepts copied crews fit).1 w)));
+  at_zero = λ z. trial_zero fit bounds limit c good (λ w. (z, subst (λ l. accepts g crews l ≡ true) (sym z) ((zero_accepts g crews fit).1 w)));
 }
 
 -- THE BEST LIMIT, AND THE SEARCH STOPPED AFTER SOME TRIALS
@@ -145,9 +139,6 @@ pub within_means : {g : Graph} → Valid g → (crews : Crews) → CrewsFit g cr
 unfolding within untried
 within_means {g} valid crews fit bounds p c good = go (no_cover_exists g crews) refl
   where
-    copied : Copied g
-    copied = valid.copied
-
     -- 33 trials are never spent.
     never_spent : p ≡ most_trials → (known g crews p).spent ≡ false
     never_spent q = subst (λ n. (known g crews n).spent ≡ false) (sym q) (valid_unspent valid crews)
@@ -173,15 +164,15 @@ within_means {g} valid crews fit bounds p c good = go (no_cover_exists g crews) 
                   within_eight = eightfold valid ours.cover (four cover s);
                 };
               });
-          at_zero = trial_zero copied fit bounds (standing g crews p).high c good (λ w. (ap (λ (b : Bounds). b.high) (standing_zero g crews p ((zero_accepts copied crews fit).1 w)), accepted));
+          at_zero = trial_zero fit bounds (standing g crews p).high c good (λ w. (ap (λ (b : Bounds). b.high) (standing_zero g crews p ((zero_accepts g crews fit).1 w)), accepted));
           enough = never_spent;
         }
 
     -- Where there is no cover, none is at limit 0.
-    missing : NoneAtAll g crews → ZeroAccepted g crews → ⊥
+    missing : NoneAtAll g crews → WeightlessJoined g crews → ⊥
     missing never w =
         let (d, chosen) = good_choices valid crews fit 0 in
-        never _ (bounds.accepted_covers 0 d ((zero_accepts copied crews fit).1 w) chosen).cover
+        never _ (bounds.accepted_covers 0 d ((zero_accepts g crews fit).1 w) chosen).cover
 
     uncovered : (h : ℕ) (trees : List Tree) → no_cover ≡ covered 0 h trees → ⊥
     uncovered h trees q = let z : ◌≡◌ {A = ℕ} 0 1 = cc in omega arith

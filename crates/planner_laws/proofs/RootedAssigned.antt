@@ -35,7 +35,6 @@ pub record AcceptedAt (g : Graph) (roots : List ℕ) (limit : ℕ) (c : Choices)
   pub valid : Valid g
   pub some_root : 1 ≤ length roots
   pub roots_inside : (r : ℕ) → r ∈ roots → r < g.vertices
-  pub roots_start : (r : ℕ) → r ∈ roots → r < g.starts
   pub all_joined_lem : unjoined_at g roots limit ≡ none
   pub assignable : is_assignable g roots limit ≡ true
   pub good : GoodChoices g roots limit c

@@ -23,7 +23,6 @@ use Rattle.forest_laws.proofs.UnionTree.{union_is_tree, union_weight, union_cove
 use Rattle.split_laws.proofs.Whole.{Held, at_root, at_part, at_left, valid_ends, rooted_whole}
 use Rattle.planner_laws.proofs.RootedPieces.{rooted_trees, left_of_tree}
 use Rattle.planner_laws.proofs.RootedAssigned.{AcceptedAt, part_goes}
-use Rattle.planner_laws.proofs.CopiesServed.{rooted_copies_once}
 use Rattle.planner_laws.proofs.RootedUnion.{union_at, part_in_union, left_in_union, union_hangs, union_light}
 
 module _ {g : Graph} {roots : List ℕ} {limit : ℕ} {c : Choices} (accepted : AcceptedAt g roots limit c) where
@@ -43,7 +42,7 @@ module _ {g : Graph} {roots : List ℕ} {limit : ℕ} {c : Choices} (accepted : 
 
   -- Each is a tree,
   tree_is : (j : ℕ) → j < length roots → IsTree g (tree_at j)
-  tree_is j h = union_is_tree g (get_or roots j 0) (union_at g roots limit c j) (accepted.roots_start (get_or roots j 0) (at_place 0 roots j h)) (union_hangs g roots limit c accepted j h)
+  tree_is j h = union_is_tree g (get_or roots j 0) (union_at g roots limit c j) (accepted.roots_inside (get_or roots j 0) (at_place 0 roots j h)) (union_hangs g roots limit c accepted j h)
 
   -- covers whatever its union links to the root,
   reached_covered : {j v : ℕ} → j < length roots → Linked g (union_at g roots limit c j) (get_or roots j 0) v → (t : Tree) × (t ∈ rooted_cover g roots limit c) × Covers g t v
@@ -75,7 +74,6 @@ module _ {g : Graph} {roots : List ℕ} {limit : ℕ} {c : Choices} (accepted : 
       are_trees = λ t m. let (j, k, q) = of_map tree_at (below (length roots)) (rw cover_is at m) in rw q (tree_is j (of_below (length roots) k));
       covered = λ v h. held_covered ((rooted_whole (valid_ends accepted.valid) limit roots accepted.roots_inside accepted.some_root accepted.all_joined_lem limit).held v h);
     };
-    served_once = rooted_copies_once accepted;
   }
 
   -- The heaviest weighs at most 4 B - 2.

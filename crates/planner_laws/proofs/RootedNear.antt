@@ -22,7 +22,7 @@ use Rattle.rules.specs.RootedTrial.{rooted_parts, part_of, may_go}
 use Rattle.rules.proofs.Linked.{linked_more}
 use Rattle.forest_laws.proofs.Roots.{Reached}
 use Rattle.distance_laws.proofs.NearPart.{reaches_near}
-use Rattle.distance_laws.proofs.Covered.{covered_linked, covered_light, start_vertex}
+use Rattle.distance_laws.proofs.Covered.{covered_linked, covered_light}
 use Rattle.planner_laws.proofs.RootedWithin.{tree_starts, tree_count, start_at, tree_light}
 
 -- The start of a tree that covers a vertex of a part is as near to the part as the tree is light.
@@ -31,7 +31,7 @@ covered_reaches : {g : Graph} → Valid g → (limit : ℕ) (part : Tree) {t : T
 unfolding tree_weight
 covered_reaches {g} valid limit part {t} {v} tree light c m =
     let w = covered_light tree c in
-    (reaches_near valid (start_vertex tree valid) limit part).1 (record { end = v; in_part_lem = m; path = w.path; leads = w.leads; light = omega (arith, w.light) })
+    (reaches_near valid tree.start_inside limit part).1 (record { end = v; in_part_lem = m; path = w.path; leads = w.leads; light = omega (arith, w.light) })
 
 module _ (g : Graph) (roots : List ℕ) (limit : ℕ) (marks : List ℕ) where
   -- The root of a number is allowed to a part of the set.

@@ -4,7 +4,6 @@ use Prim.Native.Nat.{ℕ, ◌<◌}
 use mathlib.Core.Path.{◌≡◌, refl, sym, ◌∙◌}
 use mathlib.Core.Bool.{Bool, true, false, true≢false}
 use mathlib.Core.List.{List, []}
-use native.Mathlib.Omega.{arith}
 use lib.ListN.{length, get_or}
 use Rattle.lists.specs.Member.{◌∈◌}
 use Rattle.lists.proofs.EachChosen.{each_chosen}
@@ -52,5 +51,5 @@ module _ {g : Graph} (valid : Valid g) (roots : List ℕ) (inside : (r : ℕ) �
 
 -- So it is for crews of either kind.
 pub good_choices : {g : Graph} → Valid g → (crews : Crews) → CrewsFit g crews → (limit : ℕ) → (c : Choices) × GoodFor g crews limit c
-good_choices valid (rooted roots) (has_root, inside) limit = some_choices valid roots (λ r m. omega (arith, inside r m, valid.copied.starts_most)) limit
+good_choices valid (rooted roots) (has_root, inside) limit = some_choices valid roots inside limit
 good_choices valid (unrooted k) fit limit = (no_choices, tt)

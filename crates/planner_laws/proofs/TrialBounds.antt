@@ -7,14 +7,13 @@ use mathlib.Core.Bool.{true, false, ◌&&◌, false≢true}
 use mathlib.Core.List.{List}
 use mathlib.Core.Option.{Option, some, none}
 use lib.ListN.{length}
-use lib.Dec.{leb}
 use borrow.Author.Tests.{leb-true, leb-false}
 use Rattle.graph.specs.Graph.{Graph}
 use Rattle.matching.specs.Assignment.{IsDeficient}
 use Rattle.matching.proofs.Hall.{unassignable_deficient}
 use Rattle.rules.specs.Cover.{Tree, heaviest, Crews, rooted, unrooted, IsCover}
 use Rattle.rules.specs.RootedTrial.{Choices, GoodChoices, unjoined_at, rooted_parts, may_go, is_assignable, rooted_cover}
-use Rattle.rules.specs.UnrootedTrial.{needed, unrooted_trees, unserved}
+use Rattle.rules.specs.UnrootedTrial.{needed, unrooted_trees}
 use Rattle.rules.specs.Search.{no_vertex, accepts}
 use Rattle.rules.specs.Fit.{GoodFor}
 use Rattle.planner_laws.specs.Meaning.{NoneWithin}
@@ -60,24 +59,15 @@ rooted_bounds {g} {roots} b =
     covers limit c good (some v) q t = absurd (false≢true t)
     covers limit c good none q t = b.accepted_covers limit c q t good
 
--- Unrooted: a limit is refused by a time above it, or by the number of trees needed.
+-- Unrooted: a limit is refused by the number of trees needed.
 pub record UnrootedBounds (g : Graph) (k : ℕ) : Type 0 where
-  pub time_too_low : (limit v : ℕ) → unserved g limit ≡ some v → NoneWithin g (unrooted k) limit
   pub needs_too_low : (limit : ℕ) → k < needed g limit → NoneWithin g (unrooted k) limit
-  pub accepted_covers : (limit : ℕ) → unserved g limit ≡ none → needed g limit ≤ k → CoverWithin g (unrooted k) limit (unrooted_trees g limit)
+  pub accepted_covers : (limit : ℕ) → needed g limit ≤ k → CoverWithin g (unrooted k) limit (unrooted_trees g limit)
 
 pub unrooted_bounds : {g : Graph} {k : ℕ} → UnrootedBounds g k → TrialBounds g (unrooted k)
-unfolding accepts no_vertex
+unfolding accepts
 unrooted_bounds {g} {k} b =
     record {
-      refused_below = λ limit t. below limit (unserved g limit) refl t;
-      accepted_covers = λ limit c t good. covers limit (unserved g limit) refl t;
+      refused_below = λ limit t. b.needs_too_low limit (leb-false (needed g limit) k t);
+      accepted_covers = λ limit c t good. b.accepted_covers limit (leb-true (needed g limit) k t);
     }
-  where
-    below : (limit : ℕ) (o : Option ℕ) → unserved g limit ≡ o → (no_vertex o && leb (needed g limit) k) ≡ false → NoneWithin g (unrooted k) limit
-    below limit (some v) q t = b.time_too_low limit v q
-    below limit none q t = b.needs_too_low limit (leb-false (needed g limit) k t)
-
-    covers : (limit : ℕ) (o : Option ℕ) → unserved g limit ≡ o → (no_vertex o && leb (needed g limit) k) ≡ true → CoverWithin g (unrooted k) limit (unrooted_trees g limit)
-    covers limit (some v) q t = absurd (false≢true t)
-    covers limit none q t = b.accepted_covers limit q (leb-true (needed g limit) k t)

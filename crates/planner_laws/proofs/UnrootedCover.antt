@@ -2,8 +2,7 @@
 -- a root or an end of an edge in a part or a leftover; a root whose leftover is dropped is an end of an edge of one of its parts.
 -- Assumes nothing.
 use Prim.Native.Nat.{ℕ, ◌*◌, ◌-◌, ◌≤◌, ◌<◌}
-use mathlib.Core.Path.{◌≡◌, refl, subst}
-use mathlib.Core.Option.{none}
+use mathlib.Core.Path.{refl, subst}
 use mathlib.Core.List.Memᴰ
 use mathlib.Core.Logic.{◌⊎◌, inl, inr}
 use native.Mathlib.Omega.{arith}
@@ -20,7 +19,7 @@ use Rattle.rules.specs.Labels.{apart}
 use Rattle.rules.specs.Forest.{labels_at, lowest}
 use Rattle.rules.specs.Grow.{Rooted}
 use Rattle.rules.specs.Split.{split}
-use Rattle.rules.specs.UnrootedTrial.{components, needed, from_lowest, component_trees, unrooted_trees, unserved}
+use Rattle.rules.specs.UnrootedTrial.{components, needed, from_lowest, component_trees, unrooted_trees}
 use Rattle.rules.proofs.Linked.{joins_back}
 use Rattle.rules.proofs.Joined.{joins_covers}
 use Rattle.split_laws.proofs.SplitForest.{of_all_parts}
@@ -30,7 +29,6 @@ use Rattle.planner_laws.proofs.ComponentEdges.{component_hangs, component_roots}
 use Rattle.planner_laws.proofs.ComponentTrees.{component_parts, component_leftover, Dropped, part_stands, leftover_stands}
 use Rattle.planner_laws.proofs.UnrootedNumber.{in_unrooted, unrooted_few}
 use Rattle.planner_laws.proofs.UnrootedStart.{lowest_covers}
-use Rattle.planner_laws.proofs.CopiesServed.{unrooted_copies_once}
 use Rattle.planner_laws.proofs.UnrootedTrees.{part_hung, leftover_hung, unrooted_is_tree, unrooted_weight}
 
 module _ (g : Graph) (ends : EndsInside g) (limit : ℕ) where
@@ -49,8 +47,8 @@ module _ (g : Graph) (ends : EndsInside g) (limit : ℕ) where
       where
         go : (from_lowest g (component_leftover g limit t) ∈ component_trees g limit t) ⊎ Dropped g limit t → HasTree t.root
         go (inl s) = (_, in_unrooted g limit m s, lowest_covers (leftover_hung g limit m) (at_start refl))
-        go (inr ((p, n), bare)) =
-            let (part, i, (e, far, k, j)) = root_in_part g (2 * limit) t (component_hangs g limit m) n bare in
+        go (inr ((p, n), none)) =
+            let (part, i, (e, far, k, j)) = root_in_part g (2 * limit) t (component_hangs g limit m) n none in
             by_part i (joins_covers k (joins_back j))
 
     -- and the ends of the edges that are left.
@@ -59,7 +57,7 @@ module _ (g : Graph) (ends : EndsInside g) (limit : ℕ) where
       where
         go : (from_lowest g (component_leftover g limit t) ∈ component_trees g limit t) ⊎ Dropped g limit t → HasTree v
         go (inl s) = (_, in_unrooted g limit m s, lowest_covers (leftover_hung g limit m) (joins_covers (in_rise n) j))
-        go (inr (p, bare)) = absurd (Memᴰ.not-nil (subst (λ l. e ∈ l) bare n))
+        go (inr (p, none)) = absurd (Memᴰ.not-nil (subst (λ l. e ∈ l) none n))
 
   -- Every vertex is covered by a tree of the answer.
   pub unrooted_covered : (v : ℕ) → v < g.vertices → (u : Tree) × (u ∈ unrooted_trees g limit) × Covers g u v
@@ -71,17 +69,16 @@ module _ (g : Graph) (ends : EndsInside g) (limit : ℕ) where
       go (at_part p m e far n j) = let (t, i, k) = of_all_parts g (2 * limit) (components g limit) m in by_part i k (joins_covers n j)
       go (at_left t m e far n j) = by_left m n j
 
--- Where no time is above the limit and the components need at most k trees, the answer is a cover by at most k trees, and its heaviest weighs at most 4 B - 2.
-pub accepted_covers_unrooted : {g : Graph} → Valid g → (k limit : ℕ) → unserved g limit ≡ none → needed g limit ≤ k
+-- Where the components need at most k trees, the answer is a cover by at most k trees, and its heaviest weighs at most 4 B - 2.
+pub accepted_covers_unrooted : {g : Graph} → Valid g → (k limit : ℕ) → needed g limit ≤ k
     → IsCover g (unrooted k) (unrooted_trees g limit) × (heaviest g (unrooted_trees g limit) ≤ 4 * limit - 2)
 unfolding heaviest
-accepted_covers_unrooted {g} valid k limit served few =
+accepted_covers_unrooted {g} valid k limit few =
     let ends = valid_ends valid in
     let (u, m, c) = unrooted_covered g ends limit 0 valid.vertices_some in (
       record {
         starts = (omega (arith, length_removed m), omega (arith, unrooted_few g limit));
-        all_covered = record { are_trees = λ t i. unrooted_is_tree g limit i valid.copied ends served; covered = unrooted_covered g ends limit };
-        served_once = unrooted_copies_once valid.copied limit ends served;
+        all_covered = record { are_trees = λ t i. unrooted_is_tree g limit i ends; covered = unrooted_covered g ends limit };
       },
       largest_most (tree_weight g) (4 * limit - 2) (unrooted_trees g limit) (λ t i. unrooted_weight g limit i),
     )

@@ -47,7 +47,7 @@ module _ {g : Graph} {t : Tree} (hung : Hung g t) {v : ℕ} (c : Covers g t v) w
   from_there l = linked_on (linked_back (joined_covers hung.joined c)) l
 
   -- so that it is a tree where it may start there,
-  started_is_tree : v < g.starts → IsTree g (started_at v t)
+  started_is_tree : v < g.vertices → IsTree g (started_at v t)
   started_is_tree inside = record {
     start_inside = inside;
     edges_inside = hung.edges_inside;
@@ -76,7 +76,7 @@ lowest_most g t c = least_most t.start (covered_stands g t c)
 
 module _ {g : Graph} {t : Tree} (hung : Hung g t) where
   -- Started at its lowest vertex, a tree is a tree where it may start there,
-  pub lowest_is_tree : (from_lowest g t).start < g.starts → IsTree g (from_lowest g t)
+  pub lowest_is_tree : (from_lowest g t).start < g.vertices → IsTree g (from_lowest g t)
   unfolding from_lowest
   lowest_is_tree inside = started_is_tree hung (lowest_covered g t) inside
 

@@ -3,7 +3,6 @@
 -- Assumes nothing.
 use Prim.Native.Nat.{ℕ, ◌*◌, ◌-◌, ◌≤◌}
 use mathlib.Core.Path.{◌≡◌}
-use mathlib.Core.Option.{none}
 use mathlib.Core.List.{List}
 use mathlib.Core.Logic.{◌⊎◌, inl, inr}
 use native.Mathlib.Omega.{arith}
@@ -17,14 +16,13 @@ use Rattle.lists.proofs.Without.{without_within}
 use Rattle.lists.proofs.SumsAlike.{sum_zero}
 use Rattle.lists.proofs.Times.{times_rise}
 use Rattle.graph.specs.Graph.{Graph, weight_of}
-use Rattle.graph.specs.Valid.{Copied}
 use Rattle.rules.specs.Walk.{total_weight}
 use Rattle.rules.specs.Cover.{Tree, IsTree, tree_weight}
 use Rattle.rules.specs.Labels.{apart}
 use Rattle.rules.specs.Forest.{forest}
 use Rattle.rules.specs.Grow.{Rooted}
 use Rattle.rules.specs.Split.{split}
-use Rattle.rules.specs.UnrootedTrial.{components, from_lowest, unrooted_trees, unserved}
+use Rattle.rules.specs.UnrootedTrial.{components, from_lowest, unrooted_trees}
 use Rattle.rules.proofs.Linked.{linked_more}
 use Rattle.rules.proofs.Joined.{JoinedTo}
 use Rattle.rules.proofs.EntryTimes.{entry_times}
@@ -36,8 +34,7 @@ use Rattle.split_laws.proofs.Whole.{EndsInside}
 use Rattle.planner_laws.proofs.ComponentEdges.{component_edge, component_once}
 use Rattle.planner_laws.proofs.ComponentTrees.{component_parts, component_leftover, part_or_leftover, component_split, part_known, leftover_known}
 use Rattle.planner_laws.proofs.UnrootedNumber.{of_unrooted}
-use Rattle.planner_laws.proofs.CopiesServed.{unrooted_starts_below}
-use Rattle.planner_laws.proofs.UnrootedStart.{Hung, lowest_is_tree}
+use Rattle.planner_laws.proofs.UnrootedStart.{Hung, lowest_is_tree, unrooted_start_inside}
 
 -- Edges of the forest that rise and are joined to a vertex are a tree from there.
 forest_tree : (g : Graph) (limit : ℕ) (u : Tree) → ((e : ℕ) → e ∈ u.edges → e ∈ forest g apart limit) → Rising u.edges → JoinedTo g u.start u.edges → Hung g u
@@ -100,11 +97,11 @@ module _ (g : Graph) (limit : ℕ) {t : Rooted} (m : t ∈ components g limit) w
 
 module _ (g : Graph) (limit : ℕ) {u : Tree} (m : u ∈ unrooted_trees g limit) where
   -- The trees of the answer are trees,
-  pub unrooted_is_tree : Copied g → EndsInside g → unserved g limit ≡ none → IsTree g u
-  unrooted_is_tree copied ends served =
+  pub unrooted_is_tree : EndsInside g → IsTree g u
+  unrooted_is_tree ends =
       let (t, i, n) = of_unrooted g limit m in
       let (p, q, c) = part_or_leftover g limit t n in
-      let inside = unrooted_starts_below copied limit ends served m in
+      let inside = unrooted_start_inside g limit ends m in
       rw q (lowest_is_tree (go i c) (rw q at inside))
     where
       go : {t : Rooted} {p : Tree} → t ∈ components g limit → (p ∈ component_parts g limit t) ⊎ (p ≡ component_leftover g limit t) → Hung g p

@@ -1,19 +1,17 @@
--- Limit 0 (document 02, A.4): "A limit of 0 accepts exactly when weightless lines join every stop to a yard, or into at most k components", where there is
--- no time (A.7).
+-- Limit 0 (document 02, A.4): "A limit of 0 accepts exactly when weightless lines join every stop to a yard, or into at most k components."
 -- Nothing is split there, so that every root is free, and a component needs one tree.
 -- Assumes nothing.
-use Prim.Native.Nat.{ℕ, ◌+◌, ◌≤◌, ◌<◌}
+use Prim.Native.Nat.{ℕ, ◌≤◌, ◌<◌}
 use mathlib.Core.Path.{◌≡◌, refl, sym, ap, ◌∙◌, subst}
 use mathlib.Core.Bool.{Bool, true, false, ◌&&◌, false≢true}
 use mathlib.Core.List.Memᴰ
 use mathlib.Core.List.{List, [], ◌∷◌, map}
-use mathlib.Core.Logic.{◌↔◌, dite}
+use mathlib.Core.Logic.{◌↔◌}
 use mathlib.Core.Option.{Option, some, none}
-use native.Mathlib.Decide.{ℕ_discrete}
 use native.Mathlib.Nat.{div-zero}
 use native.Mathlib.Omega.{arith}
 use lib.ListN.{length, length-map}
-use lib.Dec.{eqb, leb}
+use lib.Dec.{eqb}
 use borrow.Author.Tests.{eqb-true, eq-eqb, leb-true, le-leb}
 use Rattle.lists.specs.Count.{below, from}
 use Rattle.lists.specs.Lists.{flat}
@@ -26,8 +24,7 @@ use Rattle.lists.proofs.InOrder.{rising_once, in_order_within}
 use Rattle.lists.proofs.Images.{images_once, images_in_order}
 use Rattle.lists.proofs.Lengths.{length_within}
 use Rattle.lists.proofs.SumsAlike.{sum_same, length_sum}
-use Rattle.graph.specs.Graph.{Graph, edge_count, weight_of, copy_count, line_count}
-use Rattle.graph.specs.Valid.{Copied}
+use Rattle.graph.specs.Graph.{Graph, edge_count, weight_of}
 use Rattle.matching.specs.Assignable.{assignable}
 use Rattle.rules.specs.Walk.{Linked, total_weight}
 use Rattle.rules.specs.Cover.{Crews, rooted, unrooted}
@@ -37,13 +34,11 @@ use Rattle.rules.specs.Forest.{forest, labels_at, lowest}
 use Rattle.rules.specs.Grow.{Rooted, branch_edges, grow}
 use Rattle.rules.specs.Split.{split, all_parts}
 use Rattle.rules.specs.RootedTrial.{unjoined_at, rooted_pieces, rooted_parts, is_assignable}
-use Rattle.rules.specs.UnrootedTrial.{components, needs, needed, unserved}
+use Rattle.rules.specs.UnrootedTrial.{components, needs, needed}
 use Rattle.rules.specs.Search.{no_vertex, accepts}
-use Rattle.rules.specs.Weightless.{weightless, JoinedTo, WeightlessJoined, ZeroAccepted}
+use Rattle.rules.specs.Weightless.{weightless, JoinedTo, WeightlessJoined}
 use Rattle.rules.specs.Fit.{CrewsFit}
 use Rattle.rules.proofs.Linked.{linked_more}
-use Rattle.rules.proofs.Leaf.{walk_to_leaf}
-use Rattle.rules.proofs.Copies.{copy_leaf}
 use Rattle.forest_laws.proofs.Limit.{in_light, of_light}
 use Rattle.forest_laws.proofs.Walks.{merged_linked, linked_merged}
 use Rattle.forest_laws.proofs.Roots.{some_head, root_is_reached}
@@ -51,7 +46,6 @@ use Rattle.forest_laws.proofs.Unjoined.{unjoined_none}
 use Rattle.split_laws.proofs.Lowest.{lowest_inside, lowest_rising, lowest_alike, lowest_of_lem}
 use Rattle.split_laws.proofs.Weights.{no_parts}
 use Rattle.planner_laws.proofs.ComponentEdges.{component_roots}
-use Rattle.planner_laws.proofs.CopiesServed.{none_unserved}
 
 module _ (g : Graph) where
   -- The weightless edges are those within limit 0, in another order,
@@ -160,8 +154,9 @@ module _ (g : Graph) where
           Memᴰ.cast (q ∙ sym (same_label l)) (in_map label i)
 
   -- Limit 0 is accepted exactly where weightless edges join every vertex to one of at most k.
-  needs_zero : (k : ℕ) → (leb (needed g 0) k ≡ true) ↔ WeightlessJoined g (unrooted k)
-  needs_zero k = (
+  unrooted_zero : (k : ℕ) → (accepts g (unrooted k) 0 ≡ true) ↔ WeightlessJoined g (unrooted k)
+  unfolding accepts
+  unrooted_zero k = (
     λ t. (lowests, omega (arith, leb-true (needed g 0) k t, zero_needed), lowest_joined),
     λ w. let (these, few, joined) = w in le-leb (needed g 0) k (omega (arith, zero_needed, joined_many these joined)),
   )
@@ -203,33 +198,7 @@ module _ (g : Graph) where
 
 -- BOTH KINDS
 
--- There are no copies where the first of them cannot be.
-none_copied : {g : Graph} → Copied g → (0 < copy_count g → ⊥) → g.starts ≡ g.vertices
-none_copied {g} copied never = dite (ℕ_discrete g.starts g.vertices) (λ q. q) (λ d. absurd (never (omega (arith, copied.starts_most))))
-
--- Weightless edges join no copy to a root, since its one edge weighs something.
-copy_unjoined : {g : Graph} → Copied g → {roots : List ℕ} → ((r : ℕ) → r ∈ roots → r < g.starts) → JoinedTo g roots → 0 < copy_count g → ⊥
-unfolding weightless
-copy_unjoined {g} copied inside joined h =
-    let (r, m, l) = joined (g.starts + 0) (omega (arith, copied.starts_most)) in
-    let known : (e : ℕ) → e ∈ l.path → (e < edge_count g) × (weight_of g e ≡ 0) =
-    λ e n. let (i, t) = of_filter (λ f. eqb (weight_of g f) 0) (below (edge_count g)) (l.along e n) in (of_below (edge_count g) i, eqb-true (weight_of g e) 0 t) in
-    let crossed = walk_to_leaf (copy_leaf copied 0 h) l.leads (λ e n. (known e n).0) (λ q. omega (arith, inside r m)) in
-    omega (arith, (known (line_count g + 0) crossed).1, copied.copy_weighs 0 h)
-
--- "A limit of 0 accepts exactly when weightless lines join every stop to a yard, or into at most k components", and there is no time.
-pub zero_accepts : {g : Graph} → Copied g → (crews : Crews) → CrewsFit g crews → (accepts g crews 0 ≡ true) ↔ ZeroAccepted g crews
-unfolding accepts no_vertex
-zero_accepts {g} copied (rooted roots) (has_root, inside) = (
-  λ t. let joined = (rooted_zero g roots has_root).0 t in (none_copied copied (copy_unjoined copied inside joined), joined),
-  λ z. (rooted_zero g roots has_root).1 z.1,
-)
-zero_accepts {g} copied (unrooted k) fit = (λ t. forward (unserved g 0) refl t, back)
-  where
-    forward : (o : Option ℕ) → unserved g 0 ≡ o → accepts g (unrooted k) 0 ≡ true → ZeroAccepted g (unrooted k)
-    forward (some v) q t = absurd (false≢true (rw q at t))
-    forward none q t =
-        (none_copied copied (λ h. omega (arith, (none_unserved copied 0).0 q 0 h, copied.copy_weighs 0 h)), (needs_zero g k).0 (rw q at t))
-
-    back : ZeroAccepted g (unrooted k) → accepts g (unrooted k) 0 ≡ true
-    back (same, w) = rw ((none_unserved copied 0).1 (λ i h. absurd (omega arith)), (needs_zero g k).1 w) refl
+-- "A limit of 0 accepts exactly when weightless lines join every stop to a yard, or into at most k components."
+pub zero_accepts : (g : Graph) (crews : Crews) → CrewsFit g crews → (accepts g crews 0 ≡ true) ↔ WeightlessJoined g crews
+zero_accepts g (rooted roots) (has_root, inside) = rooted_zero g roots has_root
+zero_accepts g (unrooted k) fit = unrooted_zero g k

@@ -7,9 +7,9 @@ use Rattle.rules.specs.Cover.{Tree, heaviest, Crews, IsCover}
 use Rattle.rules.specs.Reply.{Reply, refused, covered, too_low_stop, too_low_parts, too_low_needs, no_cover}
 use Rattle.rules.specs.FewTrials.{Known, Told}
 use Rattle.rules.specs.Questions.{most_trials}
-use Rattle.rules.specs.TimedWalk.{Tour}
+use Rattle.rules.specs.ClosedWalk.{Route}
 use Rattle.rules.specs.RivalWalks.{ClosedWalks, longest, walks_along}
-use Rattle.rules.specs.Weightless.{ZeroAccepted}
+use Rattle.rules.specs.Weightless.{WeightlessJoined}
 
 -- No cover by the crews is within the limit: the heaviest of each is above it.
 abbrev pub NoneWithin : Graph → Crews → ℕ → Type 0
@@ -36,13 +36,12 @@ pub record TooFewRoots (g : Graph) (crews : Crews) (limit T D : ℕ) : Type 0 wh
   pub fewer : D < T
 
 -- The best limit: a cover by the crews whose heaviest is at most four times that of every cover by the same crews; the limit is at most that of each.
--- "Our longest walk is at most eight times the longest of anybody's closed walks that together cover the sheet" (document 02, A.1), with the times that are
--- spent on them (A.7).
+-- "Our longest walk is at most eight times the longest of anybody's closed walks that together cover the sheet" (document 02, A.1).
 pub record CoveredBest (g : Graph) (crews : Crews) (limit h : ℕ) (trees : List Tree) : Type 0 where
   pub carries : Carries g crews h trees
   pub limit_least : (others : List Tree) → IsCover g crews others → limit ≤ heaviest g others
   pub factor_four : (others : List Tree) → IsCover g crews others → h ≤ 4 * heaviest g others
-  pub within_eight : (walks : List Tour) → ClosedWalks g crews walks → longest g (walks_along g trees) ≤ 8 * longest g walks
+  pub within_eight : (walks : List Route) → ClosedWalks g crews walks → longest g (walks_along g trees) ≤ 8 * longest g walks
 
 -- The best limit's question with a number of trials (document 02, A.6): "Nobody's cover has a heaviest tree below the floor, and ours is at most four
 -- times high." Of a spent reply no more is said against other covers; any other is the best limit's.
@@ -52,10 +51,10 @@ pub record CoveredSoFar (g : Graph) (crews : Crews) (high h : ℕ) (trees : List
   pub factor_four : h ≤ 4 * high
   pub unspent : k.spent ≡ false → CoveredBest g crews high h trees
 
--- "A limit of 0 accepts exactly when weightless lines join every stop to a yard, or into at most k components" (document 02, A.4), and never where there is
--- a time (A.7): the reply is a cover at limit 0 exactly then. The cover weighs nothing.
+-- "A limit of 0 accepts exactly when weightless lines join every stop to a yard, or into at most k components" (document 02, A.4): the reply is a cover
+-- at limit 0 exactly then. The cover weighs nothing.
 pub record AtZero (g : Graph) (crews : Crews) (reply : Reply) : Type 0 where
-  pub exactly : ((h : ℕ) × (trees : List Tree) × (reply ≡ covered 0 h trees)) ↔ ZeroAccepted g crews
+  pub exactly : ((h : ℕ) × (trees : List Tree) × (reply ≡ covered 0 h trees)) ↔ WeightlessJoined g crews
   pub weighs_nothing : (h : ℕ) (trees : List Tree) → reply ≡ covered 0 h trees → h ≡ 0
 
 -- What the reply of "a trial at limit B" says, by its case. Each "too low" says that no cover is within B.

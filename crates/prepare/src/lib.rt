@@ -31,17 +31,16 @@ fn keep_forest(
     order: &mut [u16],
     kept: &mut [u16],
     classes: &[u8],
-    copies: &[u32],
 ) -> Ready
-    requires { ForestAsked (graph_of b.now classes.now copies.now) (length keys.old) (length spare.old)
+    requires { ForestAsked (graph_of b.now classes.now) (length keys.old) (length spare.old)
         (length order.old) (length kept.old) }
-    ensures { ForestPrepared (graph_of b.now classes.now copies.now)
-        roots.now keys.old keys.new spare.old spare.new
-        order.old order.new kept.old kept.new result }
+    ensures { ForestPrepared (graph_of b.now classes.now) roots.now
+        keys.old keys.new spare.old spare.new order.old
+        order.new kept.old kept.new result }
 {
     let mut label = [0u16; 256];
-    let edges = order_edges(b, keys, spare, order, classes, copies);
-    let forest = keep_whole(b, roots, &order[..edges], &mut label, kept, classes, copies);
+    let edges = order_edges(b, keys, spare, order, classes);
+    let forest = keep_whole(b, roots, &order[..edges], &mut label, kept, classes);
     Ready { edges, forest }
 }
 
@@ -56,19 +55,17 @@ fn prepare_distances(
     distances: &mut [u32],
     lasts: &mut [u32],
     classes: &[u8],
-    copies: &[u32],
 )
-    requires { DistancesAsked (graph_of b.now classes.now copies.now) roots.now (length numbers.old) (length
-        bounds.old) (length all.old) (length distances.old) (length lasts.old) }
-    ensures { DistancesPrepared (graph_of b.now classes.now copies.now)
-        roots.now numbers.old numbers.new bounds.old bounds.new
-        all.old all.new distances.old distances.new lasts.old
-        lasts.new }
+    requires { DistancesAsked (graph_of b.now classes.now) roots.now (length numbers.old) (length bounds.old)
+        (length all.old) (length distances.old) (length lasts.old) }
+    ensures { DistancesPrepared (graph_of b.now classes.now) roots.now
+        numbers.old numbers.new bounds.old bounds.new all.old
+        all.new distances.old distances.new lasts.old lasts.new }
 {
-    let m = graph::edge_count(b, classes, copies);
+    let m = graph::edge_count(b, classes);
     number_up(m, numbers);
-    put_around(b, &numbers[..m], bounds, all, classes, copies);
-    let n = graph::vertex_count(b, classes, copies);
+    put_around(b, &numbers[..m], bounds, all, classes);
+    let n = graph::vertex_count(b, classes);
     fill_table(n, bounds, all, roots, distances, lasts);
 }
 
@@ -85,20 +82,17 @@ pub fn prepare_rooted(
     distances: &mut [u32],
     lasts: &mut [u32],
     classes: &[u8],
-    copies: &[u32],
 ) -> Ready
-    requires { RootedPreparable (graph_of b.now classes.now copies.now) roots.now order.old kept.old
-        bounds.old all.old arcs.old distances.old lasts.old }
-    ensures { RootedPrepared (graph_of b.now classes.now copies.now)
-        roots.now order.old order.new kept.old kept.new
-        bounds.old bounds.new all.old all.new arcs.old
-        arcs.new distances.old distances.new lasts.old lasts.new result }
+    requires { RootedPreparable (graph_of b.now classes.now) roots.now order.old kept.old bounds.old
+        all.old arcs.old distances.old lasts.old }
+    ensures { RootedPrepared (graph_of b.now classes.now) roots.now
+        order.old order.new kept.old kept.new bounds.old
+        bounds.new all.old all.new arcs.old arcs.new
+        distances.old distances.new lasts.old lasts.new result }
 {
-    prepare_distances(
-        b, roots, order, bounds, all, distances, lasts, classes, copies,
-    );
-    let ready = keep_forest(b, roots, all, arcs, order, kept, classes, copies);
-    put_arcs(b, &kept[..ready.forest], bounds, arcs, classes, copies);
+    prepare_distances(b, roots, order, bounds, all, distances, lasts, classes);
+    let ready = keep_forest(b, roots, all, arcs, order, kept, classes);
+    put_arcs(b, &kept[..ready.forest], bounds, arcs, classes);
     ready
 }
 
@@ -112,16 +106,15 @@ pub fn prepare_unrooted(
     total: &mut [u64],
     until: &mut [u16],
     classes: &[u8],
-    copies: &[u32],
 ) -> Ready
-    requires { UnrootedPreparable (graph_of b.now classes.now copies.now) keys.old spare.old order.old
-        kept.old total.old until.old }
-    ensures { UnrootedPrepared (graph_of b.now classes.now copies.now)
-        keys.old keys.new spare.old spare.new order.old
-        order.new kept.old kept.new total.old total.new
-        until.old until.new result }
+    requires { UnrootedPreparable (graph_of b.now classes.now) keys.old spare.old order.old kept.old
+        total.old until.old }
+    ensures { UnrootedPrepared (graph_of b.now classes.now) keys.old
+        keys.new spare.old spare.new order.old order.new
+        kept.old kept.new total.old total.new until.old
+        until.new result }
 {
-    let ready = keep_forest(b, &[], keys, spare, order, kept, classes, copies);
-    record_merges(b, &kept[..ready.forest], total, until, classes, copies);
+    let ready = keep_forest(b, &[], keys, spare, order, kept, classes);
+    record_merges(b, &kept[..ready.forest], total, until, classes);
     ready
 }

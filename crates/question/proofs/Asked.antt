@@ -1,8 +1,8 @@
 -- Known and unknown questions.
 -- Assumes nothing.
 use Prim.Native.Nat.{ℕ, ◌-◌, ◌≤◌, ◌<◌}
-use mathlib.Core.Path.{◌≡◌, refl, sym, ◌∙◌, subst}
-use mathlib.Core.Bool.{Bool, true, false}
+use mathlib.Core.Path.{◌≡◌, sym, ◌∙◌}
+use mathlib.Core.Bool.{true, false}
 use mathlib.Core.List.{List, []}
 use native.Mathlib.Omega.{arith}
 use lib.ListN.{length, take, drop, length-drop}
@@ -13,10 +13,9 @@ use Rattle.lists.proofs.Every.{first_false}
 use Rattle.graph.specs.Bytes.{graph_of}
 use Rattle.rules.specs.RootedTrial.{Choices}
 use Rattle.rules.specs.Reply as rules
-use Rattle.rules.specs.Questions.{least_room, Kind, question, graph_in, asked_in, crew_count_in, limit_in, sheet_in, unknown, kind_in, is_trial, question_in, ask_known, ask_rounds}
-use Rattle.admit.proofs.Spelt.{untimed_spelt}
+use Rattle.rules.specs.Questions.{least_room, question, asked_in, crew_count_in, limit_in, sheet_in, unknown, kind_in, is_trial, question_in, ask_known, ask_rounds}
 use Rattle.replies.specs.declared.Reply.{Reply}
-use Rattle.reply_text.specs.Replies.{Printable, TextAsked, TextWritten, RefusalWritten}
+use Rattle.reply_text.specs.Replies.{TextWritten, RefusalWritten}
 use Rattle.question.specs.Question.{KnownAnswered, TextAnswered}
 
 module _ (input : List ℕ) where
@@ -65,40 +64,23 @@ nothing = record { assignment = []; paths = []; marks = [] }
 pub unknown_answered : {input before after : List ℕ} {r : ℕ} → unknown input ≡ true → RefusalWritten 41 before after r → TextAnswered input before after r
 unknown_answered {input} q w =
     let refused = unknown_reply input nothing (sym q) in
-    record { choices = nothing; good = λ u. absurd (u 41 refused); means = λ u. absurd (u 41 refused); text = rw refused (w.text (graph_in (question_in input))) }
+    record { choices = nothing; good = λ u. absurd (u 41 refused); means = λ u. absurd (u 41 refused); text = rw refused (w.text (graph_of (sheet_in input) [])) }
 
 -- The bytes behind the head.
 pub sheet_is : (input : List ℕ) → take (length input - 8) (drop 8 input) ≡ sheet_in input
 sheet_is input = take_all (length input - 8) (drop 8 input) (omega (arith, length-drop 8 input))
 
--- The question's graph, as it is read; so its reply can be printed by it.
-module _ (kind : Kind) (k : ℕ) (b : List ℕ) where
-  spelt : graph_of b [] [] ≡ graph_in (question kind k b)
-  spelt = untimed_spelt (question kind k b) refl
-
-  pub can_print : {trial : Bool} {limit room : ℕ} {before after : List ℕ} {reply : Reply} → KnownAnswered trial (question kind k b) limit before after reply → 65536 ≤ room
-      → TextAsked (graph_of b [] []) reply after room
-  can_print {trial} {limit} {before = before} s enough =
-      let ruled = ask_known trial (question kind k b) limit (length before) s.choices in
-      record {
-        ruled = ruled;
-        earlier = before;
-        replied = s.replied;
-        printable = subst (λ g. Printable g ruled) (sym spelt) s.printable;
-        enough = enough;
-      }
-
 -- The text of a known question's reply, by the values that were read.
 pub known_answered : {input b buf after_buf before after : List ℕ} {asked k limit r : ℕ} {reply : Reply} → unknown input ≡ false → length buf ≡ least_room
     → asked ≡ asked_in input → k ≡ crew_count_in input → limit ≡ limit_in input → b ≡ sheet_in input
-    → KnownAnswered (is_trial asked) (question (kind_in asked) k b) limit buf after_buf reply → TextWritten (graph_of b [] []) reply after_buf before after r
+    → KnownAnswered (is_trial asked) (question (kind_in asked) k b) limit buf after_buf reply → TextWritten (graph_of b []) reply after_buf before after r
     → TextAnswered input before after r
-known_answered {input} {b} {buf} {after_buf} {before} {after} {asked} {k} {limit} {r} {reply} q full a c l is s w =
+known_answered {input} {b} {buf} {asked = asked} {k = k} {limit = limit} q full a c l is s w =
     let same : ask_rounds input s.choices ≡ ask_known (is_trial asked) (question (kind_in asked) k b) limit (length buf) s.choices
     = known_reply input s.choices q ∙ sym (rw (a, c, l, is, full)) in
     record {
       choices = s.choices;
       good = λ u. rw (a, c, l, is) at (s.good (λ n e. u n (same ∙ e)));
       means = λ u. rw (known_reply input s.choices q) (rw (a, c, l, is, full) at (s.means (λ n e. u n (same ∙ e))));
-      text = rw (same, sym is) ((subst (λ g. TextWritten g reply after_buf before after r) (spelt (kind_in asked) k b) w).text _ buf s.replied s.printable);
+      text = rw (same, sym is) (w.text _ buf s.replied s.printable);
     }

@@ -60,7 +60,7 @@ fn answer_in(input: &[u8], buf: &mut [u8], out: &mut [u8]) -> usize
     let limit = graph::u32_at(input, 4);
     let b = &input[8..];
     let reply = reply_to(asked, k, limit, b, buf);
-    write_reply(b, reply, buf, out, &[], &[])
+    write_reply(b, reply, buf, out, &[])
 }
 
 // All that the program does: the text of the answer, as the first bytes of `out`. Says how many. Where `out` is too

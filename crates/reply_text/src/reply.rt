@@ -47,31 +47,23 @@ fn write_cover(
     c: &[u8],
     out: &mut [u8],
     classes: &[u8],
-    copies: &[u32],
 ) -> usize
-    requires { TreesAsked (graph_of b.now classes.now copies.now) c.now 69 (length out.old) }
-    ensures { PutTo 0 (cover_text (graph_of b.now classes.now copies.now) limit
-        heaviest t c.now) out.old out.new result }
+    requires { TreesAsked (graph_of b.now classes.now) c.now 69 (length out.old) }
+    ensures { PutTo 0 (cover_text (graph_of b.now classes.now) limit heaviest t
+        c.now) out.old out.new result }
 {
     let behind_word = put_word(b"cover", out, 0);
     let behind_limit = put_spaced(limit, out, behind_word);
     let behind_heaviest = put_spaced(heaviest, out, behind_limit);
     let behind_head = put_last(t, out, behind_heaviest);
-    put_trees(b, c, out, behind_head, classes, copies)
+    put_trees(b, c, out, behind_head, classes)
 }
 
 // The text of a reply, as the first bytes of `out`. Says how many. A cover's trees are read from the buffer.
-pub fn write_reply(
-    b: &[u8],
-    reply: Reply,
-    buf: &[u8],
-    out: &mut [u8],
-    classes: &[u8],
-    copies: &[u32],
-) -> usize
-    requires { TextAsked (graph_of b.now classes.now copies.now) reply buf.now (length out.old) }
-    ensures { TextWritten (graph_of b.now classes.now copies.now) reply
-        buf.now out.old out.new result }
+pub fn write_reply(b: &[u8], reply: Reply, buf: &[u8], out: &mut [u8], classes: &[u8]) -> usize
+    requires { TextAsked (graph_of b.now classes.now) reply buf.now (length out.old) }
+    ensures { TextWritten (graph_of b.now classes.now) reply buf.now
+        out.old out.new result }
 {
     match reply {
         Reply::Refused(f) => {
@@ -79,16 +71,7 @@ pub fn write_reply(
         }
         Reply::Cover(limit, heaviest, t) => {
             let end = cover_length(buf);
-            return write_cover(
-                b,
-                limit,
-                heaviest,
-                t as u64,
-                &buf[..end],
-                out,
-                classes,
-                copies,
-            );
+            return write_cover(b, limit, heaviest, t as u64, &buf[..end], out, classes);
         }
         Reply::Stop(v) => {
             return write_line(b"too low stop", v as u64, out);

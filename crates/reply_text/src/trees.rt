@@ -38,13 +38,12 @@ fn put_tree(
     out: &mut [u8],
     at: usize,
     classes: &[u8],
-    copies: &[u32],
 ) -> usize
-    requires { TreeTextAsked (graph_of b.now classes.now copies.now) c.now j from to at (length out.old) }
-    ensures { PutTo at (tree_line (graph_of b.now classes.now copies.now) (run_tree
-        c.now j from to)) out.old out.new result }
+    requires { TreeTextAsked (graph_of b.now classes.now) c.now j from to at (length out.old) }
+    ensures { PutTo at (tree_line (graph_of b.now classes.now) (run_tree c.now j
+        from to)) out.old out.new result }
 {
-    let weight = run_weight(b, c, from, to, classes, copies);
+    let weight = run_weight(b, c, from, to, classes);
     let behind_word = put_word(b"tree", out, at);
     let behind_start = put_spaced(start_in(c, j) as u64, out, behind_word);
     let behind_weight = put_spaced(weight, out, behind_start);
@@ -53,17 +52,10 @@ fn put_tree(
 }
 
 // The lines of all trees of a cover, from a place on.
-pub(crate) fn put_trees(
-    b: &[u8],
-    c: &[u8],
-    out: &mut [u8],
-    at: usize,
-    classes: &[u8],
-    copies: &[u32],
-) -> usize
-    requires { TreesAsked (graph_of b.now classes.now copies.now) c.now at (length out.old) }
-    ensures { PutTo at (tree_lines (graph_of b.now classes.now copies.now) (decode
-        c.now)) out.old out.new result }
+pub(crate) fn put_trees(b: &[u8], c: &[u8], out: &mut [u8], at: usize, classes: &[u8]) -> usize
+    requires { TreesAsked (graph_of b.now classes.now) c.now at (length out.old) }
+    ensures { PutTo at (tree_lines (graph_of b.now classes.now) (decode c.now))
+        out.old out.new result }
 {
     let t = trees_in(c);
     let mut next = at;
@@ -71,7 +63,7 @@ pub(crate) fn put_trees(
     let mut j = 0;
     while j < t {
         let to = run_end(c, j, from);
-        next = put_tree(b, c, j, from, to, out, next, classes, copies);
+        next = put_tree(b, c, j, from, to, out, next, classes);
         from = to;
         j += 1;
     }

@@ -16,8 +16,8 @@ use Rattle.matching.specs.Assignment.{IsDeficient, marked_parts, allowed_roots}
 use Rattle.rules.specs.Cover.{rooted, heaviest}
 use Rattle.rules.specs.CoverBytes.{encode}
 use Rattle.rules.specs.Questions.{written, buffer_after}
-use Rattle.rules.specs.Reply.{covered, too_low_stop, too_low_parts, stop_or}
-use Rattle.rules.specs.RootedTrial.{Choices, GoodChoices, unjoined_at, rooted_parts, may_go, is_assignable, rooted_cover, chosen_parts, rooted_trial}
+use Rattle.rules.specs.Reply.{covered, too_low_stop, too_low_parts}
+use Rattle.rules.specs.RootedTrial.{Choices, GoodChoices, unjoined_at, rooted_parts, may_go, is_assignable, rooted_cover, chosen_parts, stop_or, rooted_trial}
 use Rattle.rules.specs.Search.{trial}
 use Rattle.planner_laws.proofs.SomeChoices.{some_choices}
 use Rattle.replies.specs.Replies.{Answers}

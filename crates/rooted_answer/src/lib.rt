@@ -35,14 +35,13 @@ fn answer_placed(
     edges: &mut [u16],
     buf: &mut [u8],
     classes: &[u8],
-    copies: &[u32],
 ) -> Reply
-    requires { PlacedGiven (graph_of b.now classes.now copies.now) roots.now limit order.now distances.now
-        lasts.now (trial_arrays starts.now cuts.now members.now lefts.now places.now rows.now
-        assignment.now) placed.parts placed.assigned
+    requires { PlacedGiven (graph_of b.now classes.now) roots.now limit order.now distances.now lasts.now
+        (trial_arrays starts.now cuts.now members.now lefts.now places.now rows.now assignment.now)
+        placed.parts placed.assigned
         (length edges.old) (length buf.old) }
-    ensures { PlacedReplied (graph_of b.now classes.now copies.now)
-        roots.now limit edges.old edges.new buf.old buf.new result }
+    ensures { PlacedReplied (graph_of b.now classes.now) roots.now limit
+        edges.old edges.new buf.old buf.new result }
 {
     let k = roots.len();
     if placed.assigned {
@@ -62,7 +61,6 @@ fn answer_placed(
             edges,
             buf,
             classes,
-            copies,
         );
         return Reply::Cover(limit, heaviest, k);
     }
@@ -93,13 +91,12 @@ fn answer_parts(
     edges: &mut [u16],
     buf: &mut [u8],
     classes: &[u8],
-    copies: &[u32],
 ) -> Reply
-    requires { JoinedLent (graph_of b.now classes.now copies.now) roots.now limit order.now bounds.now
-        arcs.now distances.now lasts.now rows.old (length edges.old) (length buf.old) }
-    ensures { JoinedReplied (graph_of b.now classes.now copies.now)
-        roots.now limit rows.old rows.new edges.old edges.new
-        buf.old buf.new result }
+    requires { JoinedLent (graph_of b.now classes.now) roots.now limit order.now bounds.now arcs.now
+        distances.now lasts.now rows.old (length edges.old) (length buf.old) }
+    ensures { JoinedReplied (graph_of b.now classes.now) roots.now limit
+        rows.old rows.new edges.old edges.new buf.old
+        buf.new result }
 {
     let mut starts = [0u16; 288];
     let mut cuts = [0u16; 289];
@@ -122,7 +119,6 @@ fn answer_parts(
         rows,
         &mut assignment,
         classes,
-        copies,
     );
     answer_placed(
         b,
@@ -142,7 +138,6 @@ fn answer_parts(
         edges,
         buf,
         classes,
-        copies,
     )
 }
 
@@ -158,18 +153,16 @@ fn answer_small(
     lasts: &[u32],
     buf: &mut [u8],
     classes: &[u8],
-    copies: &[u32],
 ) -> Reply
-    requires { JoinedSmall (graph_of b.now classes.now copies.now) roots.now limit order.now bounds.now
-        arcs.now distances.now lasts.now (length buf.old) }
-    ensures { Answers (graph_of b.now classes.now copies.now) (rooted
-        roots.now) limit buf.old buf.new result }
+    requires { JoinedSmall (graph_of b.now classes.now) roots.now limit order.now bounds.now arcs.now
+        distances.now lasts.now (length buf.old) }
+    ensures { Answers (graph_of b.now classes.now) (rooted roots.now) limit
+        buf.old buf.new result }
 {
     let mut rows = [0u8; 512];
     let mut edges = [0u16; 512];
     answer_parts(
-        b, roots, limit, order, bounds, arcs, distances, lasts, &mut rows, &mut edges, buf,
-        classes, copies,
+        b, roots, limit, order, bounds, arcs, distances, lasts, &mut rows, &mut edges, buf, classes,
     )
 }
 
@@ -185,18 +178,16 @@ fn answer_full(
     lasts: &[u32],
     buf: &mut [u8],
     classes: &[u8],
-    copies: &[u32],
 ) -> Reply
-    requires { JoinedAsked (graph_of b.now classes.now copies.now) roots.now limit order.now bounds.now
-        arcs.now distances.now lasts.now (length buf.old) }
-    ensures { Answers (graph_of b.now classes.now copies.now) (rooted
-        roots.now) limit buf.old buf.new result }
+    requires { JoinedAsked (graph_of b.now classes.now) roots.now limit order.now bounds.now arcs.now
+        distances.now lasts.now (length buf.old) }
+    ensures { Answers (graph_of b.now classes.now) (rooted roots.now) limit
+        buf.old buf.new result }
 {
     let mut rows = [0u8; 8192];
     let mut edges = [0u16; 8192];
     answer_parts(
-        b, roots, limit, order, bounds, arcs, distances, lasts, &mut rows, &mut edges, buf,
-        classes, copies,
+        b, roots, limit, order, bounds, arcs, distances, lasts, &mut rows, &mut edges, buf, classes,
     )
 }
 
@@ -214,26 +205,25 @@ pub fn answer_rooted(
     lasts: &[u32],
     buf: &mut [u8],
     classes: &[u8],
-    copies: &[u32],
 ) -> Reply
-    requires { RootedAnswerAsked (graph_of b.now classes.now copies.now) roots.now limit order.now kept.now
-        bounds.now arcs.now distances.now lasts.now (length buf.old) }
-    ensures { Answers (graph_of b.now classes.now copies.now) (rooted
-        roots.now) limit buf.old buf.new result }
+    requires { RootedAnswerAsked (graph_of b.now classes.now) roots.now limit order.now kept.now bounds.now
+        arcs.now distances.now lasts.now (length buf.old) }
+    ensures { Answers (graph_of b.now classes.now) (rooted roots.now) limit
+        buf.old buf.new result }
 {
-    let light = light_forest(b, kept, limit, classes, copies);
+    let light = light_forest(b, kept, limit, classes);
     let mut label = [0u16; 256];
-    let found = stop_at(b, roots, &kept[..light], &mut label, classes, copies);
+    let found = stop_at(b, roots, &kept[..light], &mut label, classes);
     match found {
         Found::At(v) => Reply::Stop(v),
         Found::Nothing => {
-            if graph::vertex_count(b, classes, copies) * roots.len() <= 512 {
+            if graph::vertex_count(b, classes) * roots.len() <= 512 {
                 return answer_small(
-                    b, roots, limit, order, bounds, arcs, distances, lasts, buf, classes, copies,
+                    b, roots, limit, order, bounds, arcs, distances, lasts, buf, classes,
                 );
             }
             answer_full(
-                b, roots, limit, order, bounds, arcs, distances, lasts, buf, classes, copies,
+                b, roots, limit, order, bounds, arcs, distances, lasts, buf, classes,
             )
         }
     }

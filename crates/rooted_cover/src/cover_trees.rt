@@ -29,17 +29,16 @@ fn put_tree(
     edges: &mut [u16],
     at: usize,
     classes: &[u8],
-    copies: &[u32],
 ) -> usize
-    requires { TreeGivenAt (graph_of b.now classes.now copies.now) order.now distances.now lasts.now
-        roots.now (arrays_of starts.now cuts.now members.now lefts.now places.now) assignment.now j at
+    requires { TreeGivenAt (graph_of b.now classes.now) order.now distances.now lasts.now roots.now
+        (arrays_of starts.now cuts.now members.now lefts.now places.now) assignment.now j at
         (length edges.old) }
-    ensures { TreePut (graph_of b.now classes.now copies.now)
-        distances.now lasts.now roots.now (arrays_of starts.now
-        cuts.now members.now lefts.now places.now) assignment.now
-        j at edges.old edges.new result }
+    ensures { TreePut (graph_of b.now classes.now) distances.now
+        lasts.now roots.now (arrays_of starts.now cuts.now
+        members.now lefts.now places.now) assignment.now j at
+        edges.old edges.new result }
 {
-    let n = graph::vertex_count(b, classes, copies);
+    let n = graph::vertex_count(b, classes);
     let root = wide(roots[j]);
     let left = number_at(lefts, j) as u16;
     let from = j * n;
@@ -59,7 +58,6 @@ fn put_tree(
         j,
         &mut edges[at..],
         classes,
-        copies,
     );
     at + r
 }
@@ -80,14 +78,13 @@ fn lay_trees(
     bounds: &mut [u16],
     edges: &mut [u16],
     classes: &[u8],
-    copies: &[u32],
 )
-    requires { LayRootsGiven (graph_of b.now classes.now copies.now) order.now distances.now lasts.now
-        roots.now (arrays_of starts.now cuts.now members.now lefts.now places.now) assignment.now
+    requires { LayRootsGiven (graph_of b.now classes.now) order.now distances.now lasts.now roots.now
+        (arrays_of starts.now cuts.now members.now lefts.now places.now) assignment.now
         (length bounds.old) (length edges.old) }
-    ensures { RootsLaid (graph_of b.now classes.now copies.now)
-        distances.now lasts.now roots.now (arrays_of starts.now
-        cuts.now members.now lefts.now places.now) assignment.now
+    ensures { RootsLaid (graph_of b.now classes.now) distances.now
+        lasts.now roots.now (arrays_of starts.now cuts.now
+        members.now lefts.now places.now) assignment.now
         bounds.old bounds.new edges.old edges.new }
 {
     bounds[0] = 0;
@@ -96,7 +93,7 @@ fn lay_trees(
     while j < roots.len() {
         at = put_tree(
             b, order, distances, lasts, roots, starts, cuts, members, lefts, places, assignment, j,
-            edges, at, classes, copies,
+            edges, at, classes,
         );
         j += 1;
         bounds[j] = at as u16;
@@ -122,14 +119,13 @@ pub fn write_rooted(
     edges: &mut [u16],
     buf: &mut [u8],
     classes: &[u8],
-    copies: &[u32],
 ) -> u64
-    requires { CoverAsked (graph_of b.now classes.now copies.now) order.now distances.now lasts.now
-        roots.now (arrays_of starts.now cuts.now members.now lefts.now places.now) parts assignment.now
+    requires { CoverAsked (graph_of b.now classes.now) order.now distances.now lasts.now roots.now
+        (arrays_of starts.now cuts.now members.now lefts.now places.now) parts assignment.now
         (length edges.old) (length buf.old) }
-    ensures { RootedWritten (graph_of b.now classes.now copies.now)
-        roots.now (arrays_of starts.now cuts.now members.now
-        lefts.now places.now) parts assignment.now
+    ensures { RootedWritten (graph_of b.now classes.now) roots.now (arrays_of
+        starts.now cuts.now members.now lefts.now places.now)
+        parts assignment.now
         edges.old edges.new buf.old buf.new result }
 {
     let mut bounds = [0u16; 33];
@@ -150,10 +146,9 @@ pub fn write_rooted(
         &mut bounds,
         edges,
         classes,
-        copies,
     );
     number_up(k, &mut numbers);
-    let heaviest = heaviest_chosen(b, &bounds, edges, &numbers[..k], classes, copies);
+    let heaviest = heaviest_chosen(b, &bounds, edges, &numbers[..k], classes);
     write_cover(buf, roots, &bounds, edges, &numbers[..k]);
     heaviest
 }

@@ -60,14 +60,13 @@ fn keep_risen(
     marks: &[u8],
     tree: &mut [u16],
     classes: &[u8],
-    copies: &[u32],
     most: usize,
 ) -> usize
-    requires { KeepAsked (graph_of b.now classes.now copies.now) order.now marks.now tree.old most }
-    ensures { TreeKept (graph_of b.now classes.now copies.now)
-        marks.now tree.old tree.new result }
+    requires { KeepAsked (graph_of b.now classes.now) order.now marks.now tree.old most }
+    ensures { TreeKept (graph_of b.now classes.now) marks.now tree.old
+        tree.new result }
 {
-    let r = keep_union(b, order, marks, tree, classes, copies, most);
+    let r = keep_union(b, order, marks, tree, classes, most);
     rise_edges(&mut tree[..r]);
     r
 }
@@ -83,15 +82,13 @@ fn mark_reach(
     edges: &[u16],
     marks: &mut [u8],
     classes: &[u8],
-    copies: &[u32],
 ) -> usize
-    requires { ReachGiven (graph_of b.now classes.now copies.now) dist.now last.now root start edges.now
+    requires { ReachGiven (graph_of b.now classes.now) dist.now last.now root start edges.now
         (length marks.old) }
-    ensures { ReachMarked (graph_of b.now classes.now copies.now)
-        dist.now last.now root start edges.now marks.old marks.new
-        result }
+    ensures { ReachMarked (graph_of b.now classes.now) dist.now
+        last.now root start edges.now marks.old marks.new result }
 {
-    let v = nearest_vertex(b, dist, start, edges, classes, copies);
+    let v = nearest_vertex(b, dist, start, edges, classes);
     mark_edges(edges, marks);
     edges.len() + mark_back(last, root, v, marks)
 }
@@ -110,13 +107,12 @@ fn mark_assigned(
     j: usize,
     marks: &mut [u8],
     classes: &[u8],
-    copies: &[u32],
 ) -> usize
-    requires { AssignedGiven (graph_of b.now classes.now copies.now) dist.now last.now root starts.now
-        cuts.now members.now places.now assignment.now j (length marks.old) }
-    ensures { AssignedMarked (graph_of b.now classes.now copies.now)
-        dist.now last.now root starts.now cuts.now members.now
-        places.now assignment.now j marks.old marks.new result }
+    requires { AssignedGiven (graph_of b.now classes.now) dist.now last.now root starts.now cuts.now
+        members.now places.now assignment.now j (length marks.old) }
+    ensures { AssignedMarked (graph_of b.now classes.now) dist.now
+        last.now root starts.now cuts.now members.now places.now
+        assignment.now j marks.old marks.new result }
 {
     let i = place_with(assignment, places.len(), j);
     if places.len() <= i {
@@ -133,7 +129,6 @@ fn mark_assigned(
         edges_at(cuts, members, c),
         marks,
         classes,
-        copies,
     )
 }
 
@@ -154,27 +149,17 @@ pub fn rooted_tree(
     j: usize,
     tree: &mut [u16],
     classes: &[u8],
-    copies: &[u32],
 ) -> usize
-    requires { RootGiven (graph_of b.now classes.now copies.now) order.now dist.now last.now root
-        starts.now cuts.now members.now left places.now assignment.now j tree.old }
-    ensures { RootWritten (graph_of b.now classes.now copies.now)
-        dist.now last.now root starts.now cuts.now members.now
-        left places.now assignment.now j tree.old tree.new result }
+    requires { RootGiven (graph_of b.now classes.now) order.now dist.now last.now root starts.now
+        cuts.now members.now left places.now assignment.now j tree.old }
+    ensures { RootWritten (graph_of b.now classes.now) dist.now
+        last.now root starts.now cuts.now members.now left
+        places.now assignment.now j tree.old tree.new result }
 {
     let mut marks = [0u8; 2048];
     let remaining = mark_piece(cuts, members, left, &mut marks);
     let assigned = mark_assigned(
         b, dist, last, root, starts, cuts, members, places, assignment, j, &mut marks, classes,
-        copies,
     );
-    keep_risen(
-        b,
-        order,
-        &marks,
-        tree,
-        classes,
-        copies,
-        remaining + assigned,
-    )
+    keep_risen(b, order, &marks, tree, classes, remaining + assigned)
 }

@@ -19,19 +19,12 @@ use rooted_parts::within::roots_within;
 use steps::count::count_parts;
 
 // Whether some vertex is joined to no root by any edge ("no cover"). The whole forest joins what all edges join.
-pub fn no_cover_rooted(
-    b: &[u8],
-    roots: &[u16],
-    kept: &[u16],
-    classes: &[u8],
-    copies: &[u32],
-) -> bool
-    requires { NoCoverAsked (graph_of b.now classes.now copies.now) roots.now kept.now }
-    ensures { result ≡ no_cover_exists (graph_of b.now classes.now copies.now) (rooted
-        roots.now) }
+pub fn no_cover_rooted(b: &[u8], roots: &[u16], kept: &[u16], classes: &[u8]) -> bool
+    requires { NoCoverAsked (graph_of b.now classes.now) roots.now kept.now }
+    ensures { result ≡ no_cover_exists (graph_of b.now classes.now) (rooted roots.now) }
 {
     let mut label = [0u16; 256];
-    let found = stop_at(b, roots, kept, &mut label, classes, copies);
+    let found = stop_at(b, roots, kept, &mut label, classes);
     match found {
         Found::At(_) => true,
         Found::Nothing => false,
@@ -48,15 +41,13 @@ fn parts_near(
     steps: &[u64],
     parts: &mut [u32],
     classes: &[u8],
-    copies: &[u32],
 ) -> usize
-    requires { NearReady (graph_of b.now classes.now copies.now) roots.now limit distances.now steps.now
-        parts.old }
-    ensures { PartsNearPut (graph_of b.now classes.now copies.now)
-        roots.now limit parts.old parts.new result }
+    requires { NearReady (graph_of b.now classes.now) roots.now limit distances.now steps.now parts.old }
+    ensures { PartsNearPut (graph_of b.now classes.now) roots.now limit
+        parts.old parts.new result }
 {
     let mut near = [0u32; 256];
-    roots_within(b, roots, limit, distances, &mut near, classes, copies);
+    roots_within(b, roots, limit, distances, &mut near, classes);
     near_parts(steps, limit, &near, parts)
 }
 
@@ -69,17 +60,13 @@ fn few_assigned(
     distances: &[u32],
     steps: &[u64],
     classes: &[u8],
-    copies: &[u32],
 ) -> bool
-    requires { FewReady (graph_of b.now classes.now copies.now) roots.now limit distances.now steps.now }
-    ensures { result ≡ is_assignable (graph_of b.now classes.now copies.now)
-        roots.now limit }
+    requires { FewReady (graph_of b.now classes.now) roots.now limit distances.now steps.now }
+    ensures { result ≡ is_assignable (graph_of b.now classes.now) roots.now limit }
 {
     let k = roots.len();
     let mut parts = [0u32; 32];
-    let p = parts_near(
-        b, roots, limit, distances, steps, &mut parts, classes, copies,
-    );
+    let p = parts_near(b, roots, limit, distances, steps, &mut parts, classes);
     let mut rows = [0u8; 1024];
     put_rows(&parts[..p], k, &mut rows);
     let size = p * k;
@@ -97,11 +84,9 @@ fn parts_assigned(
     distances: &[u32],
     steps: &[u64],
     classes: &[u8],
-    copies: &[u32],
 ) -> bool
-    requires { CountReady (graph_of b.now classes.now copies.now) roots.now limit distances.now steps.now }
-    ensures { result ≡ is_assignable (graph_of b.now classes.now copies.now)
-        roots.now limit }
+    requires { CountReady (graph_of b.now classes.now) roots.now limit distances.now steps.now }
+    ensures { result ≡ is_assignable (graph_of b.now classes.now) roots.now limit }
 {
     let parts = count_parts(steps, limit);
     if roots.len() < parts {
@@ -110,7 +95,7 @@ fn parts_assigned(
     if parts == 0 {
         return true;
     }
-    few_assigned(b, roots, limit, distances, steps, classes, copies)
+    few_assigned(b, roots, limit, distances, steps, classes)
 }
 
 // Whether the limit is accepted, where the whole graph joins every vertex to a root.
@@ -122,15 +107,13 @@ pub fn accepts_rooted(
     distances: &[u32],
     steps: &[u64],
     classes: &[u8],
-    copies: &[u32],
 ) -> bool
-    requires { RootedDecisionAsked (graph_of b.now classes.now copies.now) roots.now limit kept.now
-        distances.now steps.now }
-    ensures { result ≡ accepts (graph_of b.now classes.now copies.now) (rooted
-        roots.now) limit }
+    requires { RootedDecisionAsked (graph_of b.now classes.now) roots.now limit kept.now distances.now
+        steps.now }
+    ensures { result ≡ accepts (graph_of b.now classes.now) (rooted roots.now) limit }
 {
-    if light_forest(b, kept, limit, classes, copies) < kept.len() {
+    if light_forest(b, kept, limit, classes) < kept.len() {
         return false;
     }
-    parts_assigned(b, roots, limit, distances, steps, classes, copies)
+    parts_assigned(b, roots, limit, distances, steps, classes)
 }

@@ -33,17 +33,16 @@ fn place_pieces(
     lefts: &mut [u16],
     places: &mut [u16],
     classes: &[u8],
-    copies: &[u32],
 ) -> usize
-    requires { PiecesAsked (graph_of b.now classes.now copies.now) roots.now limit bounds.now arcs.now
+    requires { PiecesAsked (graph_of b.now classes.now) roots.now limit bounds.now arcs.now
         (arrays_of starts.old cuts.old members.old lefts.old places.old) }
-    ensures { PiecesPut (graph_of b.now classes.now copies.now)
-        roots.now limit (arrays_of starts.old cuts.old members.old
-        lefts.old places.old)
+    ensures { PiecesPut (graph_of b.now classes.now) roots.now limit
+        (arrays_of starts.old cuts.old members.old lefts.old
+        places.old)
         (arrays_of starts.new cuts.new members.new lefts.new
         places.new) result }
 {
-    let n = graph::vertex_count(b, classes, copies);
+    let n = graph::vertex_count(b, classes);
     split_forest(n, bounds, arcs, roots, limit, starts, cuts, members, lefts);
     part_places(&lefts[..roots.len()], places)
 }
@@ -74,15 +73,14 @@ fn pieces_near(
     parts: usize,
     words: &mut [u32],
     classes: &[u8],
-    copies: &[u32],
 )
-    requires { WordsAsked (graph_of b.now classes.now copies.now) roots.now limit distances.now starts.now
-        cuts.now members.now places.now parts words.old }
-    ensures { PartsNearPut (graph_of b.now classes.now copies.now)
-        roots.now limit words.old words.new parts }
+    requires { WordsAsked (graph_of b.now classes.now) roots.now limit distances.now starts.now cuts.now
+        members.now places.now parts words.old }
+    ensures { PartsNearPut (graph_of b.now classes.now) roots.now limit
+        words.old words.new parts }
 {
     let mut near = [0u32; 256];
-    roots_within(b, roots, limit, distances, &mut near, classes, copies);
+    roots_within(b, roots, limit, distances, &mut near, classes);
     near_pieces(
         b,
         &near,
@@ -92,7 +90,6 @@ fn pieces_near(
         &places[..parts],
         words,
         classes,
-        copies,
     );
 }
 
@@ -110,18 +107,15 @@ fn assign_parts(
     rows: &mut [u8],
     assignment: &mut [u8],
     classes: &[u8],
-    copies: &[u32],
 ) -> bool
-    requires { RowsAsked (graph_of b.now classes.now copies.now) roots.now limit distances.now starts.now
-        cuts.now members.now places.now parts rows.old assignment.old }
-    ensures { RowsPlaced (graph_of b.now classes.now copies.now)
-        roots.now limit parts rows.old rows.new assignment.old
-        assignment.new result }
+    requires { RowsAsked (graph_of b.now classes.now) roots.now limit distances.now starts.now cuts.now
+        members.now places.now parts rows.old assignment.old }
+    ensures { RowsPlaced (graph_of b.now classes.now) roots.now limit parts
+        rows.old rows.new assignment.old assignment.new result }
 {
     let mut words = [0u32; 256];
     pieces_near(
         b, roots, limit, distances, starts, cuts, members, places, parts, &mut words, classes,
-        copies,
     );
     let k = roots.len();
     let size = parts * k;
@@ -146,24 +140,21 @@ pub fn place_parts(
     rows: &mut [u8],
     assignment: &mut [u8],
     classes: &[u8],
-    copies: &[u32],
 ) -> Placed
-    requires { PartsAsked (graph_of b.now classes.now copies.now) roots.now limit bounds.now arcs.now
-        distances.now (arrays_of starts.old cuts.old members.old lefts.old places.old) rows.old
-        assignment.old }
-    ensures { PartsPut (graph_of b.now classes.now copies.now)
-        roots.now limit (trial_arrays starts.old cuts.old members.old
-        lefts.old places.old rows.old assignment.old)
+    requires { PartsAsked (graph_of b.now classes.now) roots.now limit bounds.now arcs.now distances.now
+        (arrays_of starts.old cuts.old members.old lefts.old places.old) rows.old assignment.old }
+    ensures { PartsPut (graph_of b.now classes.now) roots.now limit
+        (trial_arrays starts.old cuts.old members.old lefts.old
+        places.old rows.old assignment.old)
         (trial_arrays starts.new cuts.new members.new lefts.new
         places.new rows.new assignment.new)
         result.parts result.assigned }
 {
     let parts = place_pieces(
-        b, roots, limit, bounds, arcs, starts, cuts, members, lefts, places, classes, copies,
+        b, roots, limit, bounds, arcs, starts, cuts, members, lefts, places, classes,
     );
     let assigned = assign_parts(
-        b, roots, limit, distances, starts, cuts, members, places, parts, rows, assignment,
-        classes, copies,
+        b, roots, limit, distances, starts, cuts, members, places, parts, rows, assignment, classes,
     );
     Placed { parts, assigned }
 }

@@ -12,12 +12,11 @@ pub fn roots_within(
     distances: &[u32],
     words: &mut [u32],
     classes: &[u8],
-    copies: &[u32],
 )
-    requires { WithinAsked (graph_of b.now classes.now copies.now) roots.now limit distances.now words.old }
-    ensures { WithinDone (graph_of b.now classes.now copies.now)
-        roots.now limit words.old words.new }
+    requires { WithinAsked (graph_of b.now classes.now) roots.now limit distances.now words.old }
+    ensures { WithinDone (graph_of b.now classes.now) roots.now limit
+        words.old words.new }
 {
-    let n = graph::vertex_count(b, classes, copies);
+    let n = graph::vertex_count(b, classes);
     near_vertices(distances, roots.len(), limit as u32, &mut words[..n], roots);
 }

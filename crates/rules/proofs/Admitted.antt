@@ -6,18 +6,15 @@ use mathlib.Core.List.Memᴰ
 use mathlib.Core.List.{List, [], ◌∷◌}
 use mathlib.Core.Option.{none}
 use native.Mathlib.Omega.{arith}
-use Rattle.graph.specs.Graph.{Graph}
-use Rattle.graph.specs.Bytes.{sheet_graph, surfaced_graph}
+use Rattle.graph.specs.Bytes.{sheet_graph, graph_of}
 use Rattle.graph.specs.Fault.{Fault}
 use Rattle.graph.specs.Valid.{Valid}
 use Rattle.graph.proofs.Faults.{quiet_each}
-use Rattle.graph.proofs.Plain.{sheet_plain}
-use Rattle.graph.proofs.Surfaced.{surfaced_valid, plain_surfaced}
-use Rattle.rules.specs.Questions.{Question, listed, graph_in, crews_in, sheet_fault, surface_fault, time_fault, crew_fault, van_fault, question_fault}
+use Rattle.graph.proofs.Surfaced.{surfaced_valid}
+use Rattle.rules.specs.Questions.{Question, listed, graph_in, crews_in, sheet_fault, surface_fault, crew_fault, van_fault, question_fault}
 use Rattle.rules.specs.Fit.{crew_count, CrewsFit}
 use Rattle.rules.proofs.SheetRight.{sheet_right}
 use Rattle.rules.proofs.Surfaces.{weights_light}
-use Rattle.rules.proofs.Times.{times_valid}
 use Rattle.rules.proofs.CrewsRight.{crew_count_lem, quiet_crews, crews_fit}
 
 pub record Admitted (q : Question) : Type 0 where
@@ -26,20 +23,17 @@ pub record Admitted (q : Question) : Type 0 where
   pub fit : CrewsFit (graph_in q) (crews_in q)
 
 pub admitted : (q : Question) → question_fault q ≡ none → Admitted q
-unfolding question_fault surfaced_graph
+unfolding question_fault graph_of
 admitted q e =
-    let g : Graph = surfaced_graph q.sheet (listed q.classes) in
-    let n = (graph_in q).starts in
+    let n = (graph_in q).vertices in
     let crews : Fault = crew_fault q.kind q.k q.vans n in
-    let faults : List Fault = sheet_fault q.sheet ∷ surface_fault q.sheet q.classes ∷ time_fault g q.times ∷ crews ∷ van_fault q.kind q.k q.vans n ∷ [] in
+    let faults : List Fault = sheet_fault q.sheet ∷ surface_fault q.sheet q.classes ∷ crews ∷ van_fault q.kind q.k q.vans n ∷ [] in
     let sheet = (sheet_right q.sheet).0 (quiet_each faults e (Memᴰ.head refl)) in
     let light = weights_light q (quiet_each faults e (Memᴰ.tail (Memᴰ.head refl))) in
-    let times_right = quiet_each faults e (Memᴰ.tail (Memᴰ.tail (Memᴰ.head refl))) in
-    let number_right = quiet_each faults e (Memᴰ.tail (Memᴰ.tail (Memᴰ.tail (Memᴰ.head refl)))) in
-    let vans_right = quiet_each faults e (Memᴰ.tail (Memᴰ.tail (Memᴰ.tail (Memᴰ.tail (Memᴰ.head refl))))) in
-    let valid = surfaced_valid (sheet_graph q.sheet) (listed q.classes) sheet.valid (sheet_plain q.sheet) light in
+    let number_right = quiet_each faults e (Memᴰ.tail (Memᴰ.tail (Memᴰ.head refl))) in
+    let vans_right = quiet_each faults e (Memᴰ.tail (Memᴰ.tail (Memᴰ.tail (Memᴰ.head refl)))) in
     record {
-      valid = times_valid g valid (plain_surfaced q.sheet (listed q.classes)) q.times times_right;
+      valid = surfaced_valid (sheet_graph q.sheet) (listed q.classes) sheet.valid light;
       few = omega (arith, crew_count_lem q.kind q.k q.vans, (quiet_crews q.kind q.k q.vans n number_right).1);
       fit = crews_fit (graph_in q) q.kind q.k q.vans number_right vans_right;
     }

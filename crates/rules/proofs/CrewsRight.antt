@@ -53,9 +53,9 @@ roots_inside k (some vans) n few right {r} m =
     let both = quiet_unless (sized && all below_n (roots_by k (some vans))) 55 right in
     ltb-true r n (all_each below_n (roots_by k (some vans)) (second_true sized (all below_n (roots_by k (some vans))) both) m)
 
-pub crews_fit : (g : Graph) (kind : Kind) (k : ℕ) (vans : Option (List ℕ)) → crew_fault kind k vans g.starts ≡ none → van_fault kind k vans g.starts ≡ none
+pub crews_fit : (g : Graph) (kind : Kind) (k : ℕ) (vans : Option (List ℕ)) → crew_fault kind k vans g.vertices ≡ none → van_fault kind k vans g.vertices ≡ none
     → CrewsFit g (crews_by kind k vans)
 crews_fit g yards k vans e f =
-    let right = quiet_crews yards k vans g.starts e in
-    (omega (arith, roots_count k vans, right.0), λ r m. roots_inside k vans g.starts right.2 f m)
-crews_fit g roving k vans e f = (quiet_crews roving k vans g.starts e).0
+    let right = quiet_crews yards k vans g.vertices e in
+    (omega (arith, roots_count k vans, right.0), λ r m. roots_inside k vans g.vertices right.2 f m)
+crews_fit g roving k vans e f = (quiet_crews roving k vans g.vertices e).0

@@ -10,7 +10,7 @@ use native.Mathlib.Omega.{arith}
 use lib.ListN.{get_or}
 use lib.Dec.{lit<}
 use Rattle.lists.specs.InOrder.{none, next}
-use Rattle.graph.specs.Bytes.{surfaced_graph}
+use Rattle.graph.specs.Bytes.{graph_of}
 use Rattle.rules.specs.Walk.{stay}
 use Rattle.rules.specs.ClosedWalk.{stops_from}
 use Rattle.rules.specs.Distance.{IsShortestPath}
@@ -18,7 +18,7 @@ use Rattle.rules.specs.RootedTrial.{GoodChoices, part_of, rooted_parts, may_go}
 use Rattle.rules.specs.Districts.{N, answer, set, assigned}
 
 -- Limit 3: both parts are in the set, and one root is within 3 of either.
-pub set_is_good : GoodChoices (surfaced_graph N []) (0 ∷ 1 ∷ []) 3 (set (1 ∷ 1 ∷ []))
+pub set_is_good : GoodChoices (graph_of N []) (0 ∷ 1 ∷ []) 3 (set (1 ∷ 1 ∷ []))
 unfolding answer N set
 set_is_good =
     record {
@@ -33,7 +33,7 @@ set_is_good =
     mark (suc (suc i)) h = omega arith
 
 -- Limit 4: the one part starts at root 0, so that the path to it has no edge.
-pub assignment_is_good : GoodChoices (surfaced_graph N []) (0 ∷ 1 ∷ []) 4 (assigned (0 ∷ []))
+pub assignment_is_good : GoodChoices (graph_of N []) (0 ∷ 1 ∷ []) 4 (assigned (0 ∷ []))
 unfolding answer N assigned stops_from
 assignment_is_good =
     record {
@@ -46,11 +46,11 @@ assignment_is_good =
     is_root zero h = lit< tt
     is_root (suc i) h = omega arith
 
-    may : (i : ℕ) → i < 1 → may_go (surfaced_graph N []) (0 ∷ 1 ∷ []) 4 i (get_or (0 ∷ []) i 0) ≡ true
+    may : (i : ℕ) → i < 1 → may_go (graph_of N []) (0 ∷ 1 ∷ []) 4 i (get_or (0 ∷ []) i 0) ≡ true
     may zero h = refl
     may (suc i) h = absurd (omega arith)
 
-    shortest : (i : ℕ) → i < 1 → IsShortestPath (surfaced_graph N []) (get_or (0 ∷ 1 ∷ []) (get_or (0 ∷ []) i 0) 0) (part_of (rooted_parts (surfaced_graph N []) (0 ∷ 1 ∷ []) 4) i) (get_or [] i [])
+    shortest : (i : ℕ) → i < 1 → IsShortestPath (graph_of N []) (get_or (0 ∷ 1 ∷ []) (get_or (0 ∷ []) i 0) 0) (part_of (rooted_parts (graph_of N []) (0 ∷ 1 ∷ []) 4) i) (get_or [] i [])
     shortest zero h =
         record {
           inside = λ e m. absurd (Memᴰ.not-nil m);

@@ -6,11 +6,11 @@ use mathlib.Core.Bool.{Bool, true, false}
 use mathlib.Core.List.{List, [], ◌∷◌, map}
 use mathlib.Core.Option.{Option, some, none, none-ne-some}
 use native.Mathlib.Omega.{arith}
-use Rattle.graph.specs.Graph.{Edge, Graph}
+use Rattle.graph.specs.Graph.{Edge}
 use Rattle.graph.specs.Bytes.{sheet_graph}
 use Rattle.graph.specs.Fault.{Fault, fault_if, fault_unless, first_fault, refused_or}
 use Rattle.graph_check.specs.Check.{yes, number, edge_fault, edges_fault, head_fault, check_of}
-use Rattle.rules.specs.Questions.{number_in, sheet_fault, class_fault, adjusted_fault, surface_fault, time_fault, Kind, yards, roving, crew_fault, van_fault, Question, question_fault}
+use Rattle.rules.specs.Questions.{number_in, sheet_fault, class_fault, adjusted_fault, surface_fault, Kind, yards, roving, crew_fault, van_fault, Question, question_fault}
 
 abbrev pub Numbered : Fault → Type 0
 Numbered f = (k : ℕ) → f ≡ some k → 11 ≤ k
@@ -74,13 +74,6 @@ surface_numbered : (sheet : List ℕ) (classes : Option (List ℕ)) → Numbered
 unfolding surface_fault adjusted_fault
 surface_numbered sheet classes = first_next _ _ (class_numbered classes _) (first_next _ _ (if_numbered _ _ (omega arith)) first_none)
 
--- The fault of a list of times.
-time_numbered : (g : Graph) (times : Option (List ℕ)) → Numbered (time_fault g times)
-unfolding time_fault
-time_numbered g none = λ k q. absurd (none-ne-some k q)
-time_numbered g (some times) =
-    first_next _ _ (unless_numbered _ _ (omega arith)) (first_next _ _ (if_numbered _ _ (omega arith)) (first_next _ _ (if_numbered _ _ (omega arith)) first_none))
-
 -- The fault of a list of vans.
 van_numbered : (kind : Kind) (k : ℕ) (vans : Option (List ℕ)) (n : ℕ) → Numbered (van_fault kind k vans n)
 unfolding van_fault
@@ -94,5 +87,4 @@ unfolding question_fault crew_fault
 question_numbered q =
     first_next _ _ (sheet_numbered q.sheet)
     (first_next _ _ (surface_numbered q.sheet q.classes)
-    (first_next _ _ (time_numbered _ q.times)
-    (first_next _ _ (if_numbered _ _ (omega arith)) (first_next _ _ (van_numbered q.kind q.k q.vans _) first_none))))
+    (first_next _ _ (if_numbered _ _ (omega arith)) (first_next _ _ (van_numbered q.kind q.k q.vans _) first_none)))

@@ -5,8 +5,6 @@ pub mod Linked
 pub mod Joined
 -- leaf edges: the only edge at one of its ends
 pub mod Leaf
--- copies of vertices are leaves
-pub mod Copies
 -- how often an edge stands in trees
 pub mod EntryTimes
 -- the far end of an edge
@@ -21,10 +19,6 @@ pub mod Fields
 pub mod SheetRight
 -- weights by class are not refused exactly where none is too large; without a class list a question is as it was
 pub mod Surfaces
--- times at the vertices that are not refused; without a list and with zeros alone there is no copy
-pub mod Times
--- without copies everything is what it was; a list of zeros gives the replies without one
-pub mod Untimed
 -- the list 0 to k - 1 of vans gives the replies without a list
 pub mod Vans
 -- crews that are not refused are 1 to 32, and fit the graph

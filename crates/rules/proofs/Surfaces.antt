@@ -11,21 +11,18 @@ use lib.Dec.{ltb}
 use borrow.Author.Tests.{ltb-false, le-ltb, lt-ltb}
 use Rattle.lists.proofs.AnyBelow.{found_any_below, none_any_below}
 use Rattle.graph.specs.Graph.{Graph, edge_count, weight_of}
-use Rattle.graph.specs.Bytes.{sheet_graph, surfaced_graph}
+use Rattle.graph.specs.Bytes.{sheet_graph}
 use Rattle.graph.specs.Fault.{Fault, fault_if, fault_unless, first_fault, refused_or}
 use Rattle.graph.proofs.Faults.{quiet_if, quiet_each}
-use Rattle.graph.proofs.Plain.{sheet_plain}
 use Rattle.graph.proofs.Surfaced.{plain_graph}
-use Rattle.graph.proofs.Timed.{untimed_same}
 use Rattle.rules.specs.Cover.{Crews, heaviest}
 use Rattle.rules.specs.CoverBytes.{trees_in, tree_in, decode}
 use Rattle.rules.specs.CheckCover.{cover_fault}
 use Rattle.rules.specs.Reply.{yes, number, refused}
 use Rattle.rules.specs.RootedTrial.{Choices}
 use Rattle.rules.specs.Search.{trial, best}
-use Rattle.rules.specs.Questions.{Kind, yards, roving, Question, question, listed, copies_by, graph_in, crews_by, sheet_fault, class_fault, adjusted_fault, surface_fault, time_fault, crew_fault, van_fault, question_fault, limit_fault, room_fault, trial_fault, ask_trial, best_fault, ask_best, check_fault, ask_check}
-use Rattle.rules.specs.ClosedWalk.{stops_of}
-use Rattle.rules.specs.TimedWalk.{tour_along, tour_length}
+use Rattle.rules.specs.Questions.{Kind, yards, roving, Question, question, graph_in, crews_by, sheet_fault, class_fault, adjusted_fault, surface_fault, crew_fault, van_fault, question_fault, limit_fault, room_fault, trial_fault, ask_trial, best_fault, ask_best, check_fault, ask_check}
+use Rattle.rules.specs.ClosedWalk.{stops_of, length_of, closed_walk}
 use Rattle.rules.specs.WalkQuestion as walks
 use Rattle.rules.specs.WalkQuestion.{least_walk_room, walk_fault, ask_walk}
 use Rattle.rules.proofs.SheetRight.{sheet_right}
@@ -51,11 +48,10 @@ module _ (g : Graph) where
   unfolding adjusted_fault fault_if
   heavy_refused {e} h l = rw (found_any_below heavy (edge_count g) h (lt-ltb 1000000 (weight_of g e) l))
 
--- So where nothing is refused of a class list, no weight by class is too large.
-pub weights_light : (q : Question) → let g = surfaced_graph q.sheet (listed q.classes) in surface_fault q.sheet q.classes ≡ none
-    → (e : ℕ) → e < edge_count g → weight_of g e ≤ 1000000
+-- So where nothing is refused of a class list, no weight of the question's graph is.
+pub weights_light : (q : Question) → surface_fault q.sheet q.classes ≡ none → (e : ℕ) → e < edge_count (graph_in q) → weight_of (graph_in q) e ≤ 1000000
 unfolding surface_fault
-weights_light q none_refused = light_each (surfaced_graph q.sheet (listed q.classes)) (quiet_each _ none_refused (Memᴰ.tail (Memᴰ.head refl)))
+weights_light q none_refused = light_each (graph_in q) (quiet_each _ none_refused (Memᴰ.tail (Memᴰ.head refl)))
 
 -- WITHOUT LISTS, what was asked before the request is answered as it was: about the sheet's own graph.
 
@@ -75,51 +71,41 @@ module _ (kind : Kind) (k : ℕ) (sheet : List ℕ) where
   abbrev crews : Crews
   crews = crews_by kind k none
 
-  -- The question's graph is the sheet's.
-  plain_question : graph_in q ≡ g
-  unfolding copies_by
-  plain_question = rw (plain_graph sheet) (untimed_same g (sheet_plain sheet))
-
   -- What is refused of every question: the sheet, 11 to 16, and the crews, 21.
   abbrev plain_fault : Fault
   plain_fault = first_fault (sheet_fault sheet ∷ crew_fault kind k none g.vertices ∷ [])
 
-  -- Nothing is refused of a list that is not brought.
-  no_classes : sheet_fault sheet ≡ none → surface_fault sheet none ≡ none
-  unfolding surface_fault class_fault first_fault
-  no_classes e = rw (plain_graph sheet, each_light g (λ i h. (((sheet_right sheet).0 e).valid.each_edge i h).weight_most))
-
   pub plain_fault_lem : question_fault q ≡ plain_fault
-  unfolding question_fault time_fault first_fault
+  unfolding question_fault surface_fault class_fault first_fault
   plain_fault_lem = go (sheet_fault sheet) refl
     where
       go : (f : Fault) → sheet_fault sheet ≡ f → question_fault q ≡ first_fault (f ∷ crew_fault kind k none g.vertices ∷ [])
       go (some n) e = rw e
-      go none e = rw (e, no_classes e, plain_question, sheet_plain sheet, no_vans kind k g.vertices)
+      go none e = rw (e, plain_graph sheet, each_light g (λ i h. (((sheet_right sheet).0 e).valid.each_edge i h).weight_most), no_vans kind k g.vertices)
 
   -- The replies.
   pub plain_trial : (limit room : ℕ) (c : Choices) → ask_trial q limit room c
       ≡ refused_or refused (first_fault (plain_fault ∷ limit_fault limit ∷ room_fault room ∷ [])) (trial g crews limit c)
   unfolding ask_trial trial_fault
-  plain_trial limit room c = rw (plain_fault_lem, plain_question)
+  plain_trial limit room c = rw (plain_fault_lem, plain_graph sheet)
 
   pub plain_best : (room : ℕ) (c : Choices) → ask_best q room c ≡ refused_or refused (first_fault (plain_fault ∷ room_fault room ∷ [])) (best g crews c)
   unfolding ask_best best_fault
-  plain_best room c = rw (plain_fault_lem, plain_question)
+  plain_best room c = rw (plain_fault_lem, plain_graph sheet)
 
   abbrev plain_check_fault : List ℕ → Fault
   plain_check_fault cover = first_fault (plain_fault ∷ cover_fault g crews cover ∷ [])
 
   plain_check_fault_lem : (cover : List ℕ) → check_fault q cover ≡ plain_check_fault cover
   unfolding check_fault
-  plain_check_fault_lem cover = rw (plain_fault_lem, plain_question)
+  plain_check_fault_lem cover = rw (plain_fault_lem, plain_graph sheet)
 
   pub plain_check : (cover : List ℕ) → ask_check q cover ≡ refused_or number (plain_check_fault cover) (yes (heaviest g (decode cover)))
   unfolding ask_check
-  plain_check cover = rw (plain_check_fault_lem cover, plain_question)
+  plain_check cover = rw (plain_check_fault_lem cover, plain_graph sheet)
 
-  pub plain_walk : (cover : List ℕ) (tree room : ℕ) → let walk = tour_along g (tree_in cover tree) in ask_walk q cover tree room
+  pub plain_walk : (cover : List ℕ) (tree room : ℕ) → let walk = closed_walk g (tree_in cover tree) in ask_walk q cover tree room
       ≡ refused_or walks.refused (first_fault (plain_check_fault cover ∷ fault_unless (ltb tree (trees_in cover)) 51 ∷ fault_if (ltb room least_walk_room) 52 ∷ []))
-      (walks.walks (stops_of g walk.route) (tour_length g walk))
+      (walks.walks (stops_of g walk) (length_of g walk))
   unfolding ask_walk walk_fault
-  plain_walk cover tree room = rw (plain_check_fault_lem cover, plain_question)
+  plain_walk cover tree room = rw (plain_check_fault_lem cover, plain_graph sheet)

@@ -15,17 +15,16 @@ use Rattle.lists.proofs.Below.{of_below}
 use Rattle.lists.proofs.Every.{each_all}
 use Rattle.lists.proofs.Runs.{map_below, length_below}
 use Rattle.graph.specs.Graph.{Graph}
-use Rattle.graph.specs.Bytes.{u16_at, surfaced_graph}
+use Rattle.graph.specs.Bytes.{u16_at}
 use Rattle.graph.specs.Fault.{Fault, fault_unless, first_fault, refused_or}
 use Rattle.graph.proofs.Surfaced.{vertices_sheet}
-use Rattle.graph.proofs.Timed.{starts_timed}
 use Rattle.rules.specs.Cover.{Crews}
 use Rattle.rules.specs.CoverBytes.{u16_list}
 use Rattle.rules.specs.CheckCover.{cover_fault}
 use Rattle.rules.specs.Reply.{refused}
 use Rattle.rules.specs.RootedTrial.{Choices}
 use Rattle.rules.specs.Search.{trial, best}
-use Rattle.rules.specs.Questions.{Kind, yards, roving, Question, listed, copies_by, graph_in, roots_by, crews_by, crews_in, sheet_fault, surface_fault, too_many_roots, crew_fault, van_fault, question_fault, limit_fault, room_fault, trial_fault, ask_trial, best_fault, ask_best, check_fault, ask_check}
+use Rattle.rules.specs.Questions.{Kind, yards, roving, Question, listed, graph_in, roots_by, crews_by, crews_in, sheet_fault, surface_fault, too_many_roots, crew_fault, van_fault, question_fault, limit_fault, room_fault, trial_fault, ask_trial, best_fault, ask_best, check_fault, ask_check}
 use Rattle.rules.specs.WalkQuestion.{walk_fault, ask_walk}
 use Rattle.rules.proofs.Fields.{Small, read_written, fields_length}
 use Rattle.rules.proofs.SheetRight.{sheet_right}
@@ -63,14 +62,14 @@ module _ (k : ℕ) (small : k ≤ 65536) where
     up_to_right roving = refl
 
 -- A question without a list of vans, and with the list 0 to k - 1.
-module _ (kind : Kind) (k : ℕ) (sheet : List ℕ) (classes times : Option (List ℕ)) where
+module _ (kind : Kind) (k : ℕ) (sheet : List ℕ) (classes : Option (List ℕ)) where
   abbrev pub without : Question
-  without = record { kind = kind; k = k; sheet = sheet; classes = classes; vans = none; times = times }
+  without = record { kind = kind; k = k; sheet = sheet; classes = classes; vans = none }
 
   abbrev pub numbered : Question
-  numbered = record { kind = kind; k = k; sheet = sheet; classes = classes; vans = some (up_to k); times = times }
+  numbered = record { kind = kind; k = k; sheet = sheet; classes = classes; vans = some (up_to k) }
 
-  module _ (few : k ≤ (graph_in without).starts) where
+  module _ (few : k ≤ (graph_in without).vertices) where
     -- The sheet is refused of both, or both are for the same crews and refused alike.
     abbrev Alike : Type 0
     Alike =
@@ -82,12 +81,12 @@ module _ (kind : Kind) (k : ℕ) (sheet : List ℕ) (classes times : Option (Lis
     alike = go (sheet_fault sheet) refl
       where
         n : ℕ
-        n = (graph_in without).starts
+        n = (graph_in without).vertices
 
         go : (f : Fault) → sheet_fault sheet ≡ f → Alike
         go (some m) e = inl (m, rw e refl, rw e refl)
         go none e =
-            let most : k ≤ 65536 = omega (arith, few, starts_timed (surfaced_graph sheet (listed classes)) (copies_by (surfaced_graph sheet (listed classes)).vertices times), vertices_sheet sheet (listed classes), ((sheet_right sheet).0 e).valid.vertices_most) in
+            let most : k ≤ 65536 = omega (arith, few, vertices_sheet sheet (listed classes), ((sheet_right sheet).0 e).valid.vertices_most) in
             inr (same_crews k most kind, rw (same_number k most n few kind, up_to_right k most n few kind, no_vans kind k n) refl)
 
     -- So is whatever is made of the crews and of what is refused, where a refusal does not look at the crews.
@@ -125,7 +124,7 @@ module _ (kind : Kind) (k : ℕ) (sheet : List ℕ) (classes times : Option (Lis
     same_walk cover tree room = rw (same_check_fault cover) refl
 
 -- A roving question does not read a list: what is refused of it and whom the cover is for are the same whatever is brought, and so is every reply.
-pub roving_unread : (k : ℕ) (sheet : List ℕ) (classes vans times : Option (List ℕ)) → let q : Question = record { kind = roving; k = k; sheet = sheet; classes = classes; vans = vans; times = times } in
-    (question_fault q ≡ question_fault (without roving k sheet classes times)) × (crews_in q ≡ crews_in (without roving k sheet classes times))
+pub roving_unread : (k : ℕ) (sheet : List ℕ) (classes vans : Option (List ℕ)) → let q : Question = record { kind = roving; k = k; sheet = sheet; classes = classes; vans = vans } in
+    (question_fault q ≡ question_fault (without roving k sheet classes)) × (crews_in q ≡ crews_in (without roving k sheet classes))
 unfolding question_fault crew_fault too_many_roots van_fault
-roving_unread k sheet classes vans times = (refl, refl)
+roving_unread k sheet classes vans = (refl, refl)

@@ -1,11 +1,11 @@
 -- The check of a filed cover (document 01, "The filer of a cover": 31 to 35, tried in that order).
 -- Assumes nothing.
 use Rattle.std.specs.Prelude.{ℕ, ◌-◌, Bool, true, not, ◌&&◌, ◌||◌, List, [], ◌∷◌, length, get_or, leb, ltb, eqb}
-use Rattle.lists.specs.Count.{from, below}
+use Rattle.lists.specs.Count.{below}
 use Rattle.lists.specs.Lists.{any, all, member}
-use Rattle.graph.specs.Graph.{Graph, edge_count, one_end, copy_count, line_count}
+use Rattle.graph.specs.Graph.{Graph, edge_count, one_end}
 use Rattle.graph.specs.Fault.{Fault, fault_unless, first_fault}
-use Rattle.rules.specs.Cover.{Tree, Crews, rooted, unrooted, held_times}
+use Rattle.rules.specs.Cover.{Tree, Crews, rooted, unrooted}
 use Rattle.rules.specs.CoverBytes.{trees_in, entries_in, start_in, entry_tree, entry_edge, cover_length, decode}
 use Rattle.rules.specs.Labels.{Labels, apart, joined, ends_joined, merge_edge, merge_all}
 use Rattle.rules.specs.Distance.{tree_vertices}
@@ -15,7 +15,7 @@ unfoldable pub starts_right : Crews → List ℕ → Bool
 starts_right (rooted roots) b = eqb (trees_in b) (length roots) && all (λ j. eqb (start_in b j) (get_or roots j 0)) (below (trees_in b))
 starts_right (unrooted k) b = leb 1 (trees_in b) && leb (trees_in b) k
 
--- 32: every start is one of the n vertices where a tree may start.
+-- 32: every start is one of n vertices.
 unfoldable pub starts_below : ℕ → List ℕ → Bool
 starts_below n b = all (λ j. ltb (start_in b j) n) (below (trees_in b))
 
@@ -58,18 +58,14 @@ vertex_covered g trees v = any (λ t. member v (tree_vertices g t)) trees
 unfoldable pub vertices_covered : Graph → List Tree → Bool
 vertices_covered g trees = all (λ v. vertex_covered g trees v) (below g.vertices)
 
--- 35 (document 02, A.7): "also for a time listed in no tree or in two".
-unfoldable pub times_served : Graph → List Tree → Bool
-times_served g trees = all (λ e. eqb (held_times e trees) 1) (from (line_count g) (copy_count g))
-
 -- The first number that applies, for a graph and crews that are in order. 31 is "length below 4 or not 4 + 2t + 4q".
 unfoldable pub cover_fault : Graph → Crews → List ℕ → Fault
 cover_fault g crews b =
     let trees = decode b in
     first_fault
     (fault_unless (leb 4 (length b) && eqb (length b) (cover_length b)) 31
-    ∷ fault_unless (starts_right crews b && starts_below g.starts b) 32
+    ∷ fault_unless (starts_right crews b && starts_below g.vertices b) 32
     ∷ fault_unless (entries_right (edge_count g) b) 33
     ∷ fault_unless (trees_right g trees) 34
-    ∷ fault_unless (vertices_covered g trees && times_served g trees) 35
+    ∷ fault_unless (vertices_covered g trees) 35
     ∷ [])

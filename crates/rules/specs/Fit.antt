@@ -11,10 +11,10 @@ unfoldable pub crew_count : Crews → ℕ
 crew_count (rooted roots) = length roots
 crew_count (unrooted k) = k
 
--- What the theorems ask of crews: there is at least one, and each root is a vertex where a tree may start. The crews of a question that 21 and 55 do not refuse are such
+-- What the theorems ask of crews: there is at least one, and each root is a vertex. The crews of a question that 21 and 55 do not refuse are such
 -- (proofs/CrewsRight.antt).
 abbrev pub CrewsFit : Graph → Crews → Type 0
-CrewsFit g (rooted roots) = (1 ≤ length roots) × ((r : ℕ) → r ∈ roots → r < g.starts)
+CrewsFit g (rooted roots) = (1 ≤ length roots) × ((r : ℕ) → r ∈ roots → r < g.vertices)
 CrewsFit g (unrooted k) = 1 ≤ k
 
 -- What holds of the free choices of a trial at a limit. An unrooted trial has none.

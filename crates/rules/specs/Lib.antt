@@ -43,8 +43,6 @@ pub mod Districts
 pub mod ClosedWalk
 -- the same walk by document 02's sentences
 pub mod WalkRule
--- the walk along a tree that lists times (document 02, "A.7 Time at the stops")
-pub mod TimedWalk
 -- anybody's closed walks that together come to every vertex
 pub mod RivalWalks
 -- the question of the walk, from bytes to its reply
@@ -65,9 +63,6 @@ pub mod VanExamples
 -- Document 02, "A.6 A limit before the phone call ends" (the search stands behind Search, 56 in Questions):
 -- few trials on small sheets
 pub mod TrialExamples
--- Document 02, "A.7 Time at the stops" (copies stand in the crate `graph`, 57 to 59 in Questions, the rest where it is said above):
--- small sheets with times
-pub mod TimeExamples
 -- Besides the documents, what promises cite:
 -- trees as arrays hold them
 pub mod Held

@@ -1,13 +1,12 @@
 -- The questions, from bytes to replies, with every number of document 01's "Who causes which number", and of document 02's lists beside a sheet,
 -- "tried in the order listed".
 -- Assumes nothing.
-use Rattle.std.specs.Prelude.{ℕ, ◌+◌, ◌*◌, Bool, false, cond, not, ◌&&◌, ◌||◌, List, [], ◌∷◌, ◌++◌, map, length, drop, leb, ltb, eqb}
+use Rattle.std.specs.Prelude.{ℕ, ◌*◌, Bool, false, cond, not, ◌&&◌, ◌||◌, List, [], ◌∷◌, ◌++◌, map, length, drop, leb, ltb, eqb}
 use Rattle.std.proofs.Math.Option.{Option, some, none}
 use Rattle.lists.specs.Count.{below, any_below}
-use Rattle.lists.specs.Lists.{filter, all}
+use Rattle.lists.specs.Lists.{all}
 use Rattle.graph.specs.Graph.{Graph, edge_count, weight_of}
-use Rattle.graph.specs.Times.{Copy, timed}
-use Rattle.graph.specs.Bytes.{u16_at, u32_at, sheet_graph, surfaced_graph}
+use Rattle.graph.specs.Bytes.{u16_at, u32_at, sheet_graph, graph_of}
 use Rattle.graph.specs.Fault.{Fault, fault_if, fault_unless, first_fault, refused_or}
 use Rattle.graph_check.specs.Check as sheet
 use Rattle.rules.specs.Cover.{Crews, rooted, unrooted, heaviest}
@@ -54,36 +53,26 @@ pub data Kind : Type 0 where
   roving : Kind
 
 -- What every question about a graph brings. (Document 02, A.3: "Let a question carry m class bytes beside the sheet." A.5: "A yard question now carries k
--- stop numbers of 2 bytes, repeats allowed". A.7: "A question may carry n times of 4 bytes".)
+-- stop numbers of 2 bytes, repeats allowed".)
 pub record Question : Type 0 where
   pub kind : Kind
   pub k : ℕ
   pub sheet : List ℕ
   pub classes : Option (List ℕ)
   pub vans : Option (List ℕ)
-  pub times : Option (List ℕ)
 
 -- A question without lists.
 abbrev pub question : Kind → ℕ → List ℕ → Question
-question kind k sheet = record { kind = kind; k = k; sheet = sheet; classes = none; vans = none; times = none }
+question kind k sheet = record { kind = kind; k = k; sheet = sheet; classes = none; vans = none }
 
 -- The bytes of a list, none where it is not brought.
 abbrev pub listed : Option (List ℕ) → List ℕ
 listed none = []
 listed (some list) = list
 
--- The time of a vertex, by a list.
-abbrev pub time_in : List ℕ → ℕ → ℕ
-time_in times v = u32_at times (4 * v)
-
--- The copies of the n vertices (document 02, A.7), "in order of stops with a time above 0".
-unfoldable pub copies_by : ℕ → Option (List ℕ) → List Copy
-copies_by n none = []
-copies_by n (some times) = map (λ v. record { stop = v; time = time_in times v }) (filter (λ v. ltb 0 (time_in times v)) (below n))
-
--- The graph that it is about: the sheet's, with its weights by class, and with the copies. "Surface percentages leave times as given."
+-- The graph that it is about.
 abbrev pub graph_in : Question → Graph
-graph_in q = let g = surfaced_graph q.sheet (listed q.classes) in timed g (copies_by g.vertices q.times)
+graph_in q = graph_of q.sheet (listed q.classes)
 
 -- Where k crews with roots start (document 02, A.5): "tree j starts at the j-th" of the list; "callers without a list mean 0 to k - 1".
 abbrev pub roots_by : ℕ → Option (List ℕ) → List ℕ
@@ -109,19 +98,7 @@ adjusted_fault g = fault_if (any_below (edge_count g) (λ e. ltb 1000000 (weight
 
 -- Both, each over the whole list before the next.
 unfoldable pub surface_fault : List ℕ → Option (List ℕ) → Fault
-surface_fault sheet classes = first_fault (class_fault classes (edge_count (sheet_graph sheet)) ∷ adjusted_fault (surfaced_graph sheet (listed classes)) ∷ [])
-
--- 57 to 59 (document 02, A.7), beside a graph without copies: "not 4n bytes", "a time above 1,000,000", "stops and copies above 256 or lines and copies
--- above 2,048"; each over the whole list before the next.
-unfoldable pub time_fault : Graph → Option (List ℕ) → Fault
-time_fault g none = none
-time_fault g (some times) =
-    let copies = length (copies_by g.vertices (some times)) in
-    first_fault
-    (fault_unless (eqb (length times) (4 * g.vertices)) 57
-    ∷ fault_if (any_below g.vertices (λ v. ltb 1000000 (time_in times v))) 58
-    ∷ fault_if (ltb 256 (g.vertices + copies) || ltb 2048 (edge_count g + copies)) 59
-    ∷ [])
+surface_fault sheet classes = first_fault (class_fault classes (edge_count (sheet_graph sheet)) ∷ adjusted_fault (graph_of sheet (listed classes)) ∷ [])
 
 -- Crews with roots 0 to k - 1 are more than the n vertices: "With a list, the clause of 21 about n ends".
 unfoldable pub too_many_roots : Kind → ℕ → Option (List ℕ) → ℕ → Bool
@@ -139,15 +116,13 @@ van_fault yards k none n = none
 van_fault yards k (some vans) n = fault_unless (eqb (length vans) (2 * k) && all (λ root. ltb root n) (roots_by k (some vans))) 55
 van_fault roving k vans n = none
 
--- What is refused of every question, in document 01's order; 53 and 54 come "after 16, before 21", 57 to 59 "after 54, before 21", and 55 "straight after
--- 21". Of the vertices 21 and 55 count the sheet's.
+-- What is refused of every question, in document 01's order; 53 and 54 come "after 16, before 21", and 55 "straight after 21".
 unfoldable pub question_fault : Question → Fault
 question_fault q =
-    let n = (graph_in q).starts in
+    let n = (graph_in q).vertices in
     first_fault
     (sheet_fault q.sheet
     ∷ surface_fault q.sheet q.classes
-    ∷ time_fault (surfaced_graph q.sheet (listed q.classes)) q.times
     ∷ crew_fault q.kind q.k q.vans n
     ∷ van_fault q.kind q.k q.vans n
     ∷ [])

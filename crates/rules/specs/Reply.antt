@@ -1,7 +1,6 @@
 -- The replies of document 01, each with its values.
 -- Assumes nothing.
 use Rattle.std.specs.Prelude.{ℕ, List}
-use Rattle.std.proofs.Math.Option.{Option, some, none}
 use Rattle.rules.specs.Cover.{Tree}
 
 -- What a trial or a best-limit question is answered.
@@ -18,11 +17,6 @@ pub data Reply : Type 0 where
   too_low_needs : (C : ℕ) → Reply
   -- "no cover"
   no_cover : Reply
-
--- "Too low, stop v", where there is such a vertex.
-unfoldable pub stop_or : Option ℕ → Reply → Reply
-stop_or none reply = reply
-stop_or (some v) reply = too_low_stop v
 
 -- What the check of a filed cover is answered: "yes with the heaviest weight, otherwise a number".
 pub data Verdict : Type 0 where

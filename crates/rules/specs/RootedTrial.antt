@@ -1,7 +1,7 @@
 -- The trial of a rooted question at a limit (document 01, a "yard trial", steps 1 to 6).
 -- Assumes nothing.
 use Rattle.std.specs.Prelude.{ℕ, ◌<◌, ◌≡◌, Bool, true, false, cond, List, [], ◌++◌, map, length, get_or, leb, eqb}
-use Rattle.std.proofs.Math.Option.{Option}
+use Rattle.std.proofs.Math.Option.{Option, some, none}
 use Rattle.lists.specs.Count.{below}
 use Rattle.lists.specs.Lists.{filter, flat, member}
 use Rattle.lists.specs.Sort.{rise, sort_by}
@@ -15,7 +15,7 @@ use Rattle.rules.specs.Forest.{keep, forest, labels_at, unjoined}
 use Rattle.rules.specs.Grow.{grow}
 use Rattle.rules.specs.Split.{Pieces, split, all_parts, smallest_edge}
 use Rattle.rules.specs.Distance.{reaches_part, IsShortestPath}
-use Rattle.rules.specs.Reply.{Reply, covered, too_low_parts, stop_or}
+use Rattle.rules.specs.Reply.{Reply, covered, too_low_stop, too_low_parts}
 
 -- Step 2: the lowest vertex that the edges of weight at most the limit join to no root.
 unfoldable pub unjoined_at : Graph → List ℕ → ℕ → Option ℕ
@@ -87,6 +87,11 @@ by_smallest parts = sort_by (λ t u. leb (smallest_edge t) (smallest_edge u)) pa
 -- Step 5: the parts of the set, so ordered.
 unfoldable pub chosen_parts : List Tree → List ℕ → List Tree
 chosen_parts parts marks = by_smallest (map (part_of parts) (filter (marked marks) (below (length parts))))
+
+-- "Too low, stop v", where there is such a vertex.
+unfoldable pub stop_or : Option ℕ → Reply → Reply
+stop_or none reply = reply
+stop_or (some v) reply = too_low_stop v
 
 -- The trial.
 unfoldable pub rooted_trial : Graph → List ℕ → ℕ → Choices → Reply

@@ -10,7 +10,7 @@ use Rattle.rules.specs.Labels.{apart, together, merge_all}
 use Rattle.rules.specs.Forest.{unjoined, lowest}
 use Rattle.rules.specs.Reply.{Reply, no_cover}
 use Rattle.rules.specs.RootedTrial.{Choices, unjoined_at, is_assignable, rooted_trial}
-use Rattle.rules.specs.UnrootedTrial.{needed, unserved, unrooted_trial}
+use Rattle.rules.specs.UnrootedTrial.{needed, unrooted_trial}
 
 -- There is no such vertex.
 unfoldable pub no_vertex : Option ℕ → Bool
@@ -20,7 +20,7 @@ no_vertex (some v) = false
 -- The limit is accepted. No free choice bears on it.
 unfoldable pub accepts : Graph → Crews → ℕ → Bool
 accepts g (rooted roots) limit = no_vertex (unjoined_at g roots limit) && is_assignable g roots limit
-accepts g (unrooted k) limit = no_vertex (unserved g limit) && leb (needed g limit) k
+accepts g (unrooted k) limit = leb (needed g limit) k
 
 -- The trial by either kind of crews.
 unfoldable pub trial : Graph → Crews → ℕ → Choices → Reply

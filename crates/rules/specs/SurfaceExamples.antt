@@ -19,7 +19,7 @@ rounded = refl
 
 -- A question with a class list.
 unfoldable pub listing : Kind → ℕ → List ℕ → List ℕ → Question
-listing kind k sheet classes = record { kind = kind; k = k; sheet = sheet; classes = some classes; vans = none; times = none }
+listing kind k sheet classes = record { kind = kind; k = k; sheet = sheet; classes = some classes; vans = none }
 
 -- Two vertices and an edge: of weight 833,334, and of weight 1,000,001.
 unfoldable pub long : List ℕ

@@ -1,12 +1,10 @@
 -- The trial of an unrooted question at a limit (document 01, a "roving" trial, steps 1 to 4 and 7).
 -- Assumes nothing.
-use Rattle.std.specs.Prelude.{ℕ, ◌+◌, ◌*◌, ◌-◌, ◌/◌, min, Bool, cond, ◌&&◌, ◌||◌, leb, ltb, eqb}
+use Rattle.std.specs.Prelude.{ℕ, ◌+◌, ◌*◌, ◌/◌, min, Bool, cond, ◌&&◌, ◌||◌, leb, ltb, eqb}
 use mathlib.Core.List.{List, [], ◌∷◌, ◌++◌, map, foldr}
-use Rattle.std.proofs.Math.Option.{Option}
-use Rattle.lists.specs.Count.{from}
-use Rattle.lists.specs.Lists.{first_that, flat, sum_of}
+use Rattle.lists.specs.Lists.{flat, sum_of}
 use Rattle.lists.specs.Sort.{rise, sort_by}
-use Rattle.graph.specs.Graph.{Graph, weight_of, copy_count, line_count}
+use Rattle.graph.specs.Graph.{Graph}
 use Rattle.rules.specs.Walk.{total_weight}
 use Rattle.rules.specs.Cover.{Tree, heaviest}
 use Rattle.rules.specs.Labels.{apart}
@@ -14,7 +12,7 @@ use Rattle.rules.specs.Forest.{forest, labels_at, lowest}
 use Rattle.rules.specs.Grow.{Rooted, branch_edges, grow}
 use Rattle.rules.specs.Split.{split, smallest_edge}
 use Rattle.rules.specs.Distance.{tree_vertices}
-use Rattle.rules.specs.Reply.{Reply, covered, too_low_needs, stop_or}
+use Rattle.rules.specs.Reply.{Reply, covered, too_low_needs}
 
 -- Steps 2 and 3: the components' trees, each "rooted at its lowest stop".
 unfoldable pub components : Graph → ℕ → List Rooted
@@ -52,16 +50,8 @@ starts_before t u = ltb t.start u.start || (eqb t.start u.start && leb (smallest
 unfoldable pub unrooted_trees : Graph → ℕ → List Tree
 unrooted_trees g limit = sort_by starts_before (flat (map (component_trees g limit) (components g limit)))
 
--- The time of a copy (document 02, A.7): the weight of its edge.
-abbrev pub copy_time : Graph → ℕ → ℕ
-copy_time g v = weight_of g (line_count g + (v - g.starts))
-
--- "A roving trial below some stop's time, at limit 0 too, answers too low, stop v, v being the lowest such copy."
-unfoldable pub unserved : Graph → ℕ → Option ℕ
-unserved g limit = first_that (λ v. ltb limit (copy_time g v)) (from g.starts (copy_count g))
-
 -- The trial: "if the sum C exceeds k: too low, needs C".
 unfoldable pub unrooted_trial : Graph → ℕ → ℕ → Reply
 unrooted_trial g k limit =
     let trees = unrooted_trees g limit in
-    stop_or (unserved g limit) (cond (leb (needed g limit) k) (covered limit (heaviest g trees) trees) (too_low_needs (needed g limit)))
+    cond (leb (needed g limit) k) (covered limit (heaviest g trees) trees) (too_low_needs (needed g limit))

@@ -8,7 +8,7 @@ use Rattle.rules.specs.Districts.{N, bare, tree, nothing, assigned, set, trial, 
 
 -- A question with a list of vans.
 unfoldable pub driving : Kind → ℕ → List ℕ → List ℕ → Question
-driving kind k sheet vans = record { kind = kind; k = k; sheet = sheet; classes = none; vans = some vans; times = none }
+driving kind k sheet vans = record { kind = kind; k = k; sheet = sheet; classes = none; vans = some vans }
 
 -- Two vertices and an edge of weight 1.
 unfoldable pub street : List ℕ

@@ -20,14 +20,14 @@ unfolding Lists.any Lists.first_that Lists.sum_of Lists.member Grow.far_end Grow
 walked g t = let walk = ClosedWalk.closed_walk g t in (walk.crossings, ClosedWalk.stops_of g walk, ClosedWalk.length_of g walk)
 
 -- Sheet N: out along its edges 0 and 1, and back.
-pub sheet_N : walked (Bytes.surfaced_graph N []) (tree 0 (0 ∷ 1 ∷ [])) ≡ (0 ∷ 1 ∷ 1 ∷ 0 ∷ [], 0 ∷ 2 ∷ 3 ∷ 2 ∷ 0 ∷ [], 12)
-unfolding walked N tree Count.from Count.below Bytes.u16_at Bytes.u32_at Bytes.edge_in Bytes.edges_held Bytes.sheet_graph Bytes.surfaced_graph
+pub sheet_N : walked (Bytes.graph_of N []) (tree 0 (0 ∷ 1 ∷ [])) ≡ (0 ∷ 1 ∷ 1 ∷ 0 ∷ [], 0 ∷ 2 ∷ 3 ∷ 2 ∷ 0 ∷ [], 12)
+unfolding walked N tree Count.from Count.below Bytes.u16_at Bytes.u32_at Bytes.edge_in Bytes.edges_held Bytes.sheet_graph Bytes.graph_of
     Surface.percent_of Surface.adjusted Surface.class_at Surface.surfaced
 sheet_N = refl
 
 -- A star around vertex 2: the edges 0 to 3 lead to the vertices 0, 1, 3 and 4, and weigh 1 to 4.
 unfoldable pub star : Graph
-star = record { vertices = 5; edges = edge 2 0 1 ∷ edge 1 2 2 ∷ edge 2 3 3 ∷ edge 4 2 4 ∷ []; starts = 5 }
+star = record { vertices = 5; edges = edge 2 0 1 ∷ edge 1 2 2 ∷ edge 2 3 3 ∷ edge 4 2 4 ∷ [] }
   where
     edge : ℕ → ℕ → ℕ → Edge
     edge a b w = record { one = a; other = b; weight = w }

@@ -4,8 +4,7 @@ use Rattle.std.specs.Prelude.{ℕ, List, [], ◌∷◌, ◌++◌, length, drop, 
 use Rattle.graph.specs.Fault.{Fault, fault_if, fault_unless, first_fault, refused_or}
 use Rattle.rules.specs.CoverBytes.{u16_list, trees_in, tree_in}
 use Rattle.rules.specs.Questions.{Question, graph_in, check_fault}
-use Rattle.rules.specs.ClosedWalk.{stops_of}
-use Rattle.rules.specs.TimedWalk.{Tour, tour_along, tour_length}
+use Rattle.rules.specs.ClosedWalk.{Route, stops_of, length_of, closed_walk}
 
 -- 52: "buffer below 1,022 bytes", the room of 511 stops.
 abbrev pub least_walk_room : ℕ
@@ -17,8 +16,8 @@ walk_fault q cover tree room =
     first_fault (check_fault q cover ∷ fault_unless (ltb tree (trees_in cover)) 51 ∷ fault_if (ltb room least_walk_room) 52 ∷ [])
 
 -- The walk along that tree.
-abbrev pub walk_in : Question → List ℕ → ℕ → Tour
-walk_in q cover tree = tour_along (graph_in q) (tree_in cover tree)
+abbrev pub walk_in : Question → List ℕ → ℕ → Route
+walk_in q cover tree = closed_walk (graph_in q) (tree_in cover tree)
 
 -- What is answered: the number of a refusal, or the walk's stops and its length.
 pub data WalkReply : Type 0 where
@@ -28,7 +27,7 @@ pub data WalkReply : Type 0 where
 unfoldable pub ask_walk : Question → List ℕ → ℕ → ℕ → WalkReply
 ask_walk q cover tree room =
     let walk = walk_in q cover tree in
-    refused_or refused (walk_fault q cover tree room) (walks (stops_of (graph_in q) walk.route) (tour_length (graph_in q) walk))
+    refused_or refused (walk_fault q cover tree room) (walks (stops_of (graph_in q) walk) (length_of (graph_in q) walk))
 
 -- What is written: "each stop takes 2 bytes".
 unfoldable pub stop_bytes : WalkReply → List ℕ

@@ -1,6 +1,6 @@
 -- What weightless edges join (document 02, A.4), in words of walks.
 -- Assumes nothing.
-use Rattle.std.specs.Prelude.{ℕ, ◌≤◌, ◌<◌, ◌≡◌, List, length, eqb}
+use Rattle.std.specs.Prelude.{ℕ, ◌≤◌, ◌<◌, List, length, eqb}
 use Rattle.lists.specs.Count.{below}
 use Rattle.lists.specs.Lists.{filter}
 use Rattle.lists.specs.Member.{◌∈◌}
@@ -21,8 +21,3 @@ JoinedTo g these = (v : ℕ) → v < g.vertices → (u : ℕ) × (u ∈ these) �
 abbrev pub WeightlessJoined : Graph → Crews → Type 0
 WeightlessJoined g (rooted roots) = JoinedTo g roots
 WeightlessJoined g (unrooted k) = (these : List ℕ) × (length these ≤ k) × JoinedTo g these
-
--- When a limit of 0 is accepted. "With any time above 0 a limit of 0 is never accepted, by yards or roving, and A.4's sentence about 0 speaks of questions
--- without one" (document 02, A.7): where a tree may start at every vertex there is no copy.
-abbrev pub ZeroAccepted : Graph → Crews → Type 0
-ZeroAccepted g crews = (g.starts ≡ g.vertices) × WeightlessJoined g crews

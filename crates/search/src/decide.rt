@@ -22,15 +22,14 @@ pub(crate) fn accepts_at(
     until: &[u16],
     steps: &[u64],
     classes: &[u8],
-    copies: &[u32],
 ) -> bool
-    requires { DecisionAsked kind k (graph_of b.now classes.now copies.now) roots.now limit kept.now
-        distances.now total.now until.now steps.now }
-    ensures { result ≡ accepts (graph_of b.now classes.now copies.now) (crews_with kind
-        k roots.now) limit }
+    requires { DecisionAsked kind k (graph_of b.now classes.now) roots.now limit kept.now distances.now
+        total.now until.now steps.now }
+    ensures { result ≡ accepts (graph_of b.now classes.now) (crews_with kind k
+        roots.now) limit }
 {
     match kind {
-        Kind::Rooted => accepts_rooted(b, roots, limit, kept, distances, steps, classes, copies),
-        Kind::Unrooted => accepts_unrooted(b, k, limit, kept, total, until, classes, copies),
+        Kind::Rooted => accepts_rooted(b, roots, limit, kept, distances, steps, classes),
+        Kind::Unrooted => accepts_unrooted(b, k, limit, kept, total, until, classes),
     }
 }

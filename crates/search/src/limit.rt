@@ -41,12 +41,11 @@ fn search(
     sum: u64,
     budget: usize,
     classes: &[u8],
-    copies: &[u32],
 ) -> Standing
-    requires { SearchAsked kind k (graph_of b.now classes.now copies.now) roots.now kept.now distances.now
-        total.now until.now steps.now sum }
-    ensures { SearchEnded (graph_of b.now classes.now copies.now) (crews_with kind
-        k roots.now) sum budget result }
+    requires { SearchAsked kind k (graph_of b.now classes.now) roots.now kept.now distances.now total.now
+        until.now steps.now sum }
+    ensures { SearchEnded (graph_of b.now classes.now) (crews_with kind k
+        roots.now) sum budget result }
 {
     let mut low = 0;
     let mut high = sum;
@@ -55,7 +54,7 @@ fn search(
         left -= 1;
         let middle = (low + high) / 2;
         if accepts_at(
-            kind, k, b, roots, middle, kept, distances, total, until, steps, classes, copies,
+            kind, k, b, roots, middle, kept, distances, total, until, steps, classes,
         ) {
             high = middle;
             continue;
@@ -84,15 +83,14 @@ fn search_limit(
     steps: &[u64],
     trials: usize,
     classes: &[u8],
-    copies: &[u32],
 ) -> Found
-    requires { SteppedAsked kind k (graph_of b.now classes.now copies.now) roots.now order.now kept.now
-        distances.now total.now until.now steps.now trials }
-    ensures { result ≡ found_after (graph_of b.now classes.now copies.now) (crews_with
-        kind k roots.now) trials }
+    requires { SteppedAsked kind k (graph_of b.now classes.now) roots.now order.now kept.now distances.now
+        total.now until.now steps.now trials }
+    ensures { result ≡ found_after (graph_of b.now classes.now) (crews_with kind k
+        roots.now) trials }
 {
     if accepts_at(
-        kind, k, b, roots, 0, kept, distances, total, until, steps, classes, copies,
+        kind, k, b, roots, 0, kept, distances, total, until, steps, classes,
     ) {
         return Found {
             high: 0,
@@ -103,7 +101,7 @@ fn search_limit(
             },
         };
     }
-    let sum = edges_weight(b, order, classes, copies);
+    let sum = edges_weight(b, order, classes);
     let end = search(
         kind,
         k,
@@ -117,7 +115,6 @@ fn search_limit(
         sum,
         trials - 2,
         classes,
-        copies,
     );
     Found {
         high: end.high,
@@ -138,21 +135,13 @@ fn write_steps(
     arcs: &[u64],
     steps: &mut [u64],
     classes: &[u8],
-    copies: &[u32],
 ) -> usize
-    requires { StepsGiven kind (graph_of b.now classes.now copies.now) roots.now bounds.now arcs.now
-        steps.old }
-    ensures { StepsFor kind (graph_of b.now classes.now copies.now)
-        roots.now steps.old steps.new result }
+    requires { StepsGiven kind (graph_of b.now classes.now) roots.now bounds.now arcs.now steps.old }
+    ensures { StepsFor kind (graph_of b.now classes.now) roots.now
+        steps.old steps.new result }
 {
     match kind {
-        Kind::Rooted => put_steps(
-            graph::vertex_count(b, classes, copies),
-            bounds,
-            arcs,
-            roots,
-            steps,
-        ),
+        Kind::Rooted => put_steps(graph::vertex_count(b, classes), bounds, arcs, roots, steps),
         Kind::Unrooted => 0,
     }
 }
@@ -172,15 +161,14 @@ pub fn find_limit(
     until: &[u16],
     trials: usize,
     classes: &[u8],
-    copies: &[u32],
 ) -> Found
-    requires { FindAsked kind k (graph_of b.now classes.now copies.now) roots.now order.now kept.now
-        bounds.now arcs.now distances.now total.now until.now trials }
-    ensures { result ≡ found_after (graph_of b.now classes.now copies.now) (crews_with
-        kind k roots.now) trials }
+    requires { FindAsked kind k (graph_of b.now classes.now) roots.now order.now kept.now bounds.now
+        arcs.now distances.now total.now until.now trials }
+    ensures { result ≡ found_after (graph_of b.now classes.now) (crews_with kind k
+        roots.now) trials }
 {
     let mut steps = [0u64; 256];
-    let count = write_steps(kind, b, roots, bounds, arcs, &mut steps, classes, copies);
+    let count = write_steps(kind, b, roots, bounds, arcs, &mut steps, classes);
     search_limit(
         kind,
         k,
@@ -194,6 +182,5 @@ pub fn find_limit(
         &steps[..count],
         trials,
         classes,
-        copies,
     )
 }

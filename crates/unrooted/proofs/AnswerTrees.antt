@@ -4,7 +4,6 @@ use Prim.Native.Nat.{ℕ, ◌+◌, ◌-◌, ◌*◌, ◌≤◌, ◌<◌}
 use mathlib.Core.Path.{◌≡◌, refl, sym, ap, ◌∙◌}
 use mathlib.Core.Bool.{◌&&◌, ◌||◌}
 use mathlib.Core.Logic.{◌⊎◌, inl, inr, dite}
-use mathlib.Core.Option.{none}
 use mathlib.Core.List.Memᴰ
 use mathlib.Core.List.{List, [], ◌∷◌, map, map-map, head_d}
 use native.Mathlib.Decide.{dec_le}
@@ -29,7 +28,7 @@ use Rattle.rules.specs.Cover.{Tree, IsTree}
 use Rattle.rules.specs.Grow.{Rooted}
 use Rattle.rules.specs.Held.{tree_at, trees_at, risen}
 use Rattle.rules.specs.Split as rules
-use Rattle.rules.specs.UnrootedTrial.{components, needed, from_lowest, component_trees, starts_before, unrooted_trees, unserved}
+use Rattle.rules.specs.UnrootedTrial.{components, needed, from_lowest, component_trees, starts_before, unrooted_trees}
 use Rattle.rules.specs.Questions.{least_room}
 use Rattle.split_laws.proofs.Whole.{valid_ends}
 use Rattle.planner_laws.proofs.UnrootedNumber.{unrooted_few}
@@ -146,7 +145,7 @@ module _ {g : Graph} {limit : ℕ} {starts₀ starts cuts₀ cuts edges₀ edges
         room = omega (arith, places_count, unrooted_few g limit);
       }
 
-  module _ {starts' edges' chosen₀ chosen : List ℕ} {t : ℕ} (o : TreesOrdered g r own starts starts' cuts edges edges' chosen₀ chosen t) (served : unserved g limit ≡ none) where
+  module _ {starts' edges' chosen₀ chosen : List ℕ} {t : ℕ} (o : TreesOrdered g r own starts starts' cuts edges edges' chosen₀ chosen t) where
     abbrev tree : ℕ → Tree
     tree = tree_at starts' cuts edges'
 
@@ -160,7 +159,7 @@ module _ {g : Graph} {limit : ℕ} {starts₀ starts cuts₀ cuts edges₀ edges
 
     small : {u : Tree} → u ∈ unordered → rules.smallest_edge u < 65536
     unfolding unrooted_trees
-    small {u} m = smallest_small valid u (unrooted_is_tree g limit (in_sort starts_before m) valid.copied (valid_ends valid) served)
+    small {u} m = smallest_small valid u (unrooted_is_tree g limit (in_sort starts_before m) (valid_ends valid))
 
     same_order : sort_by (λ x y. leb (key_of x) (key_of y)) unordered ≡ unrooted_trees g limit
     unfolding unrooted_trees starts_before
@@ -191,4 +190,4 @@ module _ {g : Graph} {limit : ℕ} {starts₀ starts cuts₀ cuts edges₀ edges
     answer_writable most few =
         trees_writable starts' cuts edges' (take t chosen) g valid most answer_held
         (omega (arith, length-take-le t chosen o.room, answer_count, unrooted_few g limit))
-        (λ u m. unrooted_is_tree g limit (rw answer at m) valid.copied (valid_ends valid) served)
+        (λ u m. unrooted_is_tree g limit (rw answer at m) (valid_ends valid))

@@ -7,5 +7,3 @@ pub mod UnrootedAnswer
 pub mod AnswerTrees
 -- the answer and the decisions, from the whole forest
 pub mod UnrootedDecided
--- the first copy whose time is above the limit
-pub mod FirstCopy

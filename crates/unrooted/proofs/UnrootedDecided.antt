@@ -4,7 +4,6 @@ use Prim.Native.Nat.{ℕ, ◌-◌, ◌≤◌, ◌<◌}
 use mathlib.Core.Path.{◌≡◌, refl, sym, ap, ap₂, ◌∙◌}
 use mathlib.Core.Bool.{false}
 use mathlib.Core.List.{List, [], ◌∷◌}
-use mathlib.Core.Option.{some, none}
 use lib.ListN.{length}
 use lib.Dec.{leb, ltb}
 use borrow.Author.Tests.{le-leb, lt-leb}
@@ -15,14 +14,13 @@ use Rattle.rules.specs.Order.{ordered}
 use Rattle.rules.specs.Labels.{apart, merge_all}
 use Rattle.rules.specs.Forest.{lowest}
 use Rattle.rules.specs.Reply as rules
-use Rattle.rules.specs.Reply.{stop_or}
 use Rattle.rules.specs.RootedTrial.{no_choices}
-use Rattle.rules.specs.UnrootedTrial.{needed, unrooted_trees, unserved, unrooted_trial}
-use Rattle.rules.specs.Search.{no_vertex, accepts, trial, no_cover_exists}
+use Rattle.rules.specs.UnrootedTrial.{needed, unrooted_trees, unrooted_trial}
+use Rattle.rules.specs.Search.{accepts, trial, no_cover_exists}
 use Rattle.rules.specs.Questions.{written, buffer_after}
 use Rattle.forest_laws.proofs.Keeping.{kept_merges}
 use Rattle.replies.specs.Replies.{said, Answers}
-use Rattle.replies.specs.declared.Reply.TheVariants.{Cover, Stop, Needs}
+use Rattle.replies.specs.declared.Reply.TheVariants.{Cover, Needs}
 use Rattle.needs.specs.Given.{ForestKept}
 use Rattle.unrooted.specs.Unrooted.{TreesWritten}
 use Rattle.unrooted.specs.declared.unrooted.Written.{Written}
@@ -39,33 +37,19 @@ module _ {g : Graph} {kept : List ℕ} (f : ForestKept g kept) where
       ap (λ n. ltb k (n - length kept)) count
       ∙ ap (ltb k) (sym (components_left f.valid (all_kept f)) ∙ ap (λ label. length (lowest g label)) same)
 
--- A time above the limit decides: "too low, stop v, v being the lowest such copy".
-module _ (g : Graph) (k limit : ℕ) where
-  pub time_refused : {v : ℕ} → unserved g limit ≡ some v → false ≡ accepts g (unrooted k) limit
-  unfolding accepts no_vertex
-  time_refused q = rw q
-
-  pub time_decided : unserved g limit ≡ none → leb (needed g limit) k ≡ accepts g (unrooted k) limit
-  unfolding accepts no_vertex
-  time_decided q = rw q
-
-  pub stopped : {v : ℕ} → unserved g limit ≡ some v → (buffer : List ℕ) → Answers g (unrooted k) limit buffer buffer (Stop v)
-  unfolding buffer_after written trial unrooted_trial stop_or
-  stopped q buffer = record { choices = no_choices; good = tt; replied = rw q (record { same = refl; buffer = refl }) }
-
--- Otherwise "the sum C" does.
+-- "The sum C" decides.
 module _ (g : Graph) (k limit : ℕ) {C : ℕ} (sum : C ≡ needed g limit) where
-  pub decided : leb C k ≡ leb (needed g limit) k
+  pub decided : leb C k ≡ accepts g (unrooted k) limit
+  unfolding accepts
   decided = ap (λ n. leb n k) sum
 
-  pub refused : k < C → false ≡ leb (needed g limit) k
+  pub refused : k < C → false ≡ accepts g (unrooted k) limit
   refused h = sym (lt-leb C k h) ∙ decided
 
-module _ (g : Graph) (k limit : ℕ) (served : unserved g limit ≡ none) {C : ℕ} (sum : C ≡ needed g limit) where
   -- "If the sum C exceeds k: too low, needs C", and nothing is written.
   trial_too_low : k < C → trial g (unrooted k) limit no_choices ≡ rules.too_low_needs C
-  unfolding trial unrooted_trial stop_or
-  trial_too_low h = rw (served, sym sum, lt-leb C k h)
+  unfolding trial unrooted_trial
+  trial_too_low h = rw (sym sum, lt-leb C k h)
 
   pub too_low : k < C → (buffer : List ℕ) → Answers g (unrooted k) limit buffer buffer (Needs C)
   unfolding buffer_after written
@@ -74,8 +58,8 @@ module _ (g : Graph) (k limit : ℕ) (served : unserved g limit ≡ none) {C : �
 
   -- Otherwise the trees are the answer.
   trial_covered : C ≤ k → trial g (unrooted k) limit no_choices ≡ rules.covered limit (heaviest g (unrooted_trees g limit)) (unrooted_trees g limit)
-  unfolding trial unrooted_trial stop_or
-  trial_covered h = rw (served, sym sum, le-leb C k h)
+  unfolding trial unrooted_trial
+  trial_covered h = rw (sym sum, le-leb C k h)
 
   pub covered : C ≤ k → {before after : List ℕ} {w : Written} → TreesWritten g limit before after w
       → Answers g (unrooted k) limit before after (Cover limit w.heaviest w.trees)

@@ -1,21 +1,15 @@
 -- The answer and the decision of a trial by crews without roots (document 01, a "roving" trial, step 7), from the whole forest that is prepared
 -- once a question.
 -- Assumes nothing.
-use Rattle.std.specs.Prelude.{ℕ, ◌+◌, ◌≤◌, ◌<◌, ◌≡◌, List, length, take}
-use Rattle.std.proofs.Math.Option.{some, none}
-use Rattle.graph.specs.Graph.{Graph, copy_count}
+use Rattle.std.specs.Prelude.{ℕ, ◌≤◌, ◌≡◌, List, length, take}
+use Rattle.graph.specs.Graph.{Graph}
 use Rattle.rules.specs.Labels.{apart}
 use Rattle.rules.specs.Forest.{forest}
-use Rattle.rules.specs.UnrootedTrial.{needed, unserved}
+use Rattle.rules.specs.UnrootedTrial.{needed}
 use Rattle.rules.specs.Questions.{least_room, most_limit}
 use Rattle.needs.specs.Given.{ForestKept}
 use Rattle.needs.specs.History.{HistoryKept}
 use Rattle.unrooted.specs.declared.answer.AtLimit.{AtLimit}
-
--- The place of the first copy whose time is above the limit ("stop v"); the number of copies where none is.
-pub record FirstUnserved (g : Graph) (limit r : ℕ) : Type 0 where
-  pub found : r < copy_count g → unserved g limit ≡ some (g.starts + r)
-  pub passed : copy_count g ≤ r → unserved g limit ≡ none
 
 -- A valid graph, its whole forest, and the history of its merges.
 pub record HistoryReady (g : Graph) (kept total until : List ℕ) : Type 0 where
@@ -34,8 +28,3 @@ pub record UnrootedAnswerAsked (g : Graph) (k limit : ℕ) (kept total until : L
   pub crews_few : k ≤ 32
   pub limit_most : limit ≤ most_limit
   pub enough : least_room ≤ room
-
--- The same where no time is above the limit.
-pub record ServedAnswerAsked (g : Graph) (k limit : ℕ) (kept total until : List ℕ) (room : ℕ) : Type 0 where
-  pub asked : UnrootedAnswerAsked g k limit kept total until room
-  pub served : unserved g limit ≡ none

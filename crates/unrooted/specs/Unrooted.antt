@@ -1,7 +1,6 @@
 -- The trial at a limit for crews without roots (document 01, a "roving" trial): what its steps ask and promise.
 -- Assumes nothing.
 use Rattle.std.specs.Prelude.{ℕ, ◌+◌, ◌*◌, ◌≤◌, ◌<◌, ◌≡◌, List, map, length, take}
-use Rattle.std.proofs.Math.Option.{none}
 use Rattle.lists.specs.Count.{below}
 use Rattle.lists.specs.Put.{Put, OnlyFirst}
 use Rattle.lists.specs.Sort.{rise, sort_by}
@@ -12,7 +11,7 @@ use Rattle.rules.specs.Held.{trees_at, risen}
 use Rattle.rules.specs.Labels.{apart}
 use Rattle.rules.specs.Forest.{forest, labels_at, lowest}
 use Rattle.rules.specs.Split as rules
-use Rattle.rules.specs.UnrootedTrial.{components, needed, unrooted_trees, unserved}
+use Rattle.rules.specs.UnrootedTrial.{components, needed, unrooted_trees}
 use Rattle.rules.specs.Questions.{least_room, most_limit}
 use Rattle.split.specs.Pieces.{pieces_of, left_places}
 use Rattle.needs.specs.Given.{ForestGiven}
@@ -64,7 +63,6 @@ pub record TreesOrdered (g : Graph) (pieces : ℕ) (lefts starts₀ starts₁ cu
 -- The forest at a limit whose components need at most 32 trees, and room for the bytes of any such cover.
 pub record UnrootedTreesAsked (g : Graph) (edges : List ℕ) (limit : ℕ) (buf : List ℕ) : Type 0 where
   pub forest_given : ForestGiven g edges limit
-  pub served : unserved g limit ≡ none
   pub needs_few : needed g limit ≤ 32
   pub limit_most : limit ≤ most_limit
   pub room : least_room ≤ length buf

@@ -37,20 +37,19 @@ fn split_components(
     members: &mut [u16],
     lefts: &mut [u16],
     classes: &[u8],
-    copies: &[u32],
 ) -> Split
-    requires { SplitAsked (graph_of b.now classes.now copies.now) edges.now limit starts.old cuts.old
-        members.old lefts.old }
-    ensures { ComponentsSplit (graph_of b.now classes.now copies.now) limit
-        starts.old starts.new cuts.old cuts.new members.old
-        members.new lefts.old lefts.new result }
+    requires { SplitAsked (graph_of b.now classes.now) edges.now limit starts.old cuts.old members.old
+        lefts.old }
+    ensures { ComponentsSplit (graph_of b.now classes.now) limit starts.old
+        starts.new cuts.old cuts.new members.old members.new
+        lefts.old lefts.new result }
 {
     let mut roots = [0u16; 256];
     let mut bounds = [0u16; 257];
     let mut arcs = [0u64; 512];
-    let k = component_roots(b, edges, &mut roots, classes, copies);
-    put_arcs(b, edges, &mut bounds, &mut arcs, classes, copies);
-    let n = graph::vertex_count(b, classes, copies);
+    let k = component_roots(b, edges, &mut roots, classes);
+    put_arcs(b, edges, &mut bounds, &mut arcs, classes);
+    let n = graph::vertex_count(b, classes);
     let pieces = split_forest(
         n,
         &bounds,
@@ -76,17 +75,16 @@ fn order_trees(
     members: &mut [u16],
     chosen: &mut [u16],
     classes: &[u8],
-    copies: &[u32],
 ) -> usize
     requires { OrderAsked pieces lefts.now starts.old cuts.now members.old chosen.old }
-    ensures { TreesOrdered (graph_of b.now classes.now copies.now) pieces
-        lefts.now starts.old starts.new cuts.now members.old
-        members.new chosen.old chosen.new result }
+    ensures { TreesOrdered (graph_of b.now classes.now) pieces lefts.now
+        starts.old starts.new cuts.now members.old members.new
+        chosen.old chosen.new result }
 {
     let mut keys = [0u32; 512];
     let t = tree_places(lefts, cuts, chosen);
     rise_segments(cuts, pieces, members);
-    set_lowest(b, starts, cuts, members, pieces, classes, copies);
+    set_lowest(b, starts, cuts, members, pieces, classes);
     write_keys(starts, cuts, members, pieces, &mut keys);
     sort_chosen(&keys, &mut chosen[..t]);
     t
@@ -100,11 +98,10 @@ pub(crate) fn unrooted_trees(
     limit: u64,
     buf: &mut [u8],
     classes: &[u8],
-    copies: &[u32],
 ) -> Written
-    requires { UnrootedTreesAsked (graph_of b.now classes.now copies.now) edges.now limit buf.old }
-    ensures { TreesWritten (graph_of b.now classes.now copies.now) limit
-        buf.old buf.new result }
+    requires { UnrootedTreesAsked (graph_of b.now classes.now) edges.now limit buf.old }
+    ensures { TreesWritten (graph_of b.now classes.now) limit buf.old
+        buf.new result }
 {
     let mut starts = [0u16; 512];
     let mut cuts = [0u16; 513];
@@ -120,7 +117,6 @@ pub(crate) fn unrooted_trees(
         &mut members,
         &mut lefts,
         classes,
-        copies,
     );
     let left = &lefts[..s.roots];
     let t = order_trees(
@@ -132,9 +128,8 @@ pub(crate) fn unrooted_trees(
         &mut members,
         &mut chosen,
         classes,
-        copies,
     );
-    let heaviest = heaviest_chosen(b, &cuts, &members, &chosen[..t], classes, copies);
+    let heaviest = heaviest_chosen(b, &cuts, &members, &chosen[..t], classes);
     write_cover(buf, &starts, &cuts, &members, &chosen[..t]);
     Written { heaviest, trees: t }
 }

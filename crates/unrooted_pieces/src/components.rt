@@ -21,16 +21,15 @@ fn lower(u: usize, v: usize) -> usize
 }
 
 // The lowest vertex of the tree with this start and these edges.
-fn lowest_vertex(b: &[u8], start: usize, edges: &[u16], classes: &[u8], copies: &[u32]) -> usize
-    ensures { LowestFound (graph_of b.now classes.now copies.now) start
-        edges.now result }
+fn lowest_vertex(b: &[u8], start: usize, edges: &[u16], classes: &[u8]) -> usize
+    ensures { LowestFound (graph_of b.now classes.now) start edges.now result }
 {
     let mut v = start;
     let mut i = 0;
     while i < edges.len() {
         let e = wide(edges[i]);
-        v = lower(v, graph::one_end(b, e, classes, copies));
-        v = lower(v, graph::other_end(b, e, classes, copies));
+        v = lower(v, graph::one_end(b, e, classes));
+        v = lower(v, graph::other_end(b, e, classes));
         i += 1;
     }
     v
@@ -66,13 +65,12 @@ fn piece_lowest(
     members: &[u16],
     i: usize,
     classes: &[u8],
-    copies: &[u32],
 ) -> u16
     requires { PieceHeld cuts.now members.now i }
-    ensures { LowestFound (graph_of b.now classes.now copies.now) start (segment
-        cuts.now members.now i) result }
+    ensures { LowestFound (graph_of b.now classes.now) start (segment cuts.now
+        members.now i) result }
 {
-    lowest_vertex(b, wide(start), edges_at(cuts, members, i), classes, copies) as u16
+    lowest_vertex(b, wide(start), edges_at(cuts, members, i), classes) as u16
 }
 
 // Each of the first k pieces starts at its lowest vertex now.
@@ -83,15 +81,14 @@ pub fn set_lowest(
     members: &[u16],
     k: usize,
     classes: &[u8],
-    copies: &[u32],
 )
     requires { PiecesGiven starts.old cuts.now members.now k }
-    ensures { LowestSet (graph_of b.now classes.now copies.now)
-        cuts.now members.now k starts.old starts.new }
+    ensures { LowestSet (graph_of b.now classes.now) cuts.now
+        members.now k starts.old starts.new }
 {
     let mut i = 0;
     while i < k {
-        starts[i] = piece_lowest(b, starts[i], cuts, members, i, classes, copies);
+        starts[i] = piece_lowest(b, starts[i], cuts, members, i, classes);
         i += 1;
     }
 }

@@ -14,7 +14,6 @@ use reference::made_districts::small_districts;
 use reference::made_shapes::{ends, Shape};
 use reference::question::{Answer, Kind, BUFFER};
 use reference::random::Random;
-use reference::times::bytes;
 
 /// A file of the program.
 fn filed(name: &str) -> Vec<u8> {
@@ -100,28 +99,21 @@ fn a_record_as_bytes() {
     assert_eq!(encode(&[record]), due);
     let asked = Asked::Check { cover: vec![5, 6] };
     let record = Record::plain(asked, Kind::Rooted, 2, &[9]);
-    // The lists of classes, of vans and of times, the fields that speak of them, and what follows the head.
+    // The lists of classes and of vans, the fields that speak of them, and what follows the head.
     type List = Option<&'static [u8]>;
-    type Row = ([List; 3], [u8; 8], &'static [u8]);
-    let rows: [Row; 9] = [
-        ([None; 3], [0, 0, 0, 0, 0, 0, 0, 0], &[9, 5, 6]),
-        ([Some(&[]), None, None], [1, 0, 0, 0, 0, 0, 0, 0], &[9, 5, 6]),
-        ([Some(&[60, 7, 255]), None, None], [1, 0, 3, 0, 0, 0, 0, 0], &[9, 5, 6, 60, 7, 255]),
-        ([None, Some(&[]), None], [2, 0, 0, 0, 0, 0, 0, 0], &[9, 5, 6]),
-        ([None, Some(&[3, 0, 2]), None], [2, 0, 0, 0, 3, 0, 0, 0], &[9, 5, 6, 3, 0, 2]),
-        ([Some(&[60]), Some(&[3, 0]), None], [3, 0, 1, 0, 2, 0, 0, 0], &[9, 5, 6, 60, 3, 0]),
-        ([None, None, Some(&[])], [4, 0, 0, 0, 0, 0, 0, 0], &[9, 5, 6]),
-        ([None, Some(&[8]), Some(&[1, 2])], [6, 0, 0, 0, 1, 0, 2, 0], &[9, 5, 6, 8, 1, 2]),
-        (
-            [Some(&[60]), Some(&[8]), Some(&[1, 2, 3, 4])],
-            [7, 0, 1, 0, 1, 0, 4, 0],
-            &[9, 5, 6, 60, 8, 1, 2, 3, 4],
-        ),
+    type Row = (List, List, [u8; 6], &'static [u8]);
+    let rows: [Row; 6] = [
+        (None, None, [0, 0, 0, 0, 0, 0], &[9, 5, 6]),
+        (Some(&[]), None, [1, 0, 0, 0, 0, 0], &[9, 5, 6]),
+        (Some(&[60, 7, 255]), None, [1, 0, 3, 0, 0, 0], &[9, 5, 6, 60, 7, 255]),
+        (None, Some(&[]), [2, 0, 0, 0, 0, 0], &[9, 5, 6]),
+        (None, Some(&[3, 0, 2]), [2, 0, 0, 0, 3, 0], &[9, 5, 6, 3, 0, 2]),
+        (Some(&[60]), Some(&[3, 0]), [3, 0, 1, 0, 2, 0], &[9, 5, 6, 60, 3, 0]),
     ];
-    for (brought, lists, behind) in rows {
-        let [classes, vans, times] = brought.map(|list| list.map(<[u8]>::to_vec));
-        let bytes = encode(&[Record { classes, vans, times, ..record.clone() }]);
-        let due = [&[0, 0, 1, 0, 1, 0, 2, 0], &lists[..], behind].concat();
+    for (classes, vans, lists, behind) in rows {
+        let [classes, vans] = [classes, vans].map(|list| list.map(<[u8]>::to_vec));
+        let bytes = encode(&[Record { classes, vans, ..record.clone() }]);
+        let due = [&[0, 0, 1, 0, 1, 0, 2, 0], &lists[..], &[0; 2], behind].concat();
         assert_eq!((&bytes[..4], &bytes[8..]), (&[5, 0, 2, 0][..], &due[..]), "{lists:?}");
     }
     let asked = Asked::Within { trials: 65_538, room: 32_708 };
@@ -161,13 +153,6 @@ fn the_text_on_sheet_n() {
     // With classes 0, 10 and 40 the edges weigh 3, 4 and 10.
     let listed = at(Kind::Unrooted, 1, 10, &sheet_n()).with_classes(&[0, 10, 40]);
     assert_eq!(text(&[listed]), "cover 10 17 1\ntree 0 17 0 1 2\n");
-    // With a time of 4 at vertex 3, to whose copy 4 edge 3 leads.
-    let timed = |kind, limit| at(kind, 2, limit, &sheet_n()).with_times(&bytes(&[0, 0, 0, 4]));
-    assert_eq!(text(&[timed(Kind::Rooted, 3)]), "too low stop 4\n");
-    assert_eq!(text(&[timed(Kind::Rooted, 11)]), "cover 11 10 2\ntree 0 10 0 1 3\ntree 1 0\n");
-    assert_eq!(text(&[timed(Kind::Unrooted, 0)]), "too low stop 4\n");
-    let three = Record { k: 3, ..timed(Kind::Unrooted, 4) };
-    assert_eq!(text(&[three]), "cover 4 10 2\ntree 0 10 0 1 3\ntree 1 0\n");
 }
 
 #[test]
@@ -205,7 +190,7 @@ fn the_records_are_many_and_meet_every_line() {
         here.map(|record| &record.sheet).collect::<BTreeSet<_>>().len()
     };
     assert!(BOTH.iter().all(|&kind| sheets(kind) > 300));
-    assert!(encode(made()).len() < 5_000_000);
+    assert!(encode(made()).len() < 4_300_000);
     let mut met: BTreeMap<String, usize> = BTreeMap::new();
     for line in text(made()).lines() {
         let words: Vec<&str> = line.split(' ').collect();
@@ -217,9 +202,7 @@ fn the_records_are_many_and_meet_every_line() {
         };
         *met.entry(opening).or_default() += 1;
     }
-    for number in
-        [11, 12, 13, 14, 15, 16, 53, 54, 57, 58, 59, 21, 55, 22, 23, 56, 31, 32, 33, 34, 35]
-    {
+    for number in [11, 12, 13, 14, 15, 16, 53, 54, 21, 55, 22, 23, 56, 31, 32, 33, 34, 35] {
         assert!(met.contains_key(&format!("refused {number}")), "{number} of {met:?}");
     }
     for word in

@@ -13,15 +13,15 @@ use reference::made_vans::listed_vans;
 use reference::question::Kind;
 use reference::vans::{bytes, is_first};
 
-/// Whether a record has a number of trials or times; those are counted in `made_within` and `made_times`.
-fn is_later(record: &Record) -> bool {
-    matches!(record.asked, Asked::Within { .. }) || record.times.is_some()
+/// Whether a record has a number of trials; those are counted in `made_within`.
+fn is_within(record: &Record) -> bool {
+    matches!(record.asked, Asked::Within { .. })
 }
 
-/// The records that bring a list of vans, with the list, but for those with a number of trials or times.
+/// The records that bring a list of vans, with the list, but for those with a number of trials.
 fn listed() -> Vec<(&'static Record, &'static [u8])> {
-    let earlier = made_records().iter().filter(|record| !is_later(record));
-    earlier.filter_map(|record| Some((record, record.vans.as_deref()?))).collect()
+    let untimed = made_records().iter().filter(|record| !is_within(record));
+    untimed.filter_map(|record| Some((record, record.vans.as_deref()?))).collect()
 }
 
 /// The roots that a list names to an answered rooted question.
@@ -38,9 +38,9 @@ fn counted<T: Ord>(names: impl Iterator<Item = T>) -> BTreeMap<T, usize> {
 }
 
 #[test]
-fn they_come_before_those_with_a_number_of_trials() {
+fn they_come_last_of_all_without_a_number_of_trials() {
     let made = listed_vans();
-    let end = made_records().iter().position(is_later).expect("records with trials");
+    let end = made_records().iter().position(is_within).expect("records with trials");
     let (before, last) = made_records()[..end].split_at(end - made.len());
     assert!(last == made && before.iter().all(|record| record.vans.is_none()));
     assert!((1_100..1_300).contains(&listed().len()), "{}", listed().len());

@@ -11,10 +11,10 @@ use reference::made_within::within;
 use reference::question::{Answer, Kind};
 use reference::within::{Known, TRIALS};
 
-/// The records with a number of trials, with that number, but for those with times; these are counted in `made_times`.
+/// The records with a number of trials, with that number.
 fn asked() -> Vec<(&'static Record, u64)> {
     let of = |record: &'static Record| match record.asked {
-        Asked::Within { trials, .. } if record.times.is_none() => Some((record, trials)),
+        Asked::Within { trials, .. } => Some((record, trials)),
         _ => None,
     };
     made_records().iter().filter_map(of).collect()
@@ -47,9 +47,8 @@ fn answered(record: &Record) -> &'static str {
 }
 
 #[test]
-fn they_come_before_those_with_times() {
-    let end = made_records().iter().position(|record| record.times.is_some()).expect("times");
-    let (front, last) = made_records()[..end].split_at(end - asked().len());
+fn they_come_last() {
+    let (front, last) = made_records().split_at(made_records().len() - asked().len());
     assert!(last == within());
     assert!(front.iter().all(|record| !matches!(record.asked, Asked::Within { .. })));
     assert!((1_500..2_000).contains(&last.len()), "{}", last.len());

@@ -133,7 +133,7 @@ const WRONG: [Wrong; 22] = [
         Reading {
             exists: |kind, graph, k| {
                 let heavy = graph.edges.iter().copied().filter(|edge| edge.weight > 0).collect();
-                cover_exists(kind, &Graph { edges: heavy, ..*graph }, k)
+                cover_exists(kind, &Graph { n: graph.n, edges: heavy }, k)
             },
             ..RIGHT
         },

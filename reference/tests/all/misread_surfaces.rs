@@ -22,7 +22,7 @@ fn named(name: &str, reading: Reading) -> Named {
 /// The graph of the weights used, whatever they are.
 fn used(graph: &Graph, classes: &[u8], weight: impl Fn(u64, u8) -> u64) -> Graph {
     let edge = |(e, &class): (&Edge, &u8)| Edge { weight: weight(e.weight, class), ..*e };
-    Graph { edges: graph.edges.iter().zip(classes).map(edge).collect(), ..*graph }
+    Graph { n: graph.n, edges: graph.edges.iter().zip(classes).map(edge).collect() }
 }
 
 /// 53 for a list that is not of m bytes.

@@ -101,7 +101,7 @@ fn lists_are_right_or_refused() {
         ("weight 0 of every class", [0, 0, 0], Some(&[10, 20, 255]), 0),
     ];
     for (name, weights, classes, due) in rows {
-        let brought = Brought { sheet: &weighed(weights), classes, vans: None, times: None };
+        let brought = Brought { sheet: &weighed(weights), classes, vans: None };
         assert_eq!(brought.graph().err().unwrap_or(0), due, "{name}");
         let cover = good();
         let asked = Asked { brought, k: 2, limit: 9, room: BUFFER, cover: &cover, tree: 0 };

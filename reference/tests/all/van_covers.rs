@@ -54,7 +54,7 @@ impl Listed {
 
     fn brought(&self) -> Brought<'_> {
         let (classes, vans) = (self.classes.as_deref(), Some(&self.bytes[..]));
-        Brought { sheet: &self.sheet, classes, vans, times: None }
+        Brought { sheet: &self.sheet, classes, vans }
     }
 
     fn k(&self) -> u64 {
@@ -139,7 +139,7 @@ fn lowest_unjoined(listed: &Listed, limit: u64) -> Option<usize> {
 
 /// How many vans are within the limit of an end of any edge of the trees written, by the distances between all vertices.
 fn vans_near(listed: &Listed, limit: u64, trees: &[u8]) -> usize {
-    let Graph { n, edges, .. } = &listed.due;
+    let Graph { n, edges } = &listed.due;
     let mut apart = vec![vec![u64::MAX / 4; *n]; *n];
     (0..*n).for_each(|v| apart[v][v] = 0);
     for _ in 0..*n {

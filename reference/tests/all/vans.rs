@@ -204,7 +204,7 @@ fn sheets_and_weights_come_before_lists() {
     ];
     for (sheet, number) in &sheets {
         for (vans, k) in [(vec![], 1), (list(&[4]), 1), (list(&[0]), 2), (list(&[9; 33]), 33)] {
-            let brought = Brought { sheet, classes: Some(&[40]), vans: Some(&vans), times: None };
+            let brought = Brought { sheet, classes: Some(&[40]), vans: Some(&vans) };
             let asked = Asked { brought, k, limit: LIMIT + 1, room: 0, cover: &[], tree: 9 };
             BOTH.iter().for_each(|&kind| {
                 assert_eq!(asked.numbers(kind), [*number; 4], "{number}, {vans:?}")

@@ -80,7 +80,6 @@ fn every_number_in_its_place() {
                         sheet: &sheet,
                         classes: Some(&vec![40; length]),
                         vans: vans.as_deref(),
-                        times: None,
                     };
                     let is_listed = kind == Kind::Rooted && vans.is_some();
                     let above = kind == Kind::Rooted && vans.is_none() && k > n as u64;

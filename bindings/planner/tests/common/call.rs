@@ -2,7 +2,6 @@
 
 use super::lent::Lent;
 use planner::exported::*;
-use reference::brought::Brought;
 use reference::districts::{Asked as Recorded, Record};
 use reference::question::Kind as Crews;
 use reference::random::Random;
@@ -46,15 +45,9 @@ pub struct Question<'a> {
     pub sheet: &'a [u8],
     pub classes: Option<&'a [u8]>,
     pub vans: Option<&'a [u8]>,
-    pub times: Option<&'a [u8]>,
 }
 
 impl<'a> Question<'a> {
-    /// A question without lists.
-    pub fn plain(asked: Asked<'a>, kind: u32, k: usize, sheet: &'a [u8]) -> Question<'a> {
-        Question { asked, kind, k, sheet, classes: None, vans: None, times: None }
-    }
-
     /// The question of a record.
     pub fn of(record: &'a Record) -> Question<'a> {
         let asked = match &record.asked {
@@ -66,24 +59,22 @@ impl<'a> Question<'a> {
             Recorded::Check { cover } => Asked::Check { cover },
         };
         let kind = u32::from(record.kind == Crews::Unrooted);
-        let Brought { sheet, classes, vans, times } = record.brought();
-        Question { asked, kind, k: record.k, sheet, classes, vans, times }
+        let (classes, vans) = (record.classes.as_deref(), record.vans.as_deref());
+        Question { asked, kind, k: record.k, sheet: &record.sheet, classes, vans }
     }
 
     /// The general function with the lists that are brought, and no others.
     pub fn general(&self) -> Through<'a> {
         let bit = |list: Option<&[u8]>, bit| if list.is_some() { bit } else { 0 };
-        let brought = bit(self.classes, CLASSES) | bit(self.vans, VANS) | bit(self.times, TIMES);
-        let lists = [self.classes, self.vans, self.times];
-        let [classes, vans, times] = lists.map(Option::unwrap_or_default);
-        Through::General { brought, classes, vans, times }
+        let brought = bit(self.classes, CLASSES) | bit(self.vans, VANS);
+        let (classes, vans) = (self.classes.unwrap_or_default(), self.vans.unwrap_or_default());
+        Through::General { brought, classes, vans }
     }
 }
 
 /// The bits of the lists.
 pub const CLASSES: u32 = 1;
 pub const VANS: u32 = 2;
-pub const TIMES: u32 = 4;
 
 /// The function that a question is put to.
 #[derive(Clone, Copy, Debug)]
@@ -91,7 +82,7 @@ pub enum Through<'a> {
     /// That of questions without lists.
     Plain,
     /// The general one, with the bits of the lists that are brought, and the bytes of every list, brought or not.
-    General { brought: u32, classes: &'a [u8], vans: &'a [u8], times: &'a [u8] },
+    General { brought: u32, classes: &'a [u8], vans: &'a [u8] },
 }
 
 /// What came of a question: its number, the values and the buffer before and after.
@@ -110,13 +101,13 @@ pub fn call(seed: u64, question: &Question, through: Through) -> Got {
     let (mut bytes, mut numbers) =
         (Lent::bytes(&mut random, room), Lent::numbers(&mut random, count));
     let lists = match through {
-        Through::Plain => [&[][..]; 3],
-        Through::General { classes, vans, times, .. } => [classes, vans, times],
+        Through::Plain => [&[][..]; 2],
+        Through::General { classes, vans, .. } => [classes, vans],
     };
-    let read = [question.sheet, question.asked.cover(), lists[0], lists[1], lists[2]];
+    let read = [question.sheet, question.asked.cover(), lists[0], lists[1]];
     let own = read.map(<[u8]>::to_vec);
-    let [sheet, cover, classes, vans, times] = &own;
-    let given = Given { sheet, cover, classes, vans, times };
+    let [sheet, cover, classes, vans] = &own;
+    let given = Given { sheet, cover, classes, vans };
     let (values, buffer) = (numbers.pointer(), bytes.pointer());
     // SAFETY: each pointer is to as much as its length says, that of the values to as many numbers as the function has;
     // nothing overlaps.
@@ -140,7 +131,6 @@ struct Given<'a> {
     cover: &'a [u8],
     classes: &'a [u8],
     vans: &'a [u8],
-    times: &'a [u8],
 }
 
 /// Calls the function of questions without lists.
@@ -155,7 +145,7 @@ unsafe fn plain(question: &Question, given: &Given, values: *mut u64, buffer: *m
         Asked::Best { room } => planner_best(kind, k, graph, length, values, buffer, room),
         // This function has no other for questions without lists: cover stands for no bytes.
         Asked::Within { trials, room } => planner_within(
-            trials, kind, k, graph, length, 0, cover, 0, cover, 0, cover, 0, values, buffer, room,
+            trials, kind, k, graph, length, 0, cover, 0, cover, 0, values, buffer, room,
         ),
         Asked::Check { .. } => planner_check(kind, k, graph, length, cover, size, values),
         Asked::Walk { tree, room, .. } => {
@@ -178,26 +168,23 @@ unsafe fn general(
     let (cover, size) = (given.cover.as_ptr(), given.cover.len());
     let (classes, m) = (given.classes.as_ptr(), given.classes.len());
     let (vans, v) = (given.vans.as_ptr(), given.vans.len());
-    let (times, t) = (given.times.as_ptr(), given.times.len());
     let ask = |asked, limit, room| {
         planner_ask(
-            asked, limit, kind, k, graph, length, lists, classes, m, vans, v, times, t, values,
-            buffer, room,
+            asked, limit, kind, k, graph, length, lists, classes, m, vans, v, values, buffer, room,
         )
     };
     match asked {
         Asked::Trial { limit, room } => ask(0, limit, room),
         Asked::Best { room } => ask(best, u64::MAX, room),
         Asked::Within { trials, room } => planner_within(
-            trials, kind, k, graph, length, lists, classes, m, vans, v, times, t, values, buffer,
-            room,
+            trials, kind, k, graph, length, lists, classes, m, vans, v, values, buffer, room,
         ),
-        Asked::Check { .. } => planner_verify(
-            kind, k, graph, length, lists, classes, m, vans, v, times, t, cover, size, values,
-        ),
+        Asked::Check { .. } => {
+            planner_verify(kind, k, graph, length, lists, classes, m, vans, v, cover, size, values)
+        }
         Asked::Walk { tree, room, .. } => planner_route(
-            kind, k, graph, length, lists, classes, m, vans, v, times, t, cover, size, tree,
-            values, buffer, room,
+            kind, k, graph, length, lists, classes, m, vans, v, cover, size, tree, values, buffer,
+            room,
         ),
     }
 }

@@ -1,6 +1,6 @@
 //! Questions put to every function that takes them, and the replies held to `reference/`.
 
-use super::call::{call, Asked, Got, Question, Through, CLASSES, TIMES, VANS};
+use super::call::{call, Asked, Got, Question, Through, CLASSES, VANS};
 use super::trials;
 use planner::{best, check, trial, walk, within, Kind, Reached, Reply, Walk, Within};
 use reference::brought::Brought;
@@ -23,10 +23,18 @@ pub fn judged(random: &mut Random, question: &Question) -> u32 {
 pub fn answered(random: &mut Random, question: &Question) -> Got {
     let seed = random.next_number();
     let got = call(seed, question, question.general());
-    let same = |through: Through| {
+    let same = |through| {
         assert!(call(seed, question, through) == got, "{} {through:?}", brief(question));
     };
-    every_way(question, same);
+    if is_plain(question) {
+        same(Through::Plain);
+    }
+    let (in_row, throughout) = as_no_lists(question);
+    for (class_bit, classes) in ways_of_classes(question, &throughout) {
+        for (other_bits, vans) in ways_of_vans(question, in_row.as_deref()) {
+            same(Through::General { brought: class_bit | other_bits, classes, vans });
+        }
+    }
     if let Err(why) = right(question, &got) {
         panic!("{}: {why}", brief(question));
     }
@@ -34,51 +42,25 @@ pub fn answered(random: &mut Random, question: &Question) -> Got {
     got
 }
 
-/// Puts a question in every way that must say the same. The ways of times are put one by one, and by turns with all ways of the
-/// other two lists: all with all would take three times as long.
-fn every_way(question: &Question, same: impl Fn(Through)) {
-    if is_plain(question) {
-        same(Through::Plain);
-    }
-    let (in_row, throughout, zeros) = as_no_lists(question);
-    let of_times = ways_of_times(question, &zeros);
-    if let Through::General { brought, classes, vans, .. } = question.general() {
-        for &(bit, times) in &of_times {
-            same(Through::General { brought: brought | bit, classes, vans, times });
-        }
-    }
-    let of_vans = ways_of_vans(question, in_row.as_deref());
-    for (i, (class_bit, classes)) in ways_of_classes(question, &throughout).into_iter().enumerate()
-    {
-        for (j, &(other_bits, vans)) in of_vans.iter().enumerate() {
-            let (time_bit, times) = of_times[(i + j) % of_times.len()];
-            let brought = class_bit | other_bits | time_bit;
-            same(Through::General { brought, classes, vans, times });
-        }
-    }
-}
-
 /// Whether the functions of questions without lists take it: vans beside an unrooted question are as none.
 fn is_plain(question: &Question) -> bool {
-    let has_vans = question.vans.is_some() && question.kind == 0;
-    question.classes.is_none() && !has_vans && question.times.is_none()
+    question.classes.is_none() && (question.vans.is_none() || question.kind != 0)
 }
 
-/// Lists that are as none: the vans 0 to k - 1, unless these would be 55 where no list is 21, class 60 throughout, and no time
-/// above 0.
-fn as_no_lists(question: &Question) -> (Option<Vec<u8>>, Vec<u8>, Vec<u8>) {
+/// Lists that are as none: the vans 0 to k - 1, unless these would be 55 where no list is 21, and class 60 throughout.
+fn as_no_lists(question: &Question) -> (Option<Vec<u8>>, Vec<u8>) {
     let (sheet, k) = (read(question.sheet), question.k);
     let (n, m) = sheet.as_ref().map_or((256, 3), |graph| (graph.n, graph.edges.len()));
     let in_row: Vec<usize> = (0..k.min(40)).collect();
     let is_as_none = k <= n || k > 32;
-    (is_as_none.then(|| bytes(&in_row)), vec![60; m], vec![0; 4 * n])
+    (is_as_none.then(|| bytes(&in_row)), vec![60; m])
 }
 
 /// A way to bring a list or not: its bit and its bytes.
 type Way<'a> = (u32, &'a [u8]);
 
 /// The bits past those of the lists, which are not read.
-const PAST: u32 = !(CLASSES | VANS | TIMES);
+const PAST: u32 = !(CLASSES | VANS);
 
 /// Ways to bring class bytes that must all say the same. Bytes that are not brought are not read.
 fn ways_of_classes<'a>(question: &Question<'a>, throughout: &'a [u8]) -> Vec<Way<'a>> {
@@ -88,15 +70,7 @@ fn ways_of_classes<'a>(question: &Question<'a>, throughout: &'a [u8]) -> Vec<Way
     }
 }
 
-/// The same of times.
-fn ways_of_times<'a>(question: &Question<'a>, zeros: &'a [u8]) -> Vec<Way<'a>> {
-    match question.times {
-        Some(times) => vec![(TIMES, times)],
-        None => vec![(0, &[]), (0, &[255; 9]), (TIMES, zeros)],
-    }
-}
-
-/// The same of vans, with the bits of no list besides. Beside an unrooted question no bytes are read, brought or not.
+/// The same of vans, with every bit but that of classes. Beside an unrooted question no bytes are read, brought or not.
 fn ways_of_vans<'a>(question: &Question<'a>, in_row: Option<&'a [u8]>) -> Vec<Way<'a>> {
     const WRONG: &[u8] = &[255; 5];
     let mut ways = match question.vans {
@@ -113,17 +87,16 @@ fn ways_of_vans<'a>(question: &Question<'a>, in_row: Option<&'a [u8]>) -> Vec<Wa
 
 /// A question in short.
 fn brief(question: &Question) -> String {
-    let Question { asked, kind, k, sheet, classes, vans, times } = question;
+    let Question { asked, kind, k, sheet, classes, vans } = question;
     let front = &sheet[..sheet.len().min(200)];
-    let lists = format!("classes {classes:?} vans {vans:?} times {times:?}");
-    format!("{asked:?} kind {kind} k {k} sheet {front:?} {lists}")
+    format!("{asked:?} kind {kind} k {k} sheet {front:?} classes {classes:?} vans {vans:?}")
 }
 
 /// Whether what came of a question is what the reference allows.
 fn right(question: &Question, got: &Got) -> Result<(), String> {
-    let Question { asked, kind, k, sheet, classes, vans, times } = *question;
+    let Question { asked, kind, k, sheet, classes, vans } = *question;
     let (crews, k) = (if kind == 0 { Crews::Rooted } else { Crews::Unrooted }, k as u64);
-    let brought = Brought { sheet, classes, vans, times };
+    let brought = Brought { sheet, classes, vans };
     let mut due = got.buffer.0.clone();
     match asked {
         Asked::Trial { limit, .. } => {
@@ -181,12 +154,11 @@ fn answer(got: &Got) -> Answer {
 
 /// The wrappers give the same replies and the same bytes: those of a question, and those without lists.
 fn same_by_the_wrappers(question: &Question, got: &Got) {
-    let Question { asked, kind, k, sheet, classes, vans, times } = *question;
+    let Question { asked, kind, k, sheet, classes, vans } = *question;
     let unread = (kind != 0).then_some(Some(&[255; 5][..]));
     let kind = if kind == 0 { Kind::Rooted } else { Kind::Unrooted };
     for vans in [vans].into_iter().chain(unread) {
-        let plain = planner::Question::new(kind, k, sheet);
-        let whole = planner::Question { classes, vans, times, ..plain };
+        let whole = planner::Question { classes, vans, ..planner::Question::new(kind, k, sheet) };
         same(got, |buffer| by_question(&whole, asked, buffer));
     }
     if is_plain(question) {

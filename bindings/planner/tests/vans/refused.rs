@@ -1,7 +1,7 @@
 //! Lists of vans that are refused with 55, what is refused before and behind them, and starts that are not those of a list.
 
 use super::manned;
-use crate::common::call::{call, Asked, Question, Through, CLASSES, TIMES, VANS};
+use crate::common::call::{call, Asked, Question, Through, CLASSES, VANS};
 use crate::common::judged::judged;
 use crate::sheets::{all_of, sheet_n};
 use planner::{BUFFER, WALK_BUFFER};
@@ -214,16 +214,15 @@ fn starts_by_the_list() {
     }
 }
 
-/// The second bit alone says whether vans are brought, whatever is said of classes and times, here wrong ones that are not
-/// brought or those that no list means.
+/// The second bit alone says whether vans are brought, whatever is said of classes, here wrong ones that are not brought or
+/// those that no list means.
 #[test]
 fn the_bits_of_the_lists() {
     let (sheet, cover) = (sheet_n([3, 3, 5]), filed(&[(3, &[0, 1]), (3, &[2])]));
     let question = manned(Asked::Check { cover: &cover }, 2, &sheet, &[]);
     let said = |brought, vans| {
         let classes = if brought & CLASSES == 0 { &[40; 2][..] } else { &[60; 3] };
-        let times = if brought & TIMES == 0 { &[255; 3][..] } else { &[0; 16] };
-        call(66, &question, Through::General { brought, classes, vans, times }).case
+        call(66, &question, Through::General { brought, classes, vans }).case
     };
     for brought in [0, 1, 4, 5, 8, 252, 253, 256, 512, 1 << 16, 1 << 31, !3, !2] {
         for vans in [&[][..], &[3, 0, 3], &[3, 0, 3, 0], &[9, 9]] {

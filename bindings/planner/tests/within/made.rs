@@ -47,9 +47,7 @@ impl Made {
     /// The graph by the weights used.
     fn used(&self) -> Graph {
         let (sheet, classes) = (&self.sheet, self.classes.as_deref());
-        Brought { classes, ..Brought::plain(sheet) }
-            .graph()
-            .expect("a right sheet and a right list")
+        Brought { sheet, classes, vans: None }.graph().expect("a right sheet and a right list")
     }
 
     /// The start of each tree; without roots only their number counts.

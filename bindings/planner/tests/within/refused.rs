@@ -2,7 +2,7 @@
 //! bytes. Nothing is written then: `judged` holds every value and every byte to what they were.
 
 use super::{followed, plain};
-use crate::common::call::{call, Asked, Question, Through, CLASSES, TIMES, VANS};
+use crate::common::call::{call, Asked, Question, Through, CLASSES, VANS};
 use crate::common::judged::judged;
 use crate::sheets::sheet_n;
 use planner::BUFFER;
@@ -151,14 +151,13 @@ fn lists_that_are_exchanged() {
     }
 }
 
-/// Each list is brought by its own bit, and what is not brought is not read; times, where they are brought, are zeros.
+/// Each list is brought by its own bit, and what is not brought is not read.
 #[test]
 fn the_bits_of_the_lists() {
     let sheet = sheet_n([3, 3, 5]);
     let question = plain(0, 2, 2, &sheet);
     let said = |brought, classes, vans| {
-        let times = if brought & TIMES == 0 { &[255; 3][..] } else { &[0; 16] };
-        let got = call(84, &question, Through::General { brought, classes, vans, times });
+        let got = call(84, &question, Through::General { brought, classes, vans });
         (got.case, (got.case == 5).then_some(got.values.1[0]))
     };
     // Class 40 doubles the sum of 11.

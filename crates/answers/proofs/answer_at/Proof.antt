@@ -8,13 +8,13 @@ enum_told : tie.Need-enum-told
 enum_told c = search rules
 
 answer-rooted-requires : tie.Need-answer-rooted-requires
-answer-rooted-requires c κs = let s = let d = c.before.before.before.before.before in let e = d.before.before.before.before in e.before.before.before.before.before.before.before in rooted_answer_asked s.pre c.before.enum_told.given.1
+answer-rooted-requires c κs = let s = let d = c.before.before.before.before.before in let e = d.before.before.before.before in e.before.before.before.before.before.before in rooted_answer_asked s.pre c.before.enum_told.given.1
 
 enum-told-2 : tie.Need-enum-told-2
 enum-told-2 c = search rules
 
 answer-unrooted-requires : tie.Need-answer-unrooted-requires
-answer-unrooted-requires c κs = let s = let d = c.before.before.before.before.before in let e = d.before.before.before.before in e.before.before.before.before.before.before.before in unrooted_answer_asked s.pre c.before.enum-told2.given.1
+answer-unrooted-requires c κs = let s = let d = c.before.before.before.before.before in let e = d.before.before.before.before in e.before.before.before.before.before.before in unrooted_answer_asked s.pre c.before.enum-told2.given.1
 
 same_length : tie.Need-same-length
 same_length c = search rules

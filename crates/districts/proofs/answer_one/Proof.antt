@@ -39,12 +39,6 @@ slice-aggregate-u16-at-4 c = search rules
 u16-at-requires-4 : tie.Need-u16-at-requires-4
 u16-at-requires-4 c κs = search rules
 
-slice-aggregate-u16-at-5 : tie.Need-slice-aggregate-u16-at-5
-slice-aggregate-u16-at-5 c = search rules
-
-u16-at-requires-5 : tie.Need-u16-at-requires-5
-u16-at-requires-5 c κs = search rules
-
 large-buffer-requires : tie.Need-large-buffer-requires
 large-buffer-requires c κs = search rules
 
@@ -56,9 +50,6 @@ large-buffer-requires-3 c κs = search rules
 
 large-buffer-requires-4 : tie.Need-large-buffer-requires-4
 large-buffer-requires-4 c κs = search rules
-
-large-buffer-requires-5 : tie.Need-large-buffer-requires-5
-large-buffer-requires-5 c κs = search rules
 
 slice-aggregate-read-rest : tie.Need-slice-aggregate-read-rest
 slice-aggregate-read-rest c = search rules
@@ -87,12 +78,6 @@ array-borrow-prefix-vans c = search rules
 slice-aggregate-read-rest-5 : tie.Need-slice-aggregate-read-rest-5
 slice-aggregate-read-rest-5 c = sym (length-take-le _ _ (omega arith))
 
-array-borrow-prefix-times : tie.Need-array-borrow-prefix-times
-array-borrow-prefix-times c = search rules
-
-slice-aggregate-read-rest-6 : tie.Need-slice-aggregate-read-rest-6
-slice-aggregate-read-rest-6 c = sym (length-take-le _ _ (omega arith))
-
 read-rest-requires : tie.Need-read-rest-requires
 read-rest-requires c κs = search rules
 
@@ -114,13 +99,10 @@ answer-one-spec =
     u16-at-requires-3
     slice-aggregate-u16-at-4
     u16-at-requires-4
-    slice-aggregate-u16-at-5
-    u16-at-requires-5
     large-buffer-requires
     large-buffer-requires-2
     large-buffer-requires-3
     large-buffer-requires-4
-    large-buffer-requires-5
     slice-aggregate-read-rest
     array-borrow-prefix-sheet
     slice-aggregate-read-rest-2
@@ -130,7 +112,5 @@ answer-one-spec =
     slice-aggregate-read-rest-4
     array-borrow-prefix-vans
     slice-aggregate-read-rest-5
-    array-borrow-prefix-times
-    slice-aggregate-read-rest-6
     read-rest-requires
     returns-2)

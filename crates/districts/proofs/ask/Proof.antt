@@ -16,7 +16,7 @@ slice-aggregate-answer : tie.Need-slice-aggregate-answer
 slice-aggregate-answer c = sym (length-take-le _ c.before.filled.result (omega arith))
 
 answer-requires : tie.Need-answer-requires
-answer-requires c κs = rw (length-take-le c.before.before.before.before.before.before.args.lent c.before.filled.result (omega arith)) (omega arith)
+answer-requires c κs = rw (length-take-le c.before.before.before.before.before.args.lent c.before.filled.result (omega arith)) (omega arith)
 
 returns : tie.Need-returns
 returns c = search rules

@@ -12,11 +12,11 @@ use Rattle.districts.proofs.print_reply.Tie as tie
 -- The text fits the room.
 module _ (c : tie.After-write-text) where
   abbrev start : tie.Start
-  start = let k = c.before.before in k.before.before.before.before.before.before
+  start = let k = c.before.before in k.before.before.before.before.before
 
   fits : c.write-text.result ≤ 65600
   fits =
-      let put = district_fits start.args.whole start.pre.text c.write-text.ensures in
+      let put = district_fits start.args.whole start.pre c.write-text.ensures in
       omega (arith, put)
 
 room-requires : tie.Need-room-requires
@@ -26,7 +26,7 @@ slice-aggregate-write-text : tie.Need-slice-aggregate-write-text
 slice-aggregate-write-text c = search rules
 
 write-text-requires : tie.Need-write-text-requires
-write-text-requires c κs = let r = c.before in let s = r.before.before.before.before.before.before in wide_asked s.requires (omega arith)
+write-text-requires c κs = let r = c.before in let s = r.before.before.before.before.before in wide_asked s.requires (omega arith)
 
 array-share-prefix-out : tie.Need-array-share-prefix-out
 array-share-prefix-out c = omega (arith, fits c.before)

@@ -15,9 +15,9 @@ same_length c = search rules
 returns : tie.Need-returns
 returns c =
     let a = c.before.before in
-    let s : tie.Start = a.before.before.before.before.before.before.before in
+    let s : tie.Start = a.before.before.before.before.before.before in
     let q = s.args in
-    ask_asked q.asked (asks_with q.kind q.k q.b.now q.lists q.classes.now q.vans.now q.times.now) q.buf.now a.ask.result a.ask.ensures (omega arith)
+    ask_asked q.asked (asks_with q.kind q.k q.b.now q.lists q.classes.now q.vans.now) q.buf.now a.ask.result a.ask.ensures (omega arith)
 
 pub told-to-spec : {M : Type 1} → statement M
 told-to-spec = tie.close (tie.spec ask-requires same_length returns)

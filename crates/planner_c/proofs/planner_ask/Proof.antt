@@ -31,7 +31,7 @@ returns c =
     let answered = put.before.before.before.before in
     let listed = answered.before in
     let named = listed.before.before in
-    let s = let d = named.before.before in d.before.before.before.before.before in
+    let s = let d = named.before.before in d.before.before.before.before in
     let p = rw (named.before.asked_of.ensures, named.kind-of.ensures, listed.Lists-of.ensures) at answered.ask.ensures in
     asked_exported s.args.asked s.args.limit _ _ _ answered.ask.result p c.number_of.ensures put.put-values.ensures
 

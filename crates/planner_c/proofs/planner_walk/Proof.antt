@@ -12,9 +12,6 @@ slice-aggregate-walk c = search rules
 slice-aggregate-walk-2 : tie.Need-slice-aggregate-walk-2
 slice-aggregate-walk-2 c = search rules
 
-slice-aggregate-walk-3 : tie.Need-slice-aggregate-walk-3
-slice-aggregate-walk-3 c = search rules
-
 walk-requires : tie.Need-walk-requires
 walk-requires c κs = search rules
 
@@ -33,7 +30,7 @@ returns c =
     let asked = put.before.before.before.before in
     record {
       walked = asked.walk.result;
-      promise = rw asked.before.before.before.before.before.kind-of.ensures at asked.walk.ensures;
+      promise = rw asked.before.before.before.before.kind-of.ensures at asked.walk.ensures;
       number = c.number_of.ensures;
       puts = put.put-walk.ensures;
     }
@@ -45,7 +42,6 @@ planner-walk-spec =
     kind-of-requires
     slice-aggregate-walk
     slice-aggregate-walk-2
-    slice-aggregate-walk-3
     walk-requires
     put-walk-requires
     number-of-requires

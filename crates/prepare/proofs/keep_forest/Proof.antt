@@ -14,12 +14,12 @@ use Rattle.prepare.proofs.keep_forest.Tie as tie
 -- Where the edges are in order.
 module _ (o : tie.After-order-edges) where
   abbrev s : tie.Start
-  s = (let d = o.before.before.before.before in let e = d.before.before.before.before in e.before.before.before.before)
+  s = (let d = o.before.before.before.before in let e = d.before.before.before.before in e.before.before.before)
 
-  ordered-is : take o.order-edges.result o.order-edges.last.1.1.1.0 ≡ ordered (graph_of s.args.b.now s.args.classes.now s.args.copies.now)
+  ordered-is : take o.order-edges.result o.order-edges.last.1.1.1.0 ≡ ordered (graph_of s.args.b.now s.args.classes.now)
   ordered-is = put_taken o.order-edges.ensures.put
 
-  order-only : OnlyFirst (edge_count (graph_of s.args.b.now s.args.classes.now s.args.copies.now)) s.args.order.now o.order-edges.last.1.1.1.0
+  order-only : OnlyFirst (edge_count (graph_of s.args.b.now s.args.classes.now)) s.args.order.now o.order-edges.last.1.1.1.0
   order-only = rw (← o.order-edges.ensures.count) (put_only_first o.order-edges.ensures.put)
 
 order-edges-requires : tie.Need-order-edges-requires

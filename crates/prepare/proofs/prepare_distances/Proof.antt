@@ -19,10 +19,10 @@ module _ (u : tie.After-number-up) where
   e = u.before.before
 
   abbrev s : tie.Start
-  s = (let d = e.before.before.before.before in d.before.before.before.before.before.before)
+  s = (let d = e.before.before.before.before in d.before.before.before.before.before)
 
   abbrev g : Graph
-  g = graph_of s.args.b.now s.args.classes.now s.args.copies.now
+  g = graph_of s.args.b.now s.args.classes.now
 
   all_are : take e.IsEdge-count.result u.number_up.last.1.0 ≡ below (edge_count g)
   all_are = put_taken u.number_up.ensures ∙ ap below e.IsEdge-count.ensures.is

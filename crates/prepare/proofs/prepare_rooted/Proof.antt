@@ -23,10 +23,10 @@ module _ (k : tie.After-keep-forest) where
   t = (let d = k.before.before.before.before in let e = d.before.before.before.before in let f = e.before.before.before.before in f.before.before.before)
 
   abbrev s : tie.Start
-  s = (let d = t.before.before.before.before in let e = d.before.before.before.before in let f = e.before.before.before.before in f.before.before.before.before.before)
+  s = (let d = t.before.before.before.before in let e = d.before.before.before.before in let f = e.before.before.before.before in f.before.before.before.before)
 
   abbrev g : Graph
-  g = graph_of s.args.b.now s.args.classes.now s.args.copies.now
+  g = graph_of s.args.b.now s.args.classes.now
 
   size : length (take k.keep-forest.result.forest k.keep-forest.last.1.1.1.1.1.0) ≡ k.keep-forest.result.forest
   size = length-take-le _ _ k.keep-forest.ensures.forest_room
@@ -51,7 +51,7 @@ prepare-distances-requires c κs = search rules
 
 keep-forest-requires : tie.Need-keep-forest-requires
 keep-forest-requires c κs =
-    let asked = (let d = c.before.before.before.before in let e = d.before.before.before.before in let f = e.before.before.before.before in let g = f.before.before.before.before in let h = g.before.before.before.before in let i = h.before.before.before.before in let j = i.before.before.before.before in j.before.before.before).pre in
+    let asked = (let d = c.before.before.before.before in let e = d.before.before.before.before in let f = e.before.before.before.before in let g = f.before.before.before.before in let h = g.before.before.before.before in let i = h.before.before.before.before in let j = i.before.before.before.before in j.before.before).pre in
     record {
       for_order =
           record {
@@ -85,10 +85,7 @@ put-arcs-requires c κs =
     }
 
 same_length : tie.Need-same-length
-same_length c =
-    let p = c.before.before.before.before in
-    let k = (let d = p.before.before.before.before in let e = d.before.before.before.before in e.before.before.before.before) in
-    omega (arith, k.keep-forest, (t k).prepare-distances)
+same_length c = search rules
 
 same-length-2 : tie.Need-same-length-2
 same-length-2 c = search rules

@@ -13,7 +13,7 @@ keep-forest-requires c κs = search rules
 
 -- Where the forest is kept: what was asked. Where the merges are recorded: back to there.
 abbrev start : tie.After-keep-forest → tie.Start
-start k = k.before.before.before.before.before.before.before.before.before.before.before.before.before.before.before
+start k = k.before.before.before.before.before.before.before.before.before.before.before.before.before.before
 
 abbrev forest_kept : tie.After-record-merges → tie.After-keep-forest
 forest_kept m = m.before.before.before.before.before.before.before.before.before.before.before.before
@@ -25,15 +25,7 @@ slice-aggregate-record-merges : tie.Need-slice-aggregate-record-merges
 slice-aggregate-record-merges c = sym (length-take-le _ _ (let d = c.before.before.before.before in let e = d.before.before.before.before in e.before).keep-forest.ensures.forest_room)
 
 record-merges-requires : tie.Need-record-merges-requires
-record-merges-requires c κs =
-    let d = c.before.before.before.before.before.before in
-    let k = d.before.before.before.before.before in
-    let asked = (start k).requires in
-    record {
-      forest_kept = record { valid = asked.for_forest.for_order.valid; forest_is = k.keep-forest.ensures.forest };
-      total_most = asked.total_room;
-      until_most = asked.until_room;
-    }
+record-merges-requires c κs = search rules
 
 same_length : tie.Need-same-length
 same_length c = search rules

@@ -12,7 +12,7 @@ slice-aggregate-answer-parts-2 c = search rules
 
 answer-parts-requires : tie.Need-answer-parts-requires
 answer-parts-requires c κs =
-    full_lent (let d = c.before.before.before.before in let e = d.before.before.before.before in e.before.before.before.before.before).pre
+    full_lent (let d = c.before.before.before.before in let e = d.before.before.before.before in e.before.before.before.before).pre
 
 same_length : tie.Need-same-length
 same_length c = search rules

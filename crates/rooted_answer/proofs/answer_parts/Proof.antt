@@ -21,7 +21,7 @@ start c =
     let a = c.before.before.before.before in
     let k = a.before.before.before.before in
     let l = k.before.before.before.before in
-    l.before.before.before.before.before.before.before
+    l.before.before.before.before.before.before
 
 -- and where the parts are placed, seen from where they are answered.
 abbrev placed : tie.After-answer-placed-arg3 → tie.After-place-parts
@@ -37,7 +37,7 @@ module _ (p : tie.After-place-parts) where
   s = start p.before
 
   abbrev g : Graph
-  g = graph_of s.args.b.now s.args.classes.now s.args.copies.now
+  g = graph_of s.args.b.now s.args.classes.now
 
   rows-only : OnlyFirst (g.vertices * length s.args.roots.now) s.args.rows.now p.place-parts.last.1.1.1.1.1.1.1.1.1.1.1.0
   rows-only =

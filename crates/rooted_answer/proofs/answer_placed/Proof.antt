@@ -6,12 +6,12 @@ use Rattle.rooted_answer.proofs.answer_placed.Statement.{statement}
 use Rattle.rooted_answer.proofs.answer_placed.Tie as tie
 
 -- Before the choice: what came.
-abbrev start : tie.After-shared-slice-known14 → tie.Start
+abbrev start : tie.After-shared-slice-known13 → tie.Start
 start c =
     let x = c.before.before.before.before in
     let y = x.before.before.before.before in
     let z = y.before.before.before.before in
-    z.before.before.before.before
+    z.before.before.before
 
 write-rooted-requires : tie.Need-write-rooted-requires
 write-rooted-requires c κs = let t = c.before.before in cover_asked (start t.before).requires t.if1.true

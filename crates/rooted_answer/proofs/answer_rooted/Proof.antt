@@ -22,7 +22,7 @@ use Rattle.rooted_answer.proofs.answer_rooted.Tie as tie
 abbrev start : tie.After-light-forest → tie.Start
 start l =
     let k = l.before.before.before.before in
-    k.before.before.before.before.before.before.before.before
+    k.before.before.before.before.before.before.before
 
 -- Where a vertex was looked for: it is the trial's.
 module _ (f : tie.After-stop-at) where
@@ -33,7 +33,7 @@ module _ (f : tie.After-stop-at) where
   s = start light
 
   abbrev g : Graph
-  g = graph_of s.args.b.now s.args.classes.now s.args.copies.now
+  g = graph_of s.args.b.now s.args.classes.now
 
   found-is : unjoined_at g s.args.roots.now s.args.limit ≡ vertex_in f.stop-at.result
   found-is = stop_is g s.args.roots.now s.pre.prepared.decidable.forest light.light-forest.ensures f.stop-at.ensures
@@ -43,7 +43,7 @@ module _ (v : tie.After-vertex-count) where
   abbrev looked : tie.After-stop-at
   looked = v.before.before.before.before
 
-  asked : JoinedAsked (graph_of (s looked).args.b.now (s looked).args.classes.now (s looked).args.copies.now) (s looked).args.roots.now (s looked).args.limit (s looked).args.order.now (s looked).args.bounds.now
+  asked : JoinedAsked (graph_of (s looked).args.b.now (s looked).args.classes.now) (s looked).args.roots.now (s looked).args.limit (s looked).args.order.now (s looked).args.bounds.now
       (s looked).args.arcs.now (s looked).args.distances.now (s looked).args.lasts.now (length (s looked).args.buf.now)
   asked = joined_asked (s looked).pre (found-is looked ∙ ap vertex_in v.before.enum_told.given.1)
 

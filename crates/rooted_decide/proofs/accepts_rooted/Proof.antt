@@ -17,10 +17,10 @@ use Rattle.rooted_decide.proofs.accepts_rooted.Tie as tie
 -- Where the forest's edges within the limit are counted: what came.
 module _ (l : tie.After-light-forest) where
   abbrev s : tie.Start
-  s = let k = l.before.before.before.before in k.before.before.before.before
+  s = let k = l.before.before.before.before in k.before.before.before
 
   abbrev g : Graph
-  g = graph_of s.args.b.now s.args.classes.now s.args.copies.now
+  g = graph_of s.args.b.now s.args.classes.now
 
   -- Where no edge is above the limit, every vertex is joined to a root.
   joined : length s.args.kept.now ≤ l.light-forest.result → unjoined_at g s.args.roots.now s.args.limit ≡ none

@@ -16,7 +16,7 @@ use Rattle.rooted_decide.proofs.few_assigned.Tie as tie
 
 -- What came, where the words' array is.
 abbrev start : tie.After-parts → tie.Start
-start c = let x = c.before.before.before in x.before.before.before.before
+start c = let x = c.before.before.before in x.before.before.before
 
 -- Where the words are made: the parts are as few as the roots.
 module _ (q : tie.After-parts-near) where
@@ -29,7 +29,7 @@ module _ (q : tie.After-parts-near) where
   abbrev words : List ℕ
   words = q.parts-near.last.1.1.1.1.1.0
 
-  near : PartsNear (graph_of s.args.b.now s.args.classes.now s.args.copies.now) s.args.roots.now s.args.limit words p
+  near : PartsNear (graph_of s.args.b.now s.args.classes.now) s.args.roots.now s.args.limit words p
   near = q.parts-near.ensures.near
 
   few : p ≤ length s.args.roots.now

@@ -9,7 +9,7 @@ use Rattle.rooted_decide.proofs.no_cover_rooted.Tie as tie
 
 -- What came, seen from where the labels are,
 abbrev start : tie.After-label → tie.Start
-start l = l.before.before.before.before.before.before
+start l = l.before.before.before.before.before
 
 -- and from where a vertex was looked for.
 module _ (f : tie.After-stop-at) where
@@ -17,7 +17,7 @@ module _ (f : tie.After-stop-at) where
   s = start f.before
 
   abbrev g : Graph
-  g = graph_of s.args.b.now s.args.classes.now s.args.copies.now
+  g = graph_of s.args.b.now s.args.classes.now
 
 slice-aggregate-stop-at : tie.Need-slice-aggregate-stop-at
 slice-aggregate-stop-at c = search rules

@@ -7,8 +7,8 @@ use Rattle.rooted_decide.proofs.parts_assigned.Statement.{statement}
 use Rattle.rooted_decide.proofs.parts_assigned.Tie as tie
 
 -- What came, where the parts are to be counted.
-abbrev start : tie.After-shared-slice-known6 → tie.Start
-start c = c.before.before.before.before.before.before
+abbrev start : tie.After-shared-slice-known5 → tie.Start
+start c = c.before.before.before.before.before
 
 count-parts-requires : tie.Need-count-parts-requires
 count-parts-requires c κs = count_asked (start c).requires

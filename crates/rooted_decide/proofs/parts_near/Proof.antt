@@ -9,7 +9,7 @@ use Rattle.rooted_decide.proofs.parts_near.Tie as tie
 
 -- Where the vertices' words are to be made: what came.
 abbrev start : tie.After-near → tie.Start
-start c = let x = c.before.before.before.before in x.before.before.before.before
+start c = let x = c.before.before.before.before in x.before.before.before
 
 slice-aggregate-roots-within : tie.Need-slice-aggregate-roots-within
 slice-aggregate-roots-within c = search rules

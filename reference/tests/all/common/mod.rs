@@ -3,22 +3,15 @@
 
 pub mod asking;
 pub mod crossings;
-pub mod misread;
 pub mod numbers;
 pub mod other;
 pub mod readings;
 pub mod replies;
 pub mod surfaces;
-pub mod timed_records;
-pub mod times;
 pub mod vans;
 pub mod within;
 pub mod wrong_gates;
 pub mod wrong_searches;
-pub mod wrong_served;
-pub mod wrong_time_lists;
-pub mod wrong_timed_checks;
-pub mod wrong_times;
 pub mod wrong_van_lists;
 pub mod wrong_vans;
 pub mod wrong_within;

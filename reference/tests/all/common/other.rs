@@ -25,7 +25,7 @@ pub fn other_reply(record: &Record) -> Option<Full> {
         return Some(own);
     }
     let graph = record.brought().graph().expect("an answered question");
-    let crews = record.brought().crews(record.kind, graph.stops(), record.k as u64).expect("roots");
+    let crews = record.brought().crews(record.kind, graph.n, record.k as u64).expect("roots");
     let plan = plan(&graph, crews, limit).expect("every vertex is joined to a root");
     Some(other_choices(&graph, limit, &plan))
 }

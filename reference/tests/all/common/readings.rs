@@ -3,7 +3,7 @@
 use super::surfaces::checked;
 use reference::best::cover_exists;
 use reference::check::check_on;
-use reference::cover::{decode, filed_length, gather, Tree};
+use reference::cover::Tree;
 use reference::districts::{answer_text, Asked, Record};
 use reference::graph::Graph;
 use reference::judge_districts::judge_reply;
@@ -30,10 +30,6 @@ pub struct Reading {
     pub exists: fn(Kind, &Graph, &[usize]) -> bool,
     /// Whether the search for the best limit begins with a trial at 0.
     pub tries_0: bool,
-    /// The sum that it goes on with.
-    pub sum: fn(&Graph) -> u64,
-    /// The weight of a tree of a cover.
-    pub weight: fn(&Graph, &Tree) -> u64,
     /// The check of cover bytes.
     pub check: fn(Kind, &Graph, &[usize], &[u8]) -> Result<u64, u16>,
 }
@@ -46,15 +42,13 @@ pub const RIGHT: Reading = Reading {
     run: |kind, graph, roots, limit| run(kind, graph, roots, limit),
     exists: |kind, graph, roots| cover_exists(kind, graph, roots),
     tries_0: true,
-    sum: Graph::total,
-    weight: |graph, tree| graph.weight(&tree.edges),
     check: |kind, graph, roots, cover| check_on(kind, graph, roots, cover),
 };
 
 /// Tries the numbers of sheet and classes, of k and vans, and of limit and buffer in this order.
 fn admitted(reading: &Reading, record: &Record) -> Admitted {
     let graph = (reading.graph)(record)?;
-    let roots = (reading.crews)(record, graph.stops())?;
+    let roots = (reading.crews)(record, graph.n)?;
     of_limit_and_room(record)?;
     Ok((graph, roots))
 }
@@ -99,7 +93,7 @@ impl Reading {
         if let Some(trees) = self.accepted(kind, graph, roots, 0).filter(|_| self.tries_0) {
             return Some((0, trees));
         }
-        let (mut low, mut high) = (0, (self.sum)(graph));
+        let (mut low, mut high) = (0, graph.total());
         let mut cover = self.accepted(kind, graph, roots, high)?;
         for _ in 2..p {
             if high - low <= 1 {
@@ -121,64 +115,16 @@ impl Reading {
             Err(number) => return Answer::Refused(number),
         };
         if let Asked::Trial { limit, .. } = record.asked {
-            let outcome = (self.run)(record.kind, &graph, &roots, limit);
-            return self.filed(&graph, limit, &outcome, buffer);
+            return file(&graph, limit, &(self.run)(record.kind, &graph, &roots, limit), buffer);
         }
         let p = match record.asked {
             Asked::Within { trials, .. } => trials,
             _ => u64::MAX,
         };
         match self.search(record.kind, &graph, &roots, p) {
-            Some((limit, trees)) => self.filed(&graph, limit, &Outcome::Cover(trees), buffer),
+            Some((limit, trees)) => file(&graph, limit, &Outcome::Cover(trees), buffer),
             None => Answer::NoCover,
         }
-    }
-
-    /// The answer of an outcome, which is written to the buffer; a tree is as heavy as this reading says.
-    fn filed(&self, graph: &Graph, limit: u64, outcome: &Outcome, buffer: &mut [u8]) -> Answer {
-        let answer = file(graph, limit, outcome, buffer);
-        let Outcome::Cover(trees) = outcome else { return answer };
-        let weights = trees.iter().map(|tree| (self.weight)(graph, tree));
-        Answer::Cover { limit, heaviest: weights.max().unwrap_or(0) }
-    }
-
-    /// What a program of this reading prints of its answer: trees as heavy as it says, or the word of its own check.
-    pub fn printed(
-        &self,
-        record: &Record,
-        is_whole: bool,
-        answer: &Answer,
-        buffer: &[u8],
-    ) -> String {
-        let Answer::Cover { limit, heaviest } = *answer else {
-            return answer_text(record, is_whole, answer, buffer);
-        };
-        let (graph, roots) = (self.admitted)(self, record).expect("an answered question");
-        let cover = &buffer[..filed_length(buffer).expect("four bytes")];
-        let trees = gather(&decode(cover).expect("cover bytes"));
-        let count = trees.len();
-        if !is_whole {
-            let is_said = (self.check)(record.kind, &graph, &roots, cover) == Ok(heaviest);
-            return format!("cover {limit} {} {count}\n", if is_said { "yes" } else { "no" });
-        }
-        let row = |tree: &Tree| {
-            let weight = (self.weight)(&graph, tree);
-            format!("tree {} {weight} {:?}\n", tree.start, tree.edges)
-        };
-        let rows: String = trees.iter().map(row).collect();
-        format!("cover {limit} {heaviest} {count}\n{rows}")
-    }
-
-    /// What it prints of a record's question, whole or without what is free.
-    pub fn said(&self, record: &Record, is_whole: bool) -> String {
-        if let Asked::Check { cover } = &record.asked {
-            let admitted = (self.admitted)(self, record);
-            let said = admitted.and_then(|(g, roots)| (self.check)(record.kind, &g, &roots, cover));
-            return format!("{said:?}");
-        }
-        let mut buffer = vec![FILL; record.room()];
-        let answer = self.answer(record, &mut buffer);
-        self.printed(record, is_whole, &answer, &buffer)
     }
 
     /// Whether this reading's answer to a record is wrong, and whether what is printed of it is.
@@ -197,7 +143,7 @@ impl Reading {
         let (due, (said, buffer)) = (answered(&RIGHT), answered(self));
         let is_whole = record.is_whole(&due.0);
         let is_wrong = judge_reply(record, &full_of(&said, &buffer)).is_err();
-        let printed = self.printed(record, is_whole, &said, &buffer);
-        (is_wrong, printed != RIGHT.printed(record, is_whole, &due.0, &due.1))
+        let printed = answer_text(record, is_whole, &said, &buffer);
+        (is_wrong, printed != answer_text(record, is_whole, &due.0, &due.1))
     }
 }

@@ -29,12 +29,10 @@ pub fn graph_due(graph: &Graph, classes: &[u8]) -> Graph {
     Graph::new(graph.n, &edges)
 }
 
-/// The records that bring a list of classes, with the list, but for those that bring vans, times or a number of trials too.
+/// The records that bring a list of classes, with the list, but for those that bring vans or a number of trials too.
 pub fn listed() -> Vec<(&'static Record, &'static [u8])> {
-    let is_alone = |record: &&Record| {
-        let has_others = record.vans.is_some() || record.times.is_some();
-        !has_others && !matches!(record.asked, Asked::Within { .. })
-    };
+    let is_alone =
+        |record: &&Record| record.vans.is_none() && !matches!(record.asked, Asked::Within { .. });
     let alone = made_records().iter().filter(is_alone);
     alone.filter_map(|record| Some((record, record.classes.as_deref()?))).collect()
 }

@@ -45,7 +45,7 @@ impl Put {
 
     pub fn brought(&self) -> Brought<'_> {
         let (classes, vans) = (self.classes.as_deref(), self.vans.as_deref());
-        Brought { sheet: &self.sheet, classes, vans, times: None }
+        Brought { sheet: &self.sheet, classes, vans }
     }
 
     pub fn k(&self) -> u64 {

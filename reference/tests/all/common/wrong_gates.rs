@@ -13,7 +13,7 @@ use reference::unrooted;
 /// The graph with another weight in place of 0.
 pub fn with_0_as(graph: &Graph, weight: u64) -> Graph {
     let edge = |e: &Edge| Edge { weight: if e.weight == 0 { weight } else { e.weight }, ..*e };
-    Graph { edges: graph.edges.iter().map(edge).collect(), ..*graph }
+    Graph { n: graph.n, edges: graph.edges.iter().map(edge).collect() }
 }
 
 /// At limit 0 no edge is left.

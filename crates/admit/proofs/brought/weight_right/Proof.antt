@@ -1,14 +1,14 @@
 -- `admit::brought::weight_right` meets its contract: a weight is at most doubled.
 -- Assumes nothing.
-use mathlib.Core.Path.{sym, ap, ◌∙◌}
+use mathlib.Core.Path.{sym, ap}
 use native.Mathlib.Omega.{arith}
 use lib.Dec.{leb}
 use borrow.Author.Tests.{le-leb}
 use Rattle.graph.specs.Graph.{weight_of}
-use Rattle.graph.specs.Bytes.{sheet_graph, surfaced_graph}
+use Rattle.graph.specs.Bytes.{sheet_graph, graph_of}
 use Rattle.graph.specs.Surface.{class_at}
 use Rattle.graph.proofs.Adjusted.{adjusted_most}
-use Rattle.graph.proofs.Surfaced.{vertices_sheet, edge_count_sheet, weight_by_class}
+use Rattle.graph.proofs.Surfaced.{weight_by_class}
 use borrow.Author.Rules.{rules}
 use Rattle.admit.proofs.brought.weight_right.Statement.{statement}
 use Rattle.admit.proofs.brought.weight_right.Tie as tie
@@ -28,16 +28,10 @@ returns c =
     let s = let v = w.before.before in v.before.before.before.args in
     let b = s.b.now in
     let classes = s.classes.now in
-    sym (le-leb (weight_of (surfaced_graph b classes) s.e) 1000000 (omega (arith, w.weight.ensures.is, weight_by_class b classes s.e, adjusted_most (weight_of (sheet_graph b) s.e) (class_at classes s.e))))
+    sym (le-leb (weight_of (graph_of b classes) s.e) 1000000 (omega (arith, w.weight.ensures.is, weight_by_class b classes s.e, adjusted_most (weight_of (sheet_graph b) s.e) (class_at classes s.e))))
 
 weight-requires-2 : tie.Need-weight-requires-2
-weight-requires-2 c κs =
-    let m = c.before.before in
-    let s = m.before.before.before.before.args in
-    record {
-      vertices_are = m.before.sheet-vertices.ensures.is ∙ sym (vertices_sheet s.b.now s.classes.now);
-      edges_are = m.sheet-edges.ensures.is ∙ sym (edge_count_sheet s.b.now s.classes.now);
-    }
+weight-requires-2 c κs = search rules
 
 returns-2 : tie.Need-returns-2
 returns-2 c = ap (λ x. leb x 1000000) c.weight2.ensures.is

@@ -1,37 +1,30 @@
 -- `admit::brought::weights_right` meets its contract. The loop's invariant: no edge before e weighs too much.
 -- The measure is how many edges are left. Assumes nothing.
 use Prim.Native.Nat.{ℕ, ◌-◌, ◌≤◌, ◌<◌}
-use mathlib.Core.Path.{◌≡◌, sym, ◌∙◌}
+use mathlib.Core.Path.{sym, ◌∙◌}
 use mathlib.Core.Bool.{false≢true, true≢false}
 use native.Mathlib.Omega.{arith}
 use borrow.Author.Count.{below_none, below_more}
 use borrow.Author.Tests.{leb-true, leb-false, not-true, not-false}
-use Rattle.graph.specs.Graph.{Graph, edge_count, weight_of}
-use Rattle.graph.specs.Bytes.{surfaced_graph}
-use Rattle.graph.proofs.Surfaced.{edge_count_sheet}
+use Rattle.graph.specs.Graph.{Graph, weight_of}
+use Rattle.graph.specs.Bytes.{graph_of}
 use Rattle.rules.proofs.Surfaces.{each_light, heavy_refused}
 use borrow.Author.Rules.{rules}
 use Rattle.admit.proofs.brought.weights_right.Statement.{statement}
 use Rattle.admit.proofs.brought.weights_right.Tie as tie
 
 abbrev invariant-loop : tie.invariant-loop
-invariant-loop b classes m e₀ e = (i : ℕ) → i < e → weight_of (surfaced_graph b classes) i ≤ 1000000
+invariant-loop b classes m e₀ e = (i : ℕ) → i < e → weight_of (graph_of b classes) i ≤ 1000000
 
 abbrev decreases-loop : tie.decreases-loop
 decreases-loop b classes m e₀ e = m - e
 
--- The graph, where a turn begins, and its edges.
-module _ (t : tie.At-loop invariant-loop decreases-loop) where
-  abbrev g : Graph
-  g = let s = t.before.before.before.before in surfaced_graph s.args.b.now s.args.classes.now
+-- The graph, where a turn begins.
+abbrev g : tie.At-loop invariant-loop decreases-loop → Graph
+g t = let s = t.before.before.before.before in graph_of s.args.b.now s.args.classes.now
 
-  all_edges : edge_count g ≡ t.before.sheet-edges.result
-  all_edges =
-      let s = t.before.before.before.before in
-      edge_count_sheet s.args.b.now s.args.classes.now ∙ sym t.before.sheet-edges.ensures.is
-
-sheet-edges-requires : tie.Need-sheet-edges-requires invariant-loop decreases-loop
-sheet-edges-requires c κs = search rules
+edge-count-requires : tie.Need-edge-count-requires invariant-loop decreases-loop
+edge-count-requires c κs = search rules
 
 loop-holds : tie.Need-loop-init invariant-loop decreases-loop
 loop-holds c = below_none _
@@ -45,7 +38,7 @@ returns c =
     let t = w.before.before in
     record {
       right = λ r. absurd (false≢true r);
-      wrong = λ r. heavy_refused (g t) {e = t.loop.e} (omega (arith, all_edges t)) (leb-false _ _ (sym w.weight-right.ensures ∙ not-true w.weight-right.result c.if1.true));
+      wrong = λ r. heavy_refused (g t) {e = t.loop.e} (omega arith) (leb-false _ _ (sym w.weight-right.ensures ∙ not-true w.weight-right.result c.if1.true));
     }
 
 add-e : tie.Need-overflow-add-e invariant-loop decreases-loop
@@ -63,7 +56,7 @@ loop-again c =
 returns-2 : tie.Need-returns-2 invariant-loop decreases-loop
 returns-2 c =
     let t = c.before in
-    record { right = λ r. each_light (g t) (λ e h. t.loop.invariant e (omega (arith, all_edges t))); wrong = λ r. absurd (true≢false r) }
+    record { right = λ r. each_light (g t) (λ e h. t.loop.invariant e (omega arith)); wrong = λ r. absurd (true≢false r) }
 
 pub weights-right-spec : {M : Type 1} → statement M
 weights-right-spec =
@@ -71,7 +64,7 @@ weights-right-spec =
     (tie.spec
     invariant-loop
     decreases-loop
-    sheet-edges-requires
+    edge-count-requires
     loop-holds
     weight-right-requires
     returns

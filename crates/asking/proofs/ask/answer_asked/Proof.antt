@@ -10,7 +10,7 @@ enum-known-asked c = search rules
 answer-at-requires : tie.Need-answer-at-requires
 answer-at-requires c κs =
     let m = c.before.before in
-    let s = let d = m.before.before.before.before.before in let e = d.before.before.before.before in e.before.before.before.before.before.before in
+    let s = let d = m.before.before.before.before.before in let e = d.before.before.before.before in e.before.before.before.before.before in
     record { answer = s.pre.answer; limit_most = rw m.asked.given.1 at s.pre.asked_fits }
 
 enum-known-asked-2 : tie.Need-enum-known-asked-2
@@ -19,7 +19,7 @@ enum-known-asked-2 c = search rules
 answer-within-requires : tie.Need-answer-within-requires
 answer-within-requires c κs =
     let m = c.before.before in
-    let s = let d = m.before.before.before.before.before in let e = d.before.before.before.before in e.before.before.before.before.before.before in
+    let s = let d = m.before.before.before.before.before in let e = d.before.before.before.before in e.before.before.before.before.before in
     record { answer = s.pre.answer; some_trials = rw m.asked2.given.1 at s.pre.asked_fits }
 
 same_length : tie.Need-same-length

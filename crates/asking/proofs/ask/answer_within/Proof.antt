@@ -14,13 +14,13 @@ use Rattle.asking.proofs.ask.answer_within.Tie as tie
 -- Where it is known whether a cover exists.
 module _ (n : tie.After-no-cover) where
   abbrev s : tie.Start
-  s = let d = n.before.before.before.before in let e = d.before.before.before.before in e.before.before.before.before.before.before
+  s = let d = n.before.before.before.before in let e = d.before.before.before.before in e.before.before.before.before.before
 
   abbrev crews : Crews
   crews = crews_with s.args.kind s.args.k s.args.roots.now
 
 no-cover-requires : tie.Need-no-cover-requires
-no-cover-requires c κs = forest_ready (let d = c.before.before.before.before in let e = d.before.before.before.before in e.before.before.before.before.before.requires.answer.ready)
+no-cover-requires c κs = forest_ready (let d = c.before.before.before.before in let e = d.before.before.before.before in e.before.before.before.before.requires.answer.ready)
 
 returns : tie.Need-returns
 returns c =

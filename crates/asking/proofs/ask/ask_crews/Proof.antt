@@ -21,7 +21,7 @@ vans s = brought s.args.given s.args.vans.now
 -- Where the roots are written.
 module _ (u : tie.After-put-roots) where
   abbrev s : tie.Start
-  s = (let d = u.before.before.before.before in d.before.before.before.before.before)
+  s = (let d = u.before.before.before.before in d.before.before.before.before)
 
   kind-is : s.args.kind ≡ Rooted
   kind-is = u.before.before.enum_told.given.1
@@ -37,7 +37,7 @@ slice-aggregate-put-roots c = search rules
 
 put-roots-requires : tie.Need-put-roots-requires
 put-roots-requires c κs =
-    let s = (let d = c.before.before.before.before.before in d.before.before.before) in
+    let s = (let d = c.before.before.before.before.before in d.before.before) in
     let few = (unrooted_asked s.pre).crews_few in
     record { few = omega arith; fits = omega arith }
 
@@ -54,7 +54,7 @@ enum-told-2 : tie.Need-enum-told-2
 enum-told-2 c = search rules
 
 ask-unrooted-requires : tie.Need-ask-unrooted-requires
-ask-unrooted-requires c κs = unrooted_asked (let d = c.before.before.before.before in d.before.before.before.before.requires)
+ask-unrooted-requires c κs = unrooted_asked (let d = c.before.before.before.before in d.before.before.before.requires)
 
 same_length : tie.Need-same-length
 same_length c = search rules
@@ -72,7 +72,7 @@ returns-2 : tie.Need-returns-2
 returns-2 c =
     let a = c.before.before in
     let m = a.before.before in
-    let s = m.before.before.before.before.before.before.before in
+    let s = m.before.before.before.before.before.before in
     unrooted_answered s.args.k (vans s) m.enum-told2.given.1 a.ask-unrooted.ensures
 
 pub ask-crews-spec : {M : Type 1} → statement M

@@ -9,7 +9,7 @@ is-small-requires c κs = search rules
 ask-rooted-small-requires : tie.Need-ask-rooted-small-requires
 ask-rooted-small-requires c κs =
     let t = c.before in
-    record { question = (let d = c.before.before.before.before in d.before.before.before.before).pre; small = t.before.is-small.ensures.small t.if1.true }
+    record { question = (let d = c.before.before.before.before in d.before.before.before).pre; small = t.before.is-small.ensures.small t.if1.true }
 
 same_length : tie.Need-same-length
 same_length c = search rules

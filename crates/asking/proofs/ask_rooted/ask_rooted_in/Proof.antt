@@ -34,7 +34,7 @@ slice-aggregate-answer-asked-4 c = search rules
 answer-asked-requires : tie.Need-answer-asked-requires
 answer-asked-requires c κs =
     let p = prepared (let d = c.before.before.before.before in d.before.before.before.before) in
-    let question = (let d = p.before.before.before.before in let e = d.before.before.before.before in let f = e.before.before.before.before in let g = f.before.before.before.before in g.before.before.before.before).pre.question in
+    let question = (let d = p.before.before.before.before in let e = d.before.before.before.before in let f = e.before.before.before.before in let g = f.before.before.before.before in g.before.before.before).pre.question in
     record {
       answer = rooted_ready p.prepare-rooted.ensures.prepared question.given.few question.room_most;
       asked_fits = question.asked_fits;

@@ -28,7 +28,7 @@ slice-aggregate-ask-rooted-in-7 c = search rules
 
 ask-rooted-in-requires : tie.Need-ask-rooted-in-requires
 ask-rooted-in-requires c κs =
-    let asked = (let d = c.before.before.before.before in let e = d.before.before.before.before in e.before.before.before.before.before).pre in
+    let asked = (let d = c.before.before.before.before in let e = d.before.before.before.before in e.before.before.before.before).pre in
     let small = asked.small in
     record {
       question = asked.question;

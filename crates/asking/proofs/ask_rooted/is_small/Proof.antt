@@ -21,7 +21,7 @@ returns-3 : tie.Need-returns-3
 returns-3 c =
     let e = c.before in
     let v = e.before.before in
-    told_small v.before.before.before.before.args.k (omega (arith, v.vertex-count.ensures.is, e.before.if1.false)) (omega (arith, e.IsEdge-count.ensures.is, c.if2.false))
+    told_small v.before.before.before.args.k (omega (arith, v.vertex-count.ensures.is, e.before.if1.false)) (omega (arith, e.IsEdge-count.ensures.is, c.if2.false))
 
 pub is-small-spec : {M : Type 1} → statement M
 is-small-spec =

@@ -58,7 +58,7 @@ slice-aggregate-answer-asked-9 c = search rules
 answer-asked-requires : tie.Need-answer-asked-requires
 answer-asked-requires c κs =
     let p = prepared (let d = c.before.before.before.before in d.before.before.before.before) in
-    let asked = (let d = p.before.before.before.before in let e = d.before.before.before.before in e.before.before.before.before.before.before).pre.question in
+    let asked = (let d = p.before.before.before.before in let e = d.before.before.before.before in e.before.before.before.before.before).pre.question in
     let ready = p.prepare-unrooted.ensures in
     record { answer = unrooted_ready ready.in_order ready.history asked.crews_few asked.room_most; asked_fits = asked.asked_fits }
 

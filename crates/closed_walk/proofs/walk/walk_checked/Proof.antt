@@ -9,7 +9,7 @@ use Rattle.closed_walk.proofs.walk.walk_checked.Tie as tie
 
 -- Neither number applies: there is such a tree.
 abbrev start : tie.After-walk-tree-arg → tie.Start
-start c = let e = c.before.before.before.before in e.before.before.before.before.before
+start c = let e = c.before.before.before.before in e.before.before.before.before
 
 there : (c : tie.After-walk-tree-arg) → (start c).args.tree < trees_in (start c).args.c.now
 there c = omega (arith, c.before.before.before.trees-in.ensures.is)

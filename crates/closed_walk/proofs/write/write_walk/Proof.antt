@@ -8,21 +8,21 @@ use Rattle.graph.specs.Bytes.{graph_of}
 use Rattle.graph.specs.Graph.{Graph}
 use Rattle.rules.specs.Cover.{Tree}
 use Rattle.closed_walk.specs.Turn.{tree_of}
-use Rattle.closed_walk.proofs.StopsWritten.{WalkPut, start_vertex, room_around, shallow, walk_begun, walk_length, turn_asked, stop_room, walk_further, walk_all}
+use Rattle.closed_walk.proofs.StopsWritten.{WalkPut, room_around, shallow, walk_begun, walk_length, turn_asked, stop_room, walk_further, walk_all}
 use Rattle.closed_walk.proofs.write.write_walk.Statement.{statement}
 use Rattle.closed_walk.proofs.write.write_walk.Tie as tie
 
 abbrev invariant-loop : tie.invariant-loop
-invariant-loop b start edges buf₀ classes copies bounds arcs places₀ marks₀ way₀ depth₀ next₀ i₀ buf places marks way depth next i =
-    WalkPut (graph_of b classes copies) (tree_of start edges) i bounds arcs places marks way depth buf₀ buf next₀ next
+invariant-loop b start edges buf₀ classes bounds arcs places₀ marks₀ way₀ depth₀ next₀ i₀ buf places marks way depth next i =
+    WalkPut (graph_of b classes) (tree_of start edges) i bounds arcs places marks way depth buf₀ buf next₀ next
 
 abbrev decreases-loop : tie.decreases-loop
-decreases-loop b start edges buf₀ classes copies bounds arcs places₀ marks₀ way₀ depth₀ next₀ i₀ buf places marks way depth next i =
+decreases-loop b start edges buf₀ classes bounds arcs places₀ marks₀ way₀ depth₀ next₀ i₀ buf places marks way depth next i =
     2 * length edges - i
 
 -- Where the arrays were made, the edges around each vertex put, the first stop put.
 abbrev start_of : tie.After-arcs invariant-loop decreases-loop → tie.Start invariant-loop decreases-loop
-start_of c = c.before.before.before.before.before.before.before
+start_of c = c.before.before.before.before.before.before
 
 abbrev around-put : tie.After-put-u16 invariant-loop decreases-loop → tie.After-put-around invariant-loop decreases-loop
 around-put p = p.before.before.before.before
@@ -46,7 +46,7 @@ module _ (k : tie.After-take-turn invariant-loop decreases-loop) where
   l = turn k.before
 
   abbrev graph : Graph
-  graph = graph_of (start l).args.b.now (start l).args.classes.now (start l).args.copies.now
+  graph = graph_of (start l).args.b.now (start l).args.classes.now
 
   abbrev tree : Tree
   tree = tree_of (start l).args.start (start l).args.edges.now
@@ -76,7 +76,7 @@ loop-holds : tie.Need-loop-init invariant-loop decreases-loop
 loop-holds c =
     let p = c.before.before in
     let a = around-put p in
-    walk_begun a.put-around.ensures.around (start_vertex (start_of a.before).pre) p.put-u16.ensures
+    walk_begun a.put-around.ensures.around (start_of a.before).pre.is_tree.start_inside p.put-u16.ensures
 
 mul-loop : tie.Need-overflow-mul-loop invariant-loop decreases-loop
 mul-loop c = search rules

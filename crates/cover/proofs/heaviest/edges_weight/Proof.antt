@@ -3,7 +3,6 @@
 use Prim.Native.Nat.{◌+◌, ◌*◌, ◌-◌, ◌≤◌}
 use mathlib.Core.Path.{◌≡◌, ap, ◌∙◌}
 use native.Mathlib.Omega.{arith}
-use borrow.Author.Rules.{rules}
 use lib.ListN.{length, take}
 use lib.Seq.{take_all}
 use Rattle.graph.specs.Graph.{Graph, weight_of}
@@ -14,15 +13,15 @@ use Rattle.cover.proofs.heaviest.edges_weight.Statement.{statement}
 use Rattle.cover.proofs.heaviest.edges_weight.Tie as tie
 
 abbrev invariant-loop : tie.invariant-loop
-invariant-loop b edges classes copies n m sum₀ i₀ sum i =
-    (i ≤ length edges) × (sum ≤ 8589934592 * i) × (sum ≡ total_weight (graph_of b classes copies) (take i edges))
+invariant-loop b edges classes sum₀ i₀ sum i =
+    (i ≤ length edges) × (sum ≤ 8589934592 * i) × (sum ≡ total_weight (graph_of b classes) (take i edges))
 
 abbrev decreases-loop : tie.decreases-loop
-decreases-loop b edges classes copies n m sum₀ i₀ sum i = length edges - i
+decreases-loop b edges classes sum₀ i₀ sum i = length edges - i
 
 -- The graph.
 abbrev g : tie.Start invariant-loop decreases-loop → Graph
-g s = graph_of s.args.b.now s.args.classes.now s.args.copies.now
+g s = graph_of s.args.b.now s.args.classes.now
 
 -- In a turn, the weight of the next edge was read.
 module _ (t : tie.After-weight invariant-loop decreases-loop) where
@@ -30,7 +29,7 @@ module _ (t : tie.After-weight invariant-loop decreases-loop) where
   turn = t.before.before.before
 
   abbrev s : tie.Start invariant-loop decreases-loop
-  s = let d = turn.before.before.before in d.before.before.before.before
+  s = turn.before.before.before.before
 
   weight_added : turn.loop.sum + t.weight.result ≡ total_weight (g s) (take (turn.loop.i + 1) s.args.edges.now)
   weight_added =
@@ -43,19 +42,13 @@ module _ (t : tie.After-weight invariant-loop decreases-loop) where
       )
 
 loop-holds : tie.Need-loop-init invariant-loop decreases-loop
-loop-holds c = (omega arith, omega arith, nothing_weighs (g (let d = c.before.before.before in d.before.before.before)))
-
-vertex-count-requires : tie.Need-vertex-count-requires invariant-loop decreases-loop
-vertex-count-requires c κs = tt
-
-edge-count-requires : tie.Need-edge-count-requires invariant-loop decreases-loop
-edge-count-requires c κs = tt
+loop-holds c = (omega arith, omega arith, nothing_weighs (g c.before.before.before))
 
 number-at-requires : tie.Need-number-at-requires invariant-loop decreases-loop
 number-at-requires c κs = tt
 
 weight-requires : tie.Need-weight-requires invariant-loop decreases-loop
-weight-requires c κs = search rules
+weight-requires c κs = tt
 
 add-sum : tie.Need-overflow-add-sum invariant-loop decreases-loop
 add-sum c = omega arith
@@ -71,8 +64,7 @@ loop-again c = (omega arith, omega arith, weight_added c)
 
 returns : tie.Need-returns invariant-loop decreases-loop
 returns c =
-    let d = c.before.before.before.before in
-    let s = d.before.before.before.before in
+    let s = c.before.before.before.before.before in
     c.before.loop.invariant.2 ∙ ap (total_weight (g s)) (take_all c.before.loop.i s.args.edges.now (omega arith))
 
 pub edges-weight-spec : {M : Type 1} → statement M
@@ -81,8 +73,6 @@ edges-weight-spec =
     (tie.spec
     invariant-loop
     decreases-loop
-    vertex-count-requires
-    edge-count-requires
     loop-holds
     number-at-requires
     weight-requires

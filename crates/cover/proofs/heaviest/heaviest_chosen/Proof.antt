@@ -14,14 +14,14 @@ use Rattle.cover.proofs.heaviest.heaviest_chosen.Statement.{statement}
 use Rattle.cover.proofs.heaviest.heaviest_chosen.Tie as tie
 
 abbrev invariant-loop : tie.invariant-loop
-invariant-loop b bounds edges chosen classes copies most₀ j₀ most j = (j ≤ length chosen) × (most ≡ heaviest_of_first (graph_of b classes copies) bounds edges chosen j)
+invariant-loop b bounds edges chosen classes most₀ j₀ most j = (j ≤ length chosen) × (most ≡ heaviest_of_first (graph_of b classes) bounds edges chosen j)
 
 abbrev decreases-loop : tie.decreases-loop
-decreases-loop b bounds edges chosen classes copies most₀ j₀ most j = length chosen - j
+decreases-loop b bounds edges chosen classes most₀ j₀ most j = length chosen - j
 
 -- The graph, and the heaviest of the first trees in it.
 abbrev g : tie.Start invariant-loop decreases-loop → Graph
-g s = graph_of s.args.b.now s.args.classes.now s.args.copies.now
+g s = graph_of s.args.b.now s.args.classes.now
 
 abbrev heaviest : tie.Start invariant-loop decreases-loop → ℕ → ℕ
 heaviest s = heaviest_of_first (g s) s.args.bounds.now s.args.edges.now s.args.chosen.now
@@ -31,11 +31,11 @@ module _ (t : tie.After-number-at invariant-loop decreases-loop) where
   abbrev turn : tie.At-loop invariant-loop decreases-loop
   turn = t.before.before
 
-  abbrev known : tie.After-shared-slice-known6 invariant-loop decreases-loop
+  abbrev known : tie.After-shared-slice-known5 invariant-loop decreases-loop
   known = turn.before
 
   abbrev s : tie.Start invariant-loop decreases-loop
-  s = known.before.before.before.before.before.before
+  s = known.before.before.before.before.before
 
   more : turn.loop.j < length s.args.chosen.now
   more = omega arith
@@ -55,7 +55,7 @@ module _ (t : tie.After-edges-weight invariant-loop decreases-loop) where
 
 loop-holds : tie.Need-loop-init invariant-loop decreases-loop
 loop-holds c =
-    let s = c.before.before.before.before.before.before in
+    let s = c.before.before.before.before.before in
     (omega arith, chosen_none (g s) s.args.bounds.now s.args.edges.now s.args.chosen.now)
 
 number-at-requires : tie.Need-number-at-requires invariant-loop decreases-loop
@@ -84,7 +84,7 @@ returns : tie.Need-returns invariant-loop decreases-loop
 returns c =
     let l = c.before.loop in
     let k = c.before.before in
-    let s = k.before.before.before.before.before.before in
+    let s = k.before.before.before.before.before in
     chosen_all (g s) s.args.bounds.now s.args.edges.now s.args.chosen.now l.j (omega arith) l.invariant.1
 
 pub heaviest-chosen-spec : {M : Type 1} → statement M

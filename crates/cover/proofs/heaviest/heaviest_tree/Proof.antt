@@ -13,17 +13,17 @@ use Rattle.cover.proofs.heaviest.heaviest_tree.Statement.{statement}
 use Rattle.cover.proofs.heaviest.heaviest_tree.Tie as tie
 
 abbrev invariant-loop : tie.invariant-loop
-invariant-loop b c classes copies t most₀ from₀ j₀ most from j = (j ≤ t) × BeginsAt c j from × (most ≡ heaviest_before (graph_of b classes copies) c j)
+invariant-loop b c classes t most₀ from₀ j₀ most from j = (j ≤ t) × BeginsAt c j from × (most ≡ heaviest_before (graph_of b classes) c j)
 
 abbrev decreases-loop : tie.decreases-loop
-decreases-loop b c classes copies t most₀ from₀ j₀ most from j = t - j
+decreases-loop b c classes t most₀ from₀ j₀ most from j = t - j
 
 -- Where the loop began, and the graph.
 abbrev start : tie.At-loop invariant-loop decreases-loop → tie.Start invariant-loop decreases-loop
-start l = l.before.before.before.before.before.before
+start l = l.before.before.before.before.before
 
 abbrev g : tie.Start invariant-loop decreases-loop → Graph
-g s = graph_of s.args.b.now s.args.classes.now s.args.copies.now
+g s = graph_of s.args.b.now s.args.classes.now
 
 -- In a turn, the end of the next tree's run was found.
 module _ (t : tie.After-run-end invariant-loop decreases-loop) where
@@ -39,7 +39,7 @@ trees-in-requires c κs = tt
 
 loop-holds : tie.Need-loop-init invariant-loop decreases-loop
 loop-holds c =
-    let s = c.before.before.before.before.before in
+    let s = c.before.before.before.before in
     (omega arith, begins_first s.args.c.now (edge_count (g s)) s.requires.entries, heaviest_none (g s) s.args.c.now)
 
 run-end-requires : tie.Need-run-end-requires invariant-loop decreases-loop

@@ -3,7 +3,6 @@
 use Prim.Native.Nat.{◌*◌, ◌-◌, ◌≤◌}
 use mathlib.Core.Path.{◌≡◌, ap, ◌∙◌}
 use native.Mathlib.Omega.{arith}
-use borrow.Author.Rules.{rules}
 use Rattle.graph.specs.Graph.{Graph, weight_of}
 use Rattle.graph.specs.Bytes.{graph_of}
 use Rattle.rules.specs.Walk.{total_weight}
@@ -13,36 +12,29 @@ use Rattle.cover.proofs.heaviest.run_weight.Statement.{statement}
 use Rattle.cover.proofs.heaviest.run_weight.Tie as tie
 
 abbrev invariant-loop : tie.invariant-loop
-invariant-loop b c from to classes copies n m sum₀ i₀ sum i =
-    (from ≤ i) × (i ≤ to) × (sum ≤ 8589934592 * i) × (sum ≡ total_weight (graph_of b classes copies) (run_edges c from i))
+invariant-loop b c from to classes sum₀ i₀ sum i =
+    (from ≤ i) × (i ≤ to) × (sum ≤ 8589934592 * i) × (sum ≡ total_weight (graph_of b classes) (run_edges c from i))
 
 abbrev decreases-loop : tie.decreases-loop
-decreases-loop b c from to classes copies n m sum₀ i₀ sum i = to - i
+decreases-loop b c from to classes sum₀ i₀ sum i = to - i
 
 -- Where the loop began, and the graph.
 abbrev start : tie.At-loop invariant-loop decreases-loop → tie.Start invariant-loop decreases-loop
-start l = let d = l.before.before.before in d.before.before.before.before
+start l = l.before.before.before.before
 
 abbrev g : tie.Start invariant-loop decreases-loop → Graph
-g s = graph_of s.args.b.now s.args.classes.now s.args.copies.now
+g s = graph_of s.args.b.now s.args.classes.now
 
 loop-holds : tie.Need-loop-init invariant-loop decreases-loop
 loop-holds c =
-    let d = c.before.before.before in
-    let s = d.before.before.before in
+    let s = c.before.before.before in
     (omega arith, omega (arith, s.requires.forward), omega arith, run_weight_none (g s) s.args.c.now s.args.from)
-
-vertex-count-requires : tie.Need-vertex-count-requires invariant-loop decreases-loop
-vertex-count-requires c κs = tt
-
-edge-count-requires : tie.Need-edge-count-requires invariant-loop decreases-loop
-edge-count-requires c κs = tt
 
 entry-edge-requires : tie.Need-entry-edge-requires invariant-loop decreases-loop
 entry-edge-requires c κs = tt
 
 weight-requires : tie.Need-weight-requires invariant-loop decreases-loop
-weight-requires c κs = search rules
+weight-requires c κs = tt
 
 add-sum : tie.Need-overflow-add-sum invariant-loop decreases-loop
 add-sum c = omega arith
@@ -82,8 +74,6 @@ run-weight-spec =
     (tie.spec
     invariant-loop
     decreases-loop
-    vertex-count-requires
-    edge-count-requires
     loop-holds
     entry-edge-requires
     weight-requires

@@ -14,15 +14,15 @@ use Rattle.distance_table.proofs.nearest.nearest_vertex.Statement.{statement}
 use Rattle.distance_table.proofs.nearest.nearest_vertex.Tie as tie
 
 abbrev invariant-loop : tie.invariant-loop
-invariant-loop b dist start edges classes copies v₀ i₀ v i = Nearing (graph_of b classes copies) dist start edges i v
+invariant-loop b dist start edges classes v₀ i₀ v i = Nearing (graph_of b classes) dist start edges i v
 
 abbrev decreases-loop : tie.decreases-loop
-decreases-loop b dist start edges classes copies v₀ i₀ v i = length edges - i
+decreases-loop b dist start edges classes v₀ i₀ v i = length edges - i
 
 -- What came: the graph, the distances and the part.
 module _ (s : tie.Start invariant-loop decreases-loop) where
   abbrev g : Graph
-  g = graph_of s.args.b.now s.args.classes.now s.args.copies.now
+  g = graph_of s.args.b.now s.args.classes.now
 
   valid : Valid g
   valid = s.pre.valid
@@ -42,7 +42,7 @@ module _ (o : tie.After-other-end invariant-loop decreases-loop) where
   l = turn.before
 
   abbrev s : tie.Start invariant-loop decreases-loop
-  s = l.before.before.before.before.before.before
+  s = l.before.before.before.before.before
 
   abbrev e : ℕ
   e = get_or s.args.edges.now l.loop.i 0
@@ -76,7 +76,7 @@ module _ (c : tie.After-nearer2 invariant-loop decreases-loop) where
       ∙ ap (nearer_of (far (s (o n))) (nearerOne n)) (other (o n))
 
 loop-holds : tie.Need-loop-init invariant-loop decreases-loop
-loop-holds c = nearing_start _ _ _ _ c.before.before.before.before.before.requires.start_inside
+loop-holds c = nearing_start _ _ _ _ c.before.before.before.before.requires.start_inside
 
 mul_wide : tie.Need-overflow-mul-wide invariant-loop decreases-loop
 mul_wide c = search rules

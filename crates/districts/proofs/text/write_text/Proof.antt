@@ -5,14 +5,23 @@ use borrow.Author.Rules.{rules}
 use Rattle.districts.proofs.text.write_text.Statement.{statement}
 use Rattle.districts.proofs.text.write_text.Tie as tie
 
-write-whole-requires : tie.Need-write-whole-requires
-write-whole-requires c κs = search rules
+read-list-requires : tie.Need-read-list-requires
+read-list-requires c κs = search rules
+
+write-reply-requires : tie.Need-write-reply-requires
+write-reply-requires c κs =
+    let l = c in
+    let t = l.before.before in
+    rw l.read-list.ensures (let s = t.before.before.before.before in s.before.before.requires)
 
 same_length : tie.Need-same-length
 same_length c = search rules
 
 returns : tie.Need-returns
-returns c = let w = c.before.before in let t = w.before.before in whole_written t.if1.true w.write-whole.ensures
+returns c =
+    let w = c.before.before in
+    let l = w.before in
+    whole_written l.before.before.if1.true (rw l.read-list.ensures at w.write-reply.ensures)
 
 write-fixed-requires : tie.Need-write-fixed-requires
 write-fixed-requires c κs = search rules
@@ -27,7 +36,8 @@ pub write-text-spec : {M : Type 1} → statement M
 write-text-spec =
     tie.close
     (tie.spec
-    write-whole-requires
+    read-list-requires
+    write-reply-requires
     same_length
     returns
     write-fixed-requires

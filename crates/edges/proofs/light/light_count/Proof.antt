@@ -9,13 +9,13 @@ use Rattle.edges.proofs.light.light_count.Statement.{statement}
 use Rattle.edges.proofs.light.light_count.Tie as tie
 
 abbrev invariant-loop : tie.invariant-loop
-invariant-loop b edges limit classes copies low₀ high₀ low high = Halving (graph_of b classes copies) limit edges low high
+invariant-loop b edges limit classes low₀ high₀ low high = Halving (graph_of b classes) limit edges low high
 
 abbrev decreases-loop : tie.decreases-loop
-decreases-loop b edges limit classes copies low₀ high₀ low high = high - low
+decreases-loop b edges limit classes low₀ high₀ low high = high - low
 
 loop-holds : tie.Need-loop-init invariant-loop decreases-loop
-loop-holds c = halving_all _ c.before.before.before.before.requires _
+loop-holds c = halving_all _ c.before.before.before.requires _
 
 sub-middle : tie.Need-overflow-sub-middle invariant-loop decreases-loop
 sub-middle c = search rules
@@ -36,7 +36,7 @@ loop-less : tie.Need-loop-smaller invariant-loop decreases-loop
 loop-less c = search rules
 
 loop-again : tie.Need-loop-preserved invariant-loop decreases-loop
-loop-again c = let l = c.before.before.before.before in halving_heavy _ l.before.before.before.before.before.requires l.loop.invariant _ (omega arith) (omega arith) (omega arith)
+loop-again c = let l = c.before.before.before.before in halving_heavy _ l.before.before.before.before.requires l.loop.invariant _ (omega arith) (omega arith) (omega arith)
 
 add_low : tie.Need-overflow-add-low invariant-loop decreases-loop
 add_low c = search rules
@@ -45,7 +45,7 @@ loop-less-2 : tie.Need-loop-smaller-2 invariant-loop decreases-loop
 loop-less-2 c = search rules
 
 loop-again-2 : tie.Need-loop-preserved-2 invariant-loop decreases-loop
-loop-again-2 c = let l = c.before.before.before.before in halving_light _ l.before.before.before.before.before.requires l.loop.invariant _ (omega arith) (omega arith) (omega arith)
+loop-again-2 c = let l = c.before.before.before.before in halving_light _ l.before.before.before.before.requires l.loop.invariant _ (omega arith) (omega arith) (omega arith)
 
 returns : tie.Need-returns invariant-loop decreases-loop
 returns c = halving_none c.before.loop.invariant (omega arith)

@@ -9,8 +9,6 @@ use Rattle.rules.specs.Cover.{Crews}
 use Rattle.rules.specs.CheckCover.{starts_right, starts_below, entries_right}
 use Rattle.admit.specs.Brought.{brought}
 use Rattle.admit.specs.Crews.{crews_of}
-use Rattle.graph.proofs.Timed.{starts_sheet}
-use Rattle.filed_entries.proofs.StartTests.{starts_below_more}
 use Rattle.filed.proofs.CheckSteps.{short_cover, other_length, other_starts, starts_above, entries_wrong, entries_pass}
 use borrow.Author.Rules.{rules}
 use Rattle.filed.proofs.check.check_filed.Statement.{statement}
@@ -18,14 +16,14 @@ use Rattle.filed.proofs.check.check_filed.Tie as tie
 
 -- The graph and the crews.
 abbrev g : tie.Start → Graph
-g s = graph_of s.args.b.now s.args.classes.now s.args.copies.now
+g s = graph_of s.args.b.now s.args.classes.now
 
 abbrev crews : tie.Start → Crews
 crews s = crews_of s.args.kind s.args.k (brought s.args.given s.args.vans.now)
 
 -- The bytes have the length that they say.
 abbrev s₂ : tie.Else2 → tie.Start
-s₂ t = let e = t.before.before in e.before.before.before.before.before.before
+s₂ t = let e = t.before.before in e.before.before.before.before.before
 
 -- The starts keep the kind's rule.
 module _ (t : tie.Else3) where
@@ -35,21 +33,14 @@ module _ (t : tie.Else3) where
   starts-right-passed : starts_right (crews s₃) s₃.args.c.now ≡ true
   starts-right-passed = sym t.before.starts-right.ensures ∙ not-false t.before.starts-right.result t.if3.left
 
--- The vertices were counted.
-by-sheet : (t : tie.After-sheet-vertices) → let s = s₃ t.before in
-    starts_below t.sheet-vertices.result s.args.c.now ≡ starts_below (g s).starts s.args.c.now
-by-sheet t =
-    let a = (s₃ t.before).args in
-    ap (λ n. starts_below n a.c.now) (t.sheet-vertices.ensures.is ∙ sym (starts_sheet a.b.now a.classes.now a.copies.now))
-
--- They are vertices where a tree may start: those of the sheet.
+-- They are vertices.
 module _ (t : tie.Else4) where
   abbrev s₄ : tie.Start
   s₄ = s₃ t.before.before.before
 
-  starts-below-passed : starts_below (g s₄).starts s₄.args.c.now ≡ true
+  starts-below-passed : starts_below (g s₄).vertices s₄.args.c.now ≡ true
   starts-below-passed =
-      sym (by-sheet t.before.before)
+      ap (λ n. starts_below n s₄.args.c.now) (sym t.before.before.vertex-count.ensures.is)
       ∙ sym t.before.starts-below.ensures ∙ not-false t.before.starts-below.result t.if4.left
 
 -- The entries are right.
@@ -63,13 +54,13 @@ module _ (t : tie.Else5) where
       ∙ sym t.before.entries-right.ensures ∙ not-false t.before.entries-right.result t.if5.left
 
 returns : tie.Need-returns
-returns c = let s = c.before.before.before.before.before.before in short_cover (g s) (crews s) s.args.c.now (omega arith)
+returns c = let s = c.before.before.before.before.before in short_cover (g s) (crews s) s.args.c.now (omega arith)
 
 cover-length-requires : tie.Need-cover-length-requires
 cover-length-requires c κs = search rules
 
 returns-2 : tie.Need-returns-2
-returns-2 c = let e = c.before.before in let s = e.before.before.before.before.before.before in other_length (g s) (crews s) s.args.c.now (omega arith) (omega arith)
+returns-2 c = let e = c.before.before in let s = e.before.before.before.before.before in other_length (g s) (crews s) s.args.c.now (omega arith) (omega arith)
 
 starts-right-requires : tie.Need-starts-right-requires
 starts-right-requires c κs = search rules
@@ -81,8 +72,8 @@ returns-3 c =
     other_starts (g s) (crews s) s.args.c.now (omega arith) (omega arith)
     (sym t.starts-right.ensures ∙ not-true t.starts-right.result c.if3.true)
 
-sheet-vertices-requires : tie.Need-sheet-vertices-requires
-sheet-vertices-requires c κs = search rules
+vertex-count-requires : tie.Need-vertex-count-requires
+vertex-count-requires c κs = search rules
 
 starts-below-requires : tie.Need-starts-below-requires
 starts-below-requires c κs = search rules
@@ -92,7 +83,7 @@ returns-4 c =
     let t = c.before in
     let s = s₃ t.before.before in
     starts_above (g s) (crews s) s.args.c.now (omega arith) (omega arith) (starts-right-passed t.before.before)
-    (sym (by-sheet t.before)
+    (ap (λ n. starts_below n s.args.c.now) (sym t.before.vertex-count.ensures.is)
     ∙ sym t.starts-below.ensures ∙ not-true t.starts-below.result c.if4.true)
 
 edge-count-requires : tie.Need-edge-count-requires
@@ -113,12 +104,7 @@ returns-5 c =
 
 check-trees-requires : tie.Need-check-trees-requires
 check-trees-requires c κs =
-    let s = s₅ c in
-    record {
-      valid = s.pre;
-      starts = starts_below_more s.args.c.now s.pre.copied.starts_most (starts-below-passed c.before.before.before);
-      entries = entries-passed c;
-    }
+    record { valid = (s₅ c).requires; starts = starts-below-passed c.before.before.before; entries = entries-passed c }
 
 returns-6 : tie.Need-returns-6
 returns-6 c =
@@ -136,7 +122,7 @@ check-filed-spec =
     returns-2
     starts-right-requires
     returns-3
-    sheet-vertices-requires
+    vertex-count-requires
     starts-below-requires
     returns-4
     edge-count-requires

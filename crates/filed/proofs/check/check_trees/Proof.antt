@@ -5,9 +5,9 @@ use borrow.Author.Tests.{not-true, not-false}
 use Rattle.graph.specs.Graph.{Graph}
 use Rattle.graph.specs.Bytes.{graph_of}
 use Rattle.rules.specs.CoverBytes.{decode}
-use Rattle.rules.specs.CheckCover.{trees_right, vertices_covered}
+use Rattle.rules.specs.CheckCover.{trees_right}
 use Rattle.rules.specs.Reply as reply
-use Rattle.filed.proofs.CheckSteps.{trees_wrong, vertex_uncovered, time_unserved, all_pass}
+use Rattle.filed.proofs.CheckSteps.{trees_wrong, vertex_uncovered, all_pass}
 use borrow.Author.Rules.{rules}
 use Rattle.filed.proofs.check.check_trees.Statement.{statement}
 use Rattle.filed.proofs.check.check_trees.Tie as tie
@@ -15,10 +15,10 @@ use Rattle.filed.proofs.check.check_trees.Tie as tie
 -- The trees were tested.
 module _ (t : tie.After-trees-right) where
   abbrev s : tie.Start
-  s = t.before.before.before.before.before.before
+  s = t.before.before.before.before.before
 
   abbrev g : Graph
-  g = graph_of s.args.b.now s.args.classes.now s.args.copies.now
+  g = graph_of s.args.b.now s.args.classes.now
 
 -- They passed.
 module _ (t : tie.Else1) where
@@ -27,14 +27,6 @@ module _ (t : tie.Else1) where
 
   trees_pass : trees_right (g tested) (decode (s tested).args.c.now) ≡ true
   trees_pass = sym tested.trees-right.ensures.is ∙ not-false tested.trees-right.result t.if1.left
-
--- The vertices passed too.
-module _ (t : tie.Else2) where
-  abbrev trees-tested : tie.Else1
-  trees-tested = t.before.before
-
-  vertices-pass : vertices_covered (g (tested trees-tested)) (decode (s (tested trees-tested)).args.c.now) ≡ true
-  vertices-pass = sym t.before.vertices-covered.ensures ∙ not-false t.before.vertices-covered.result t.if2.left
 
 slice-aggregate-trees-right : tie.Need-slice-aggregate-trees-right
 slice-aggregate-trees-right c = search rules
@@ -56,27 +48,15 @@ returns-2 c =
     let t = tested v.before in
     vertex_uncovered (g t) (s t).args.c.now (trees_pass v.before) (sym v.vertices-covered.ensures ∙ not-true v.vertices-covered.result c.if2.true)
 
-times-served-requires : tie.Need-times-served-requires
-times-served-requires c κs = search rules
-
-returns-3 : tie.Need-returns-3
-returns-3 c =
-    let m = c.before in
-    let t = tested (trees-tested m.before) in
-    time_unserved (g t) (s t).args.c.now (trees_pass (trees-tested m.before)) (vertices-pass m.before)
-    (sym m.times-served.ensures ∙ not-true m.times-served.result c.if3.true)
-
 heaviest-tree-requires : tie.Need-heaviest-tree-requires
 heaviest-tree-requires c κs = search rules
 
-returns-4 : tie.Need-returns-4
-returns-4 c =
-    let e = c.before in
-    let m = e.before in
-    let t = tested (trees-tested m.before) in
+returns-3 : tie.Need-returns-3
+returns-3 c =
+    let v = c.before.before in
+    let t = tested v.before in
     ap reply.yes c.heaviest-tree.ensures
-    ∙ all_pass (g t) (s t).args.c.now (trees_pass (trees-tested m.before)) (vertices-pass m.before)
-    (sym m.times-served.ensures ∙ not-false m.times-served.result e.if3.false)
+    ∙ all_pass (g t) (s t).args.c.now (trees_pass v.before) (sym v.vertices-covered.ensures ∙ not-false v.vertices-covered.result c.before.if2.false)
 
 pub check-trees-spec : {M : Type 1} → statement M
 check-trees-spec =
@@ -87,7 +67,5 @@ check-trees-spec =
     returns
     vertices-covered-requires
     returns-2
-    times-served-requires
-    returns-3
     heaviest-tree-requires
-    returns-4)
+    returns-3)

@@ -16,7 +16,7 @@ use Rattle.filed.proofs.parents.join_ends.Tie as tie
 -- What was asked: the ends of the edge are vertices.
 module _ (s : tie.Start) where
   abbrev g : Graph
-  g = graph_of s.args.b.now s.args.classes.now s.args.copies.now
+  g = graph_of s.args.b.now s.args.classes.now
 
   abbrev valid : Valid g
   valid = s.pre.valid
@@ -29,7 +29,7 @@ module _ (s : tie.Start) where
 -- Who stands for one end was found.
 module _ (t : tie.After-stands-for) where
   abbrev start : tie.Start
-  start = let k = t.before.before.before in k.before.before.before.before
+  start = let k = t.before.before.before in k.before.before.before
 
   first : Found (one_end (g start) start.args.e) start.args.parents.now t.stands-for.last.0 t.stands-for.result
   first = rw t.before.one_end.ensures.is at t.stands-for.ensures
@@ -51,7 +51,7 @@ one-end-requires c κs = search rules
 
 stands-for-requires : tie.Need-stands-for-requires
 stands-for-requires c κs =
-    let s = c.before.before.before.before.before.before in
+    let s = c.before.before.before.before.before in
     (omega (arith, below s, c.one_end.ensures.is), s.requires.parented)
 
 other-end-requires : tie.Need-other-end-requires

@@ -14,22 +14,22 @@ use Rattle.filed.proofs.trees.run_joined.Statement.{statement}
 use Rattle.filed.proofs.trees.run_joined.Tie as tie
 
 abbrev invariant-loop : tie.invariant-loop
-invariant-loop b c from to start parents₀ classes copies home i₀ parents i = (from ≤ i) × HeldSoFar (graph_of b classes copies) c from home i parents₀ parents
+invariant-loop b c from to start parents₀ classes home i₀ parents i = (from ≤ i) × HeldSoFar (graph_of b classes) c from home i parents₀ parents
 
 abbrev decreases-loop : tie.decreases-loop
-decreases-loop b c from to start parents₀ classes copies home i₀ parents i = to - i
+decreases-loop b c from to start parents₀ classes home i₀ parents i = to - i
 
 -- Who stands for the start was found, and what was asked.
 abbrev home : tie.At-loop invariant-loop decreases-loop → tie.After-stands-for invariant-loop decreases-loop
 home l = l.before.before.before
 
 abbrev start : tie.At-loop invariant-loop decreases-loop → tie.Start invariant-loop decreases-loop
-start l = let k = (home l).before.before in k.before.before.before.before.before
+start l = let k = (home l).before.before in k.before.before.before.before
 
 -- The graph, and that its vertices are below 256.
 module _ (s : tie.Start invariant-loop decreases-loop) where
   abbrev g : Graph
-  g = graph_of s.args.b.now s.args.classes.now s.args.copies.now
+  g = graph_of s.args.b.now s.args.classes.now
 
   end_below : (e : ℕ) → one_end g e < 256
   end_below e = omega (arith, one_end_below s.pre.1.valid e, s.pre.1.valid.vertices_most)
@@ -58,14 +58,14 @@ module _ (t : tie.After-stands-for2 invariant-loop decreases-loop) where
 
 stands-for-requires : tie.Need-stands-for-requires invariant-loop decreases-loop
 stands-for-requires c κs =
-    let k = c.before.before.before.before.before.before in
+    let k = c.before.before.before.before.before in
     (start-below k, k.requires.1.parented)
 
 loop-holds : tie.Need-loop-init invariant-loop decreases-loop
 loop-holds c =
     let f = c.before.before in
     let k = f.before.before.before in
-    let b = k.before.before.before.before in
+    let b = k.before.before.before in
     (omega arith, held_none (g b) b.args.c.now b.args.from (start-below b) f.stands-for.ensures)
 
 entry-edge-requires : tie.Need-entry-edge-requires invariant-loop decreases-loop

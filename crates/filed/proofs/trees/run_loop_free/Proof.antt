@@ -12,17 +12,17 @@ use Rattle.filed.proofs.trees.run_loop_free.Statement.{statement}
 use Rattle.filed.proofs.trees.run_loop_free.Tie as tie
 
 abbrev invariant-loop : tie.invariant-loop
-invariant-loop b c from to parents₀ classes copies i₀ parents i = RunSoFar (graph_of b classes copies) c from to i parents₀ parents
+invariant-loop b c from to parents₀ classes i₀ parents i = RunSoFar (graph_of b classes) c from to i parents₀ parents
 
 abbrev decreases-loop : tie.decreases-loop
-decreases-loop b c from to parents₀ classes copies i₀ parents i = to - i
+decreases-loop b c from to parents₀ classes i₀ parents i = to - i
 
 -- Where the loop began, and the graph.
 abbrev start : tie.At-loop invariant-loop decreases-loop → tie.Start invariant-loop decreases-loop
-start l = l.before.before.before.before.before.before
+start l = l.before.before.before.before.before
 
 abbrev g : tie.Start invariant-loop decreases-loop → Graph
-g s = graph_of s.args.b.now s.args.classes.now s.args.copies.now
+g s = graph_of s.args.b.now s.args.classes.now
 
 -- In a turn, the ends of the entry's edge were joined where they were not.
 module _ (t : tie.After-join-ends invariant-loop decreases-loop) where
@@ -37,7 +37,7 @@ module _ (t : tie.After-join-ends invariant-loop decreases-loop) where
 
 loop-holds : tie.Need-loop-init invariant-loop decreases-loop
 loop-holds c =
-    let s = c.before.before.before.before.before in
+    let s = c.before.before.before.before in
     run_start (g s) s.args.c.now s.args.from s.args.to s.requires.0 s.requires.1.parented
 
 entry-edge-requires : tie.Need-entry-edge-requires invariant-loop decreases-loop

@@ -15,10 +15,10 @@ use Rattle.filed.proofs.trees.tree_right.Tie as tie
 -- Nothing is joined.
 module _ (t : tie.After-set-apart) where
   abbrev s : tie.Start
-  s = let k = t.before.before in k.before.before.before.before.before
+  s = let k = t.before.before in k.before.before.before.before
 
   abbrev g : Graph
-  g = graph_of s.args.b.now s.args.classes.now s.args.copies.now
+  g = graph_of s.args.b.now s.args.classes.now
 
   room : length t.set_apart.last.0 ≡ 256
   room = t.set_apart.kept.0 ∙ s.pre.room

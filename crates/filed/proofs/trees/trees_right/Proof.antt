@@ -20,18 +20,18 @@ use Rattle.filed.proofs.trees.trees_right.Statement.{statement}
 use Rattle.filed.proofs.trees.trees_right.Tie as tie
 
 abbrev invariant-loop : tie.invariant-loop
-invariant-loop b c parents₀ classes copies t from₀ j₀ parents from j =
-    (length parents ≡ length parents₀) × BeginsAt c j from × ((k : ℕ) → k < j → tree_right (graph_of b classes copies) (tree_in c k) ≡ true)
+invariant-loop b c parents₀ classes t from₀ j₀ parents from j =
+    (length parents ≡ length parents₀) × BeginsAt c j from × ((k : ℕ) → k < j → tree_right (graph_of b classes) (tree_in c k) ≡ true)
 
 abbrev decreases-loop : tie.decreases-loop
-decreases-loop b c parents₀ classes copies t from₀ j₀ parents from j = t - j
+decreases-loop b c parents₀ classes t from₀ j₀ parents from j = t - j
 
 -- Where the loop began, and the graph.
 abbrev start : tie.At-loop invariant-loop decreases-loop → tie.Start invariant-loop decreases-loop
-start l = let t = l.before in t.before.before.before.before.before.before
+start l = let t = l.before in t.before.before.before.before.before
 
 abbrev g : tie.Start invariant-loop decreases-loop → Graph
-g s = graph_of s.args.b.now s.args.classes.now s.args.copies.now
+g s = graph_of s.args.b.now s.args.classes.now
 
 -- In a turn, tree j was tested: the answer is that of the tree of the bytes.
 module _ (t : tie.After-tree-right invariant-loop decreases-loop) where
@@ -58,7 +58,7 @@ trees-in-requires c κs = tt
 
 loop-holds : tie.Need-loop-init invariant-loop decreases-loop
 loop-holds c =
-    let s = c.before.before.before.before.before.before in
+    let s = c.before.before.before.before.before in
     (omega arith, begins_first s.args.c.now (edge_count (g s)) s.requires.cover.entries, below_none _)
 
 run-end-requires : tie.Need-run-end-requires invariant-loop decreases-loop

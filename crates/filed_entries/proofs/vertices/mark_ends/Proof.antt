@@ -15,20 +15,20 @@ use Rattle.filed_entries.proofs.vertices.mark_ends.Statement.{statement}
 use Rattle.filed_entries.proofs.vertices.mark_ends.Tie as tie
 
 abbrev invariant-loop : tie.invariant-loop
-invariant-loop b c marks₀ classes copies q i₀ marks i = (length marks ≡ length marks₀) × EndsMarked (graph_of b classes copies) c i marks₀ marks
+invariant-loop b c marks₀ classes q i₀ marks i = (length marks ≡ length marks₀) × EndsMarked (graph_of b classes) c i marks₀ marks
 
 abbrev decreases-loop : tie.decreases-loop
-decreases-loop b c marks₀ classes copies q i₀ marks i = q - i
+decreases-loop b c marks₀ classes q i₀ marks i = q - i
 
 -- The graph.
 abbrev g : tie.Start invariant-loop decreases-loop → Graph
-g s = graph_of s.args.b.now s.args.classes.now s.args.copies.now
+g s = graph_of s.args.b.now s.args.classes.now
 
 entries-in-requires : tie.Need-entries-in-requires invariant-loop decreases-loop
 entries-in-requires c κs = tt
 
 loop-holds : tie.Need-loop-init invariant-loop decreases-loop
-loop-holds c = let s = c.before.before.before.before.before.before in (refl, ends_none (g s) s.args.c.now s.args.marks.now)
+loop-holds c = let s = c.before.before.before.before.before in (refl, ends_none (g s) s.args.c.now s.args.marks.now)
 
 entry-edge-requires : tie.Need-entry-edge-requires invariant-loop decreases-loop
 entry-edge-requires c κs = tt
@@ -45,7 +45,7 @@ module _ (t : tie.After-other-end invariant-loop decreases-loop) where
   turn = t.before.before.before.before
 
   abbrev s : tie.Start invariant-loop decreases-loop
-  s = let k = turn.before in k.before.before.before.before.before.before
+  s = let k = turn.before in k.before.before.before.before.before
 
   abbrev e : ℕ
   e = entry_edge s.args.c.now turn.loop.i

@@ -13,14 +13,14 @@ use Rattle.filed_entries.proofs.vertices.vertices_covered.Tie as tie
 
 -- The graph.
 abbrev g : tie.Start → Graph
-g s = graph_of s.args.b.now s.args.classes.now s.args.copies.now
+g s = graph_of s.args.b.now s.args.classes.now
 
 slice-aggregate-mark-starts : tie.Need-slice-aggregate-mark-starts
 slice-aggregate-mark-starts c = search rules
 
 mark-starts-requires : tie.Need-mark-starts-requires
 mark-starts-requires c κs =
-    let s = c.before.before.before.before.before in
+    let s = c.before.before.before.before in
     λ j h. omega (arith, start_passed s.args.c.now (g s).vertices s.requires.starts j h, s.requires.valid.vertices_most)
 
 slice-aggregate-mark-ends : tie.Need-slice-aggregate-mark-ends
@@ -42,7 +42,7 @@ returns : tie.Need-returns
 returns c =
     let ends = c.before.before.before.before in
     let starts = ends.before.before.before in
-    let s = starts.before.before.before.before.before.before in
+    let s = starts.before.before.before.before.before in
     all_marked_covered (g s) s.args.c.now (replicate 256 0) _ _ (λ v q. omega (arith, q, zeros_at 256 v)) starts.mark-starts.ensures ends.mark-ends.ensures
     (passed_tree (edge_count (g s)) s.args.c.now s.requires.entries) c.all-marked.result (rw c.before.vertex-count.ensures.is at c.all-marked.ensures)
 

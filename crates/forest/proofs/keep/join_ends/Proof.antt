@@ -12,14 +12,11 @@ use Rattle.forest.proofs.keep.join_ends.Tie as tie
 
 -- Where both ends are read: the graph, and that the ends are vertices, so that each has a label.
 module _ (k : tie.After-other-end) where
-  abbrev counted : tie.After-edge-count
-  counted = k.before.before
-
   abbrev start : tie.Start
-  start = counted.before.before.before.before.before.before
+  start = k.before.before.before.before.before
 
   abbrev g : Graph
-  g = graph_of start.args.b.now start.args.classes.now start.args.copies.now
+  g = graph_of start.args.b.now start.args.classes.now
 
   valid : Valid g
   valid = start.pre.valid
@@ -31,12 +28,6 @@ module _ (k : tie.After-other-end) where
 -- Where the labels differ: the ends as they were read.
 abbrev ends : tie.Else1 → tie.After-other-end
 ends t = t.before.before.before
-
-vertex-count-requires : tie.Need-vertex-count-requires
-vertex-count-requires c κs = search rules
-
-edge-count-requires : tie.Need-edge-count-requires
-edge-count-requires c κs = search rules
 
 one-end-requires : tie.Need-one-end-requires
 one-end-requires c κs = search rules
@@ -51,7 +42,7 @@ slice-read-if1 : tie.Need-slice-read-if1
 slice-read-if1 c = omega (arith, ends-below c.before)
 
 mul-if1-2 : tie.Need-overflow-mul-if1-2
-mul-if1-2 c = let k = c.before in omega (arith, ends-below k, (valid k).vertices_most)
+mul-if1-2 c = search rules
 
 slice-read-if1-2 : tie.Need-slice-read-if1-2
 slice-read-if1-2 c = omega (arith, ends-below c.before.before)
@@ -62,8 +53,11 @@ returns c =
     joined_already (valid k) (start k).args.e k.before.one_end.ensures.is k.other-end.ensures.is (start k).args.label.now
     c.if1.true
 
+vertex-count-requires : tie.Need-vertex-count-requires
+vertex-count-requires c κs = search rules
+
 merge-labels-requires : tie.Need-merge-labels-requires
-merge-labels-requires c κs = omega (arith, ends-below (ends c.before))
+merge-labels-requires c κs = omega (arith, ends-below (ends c.before.before))
 
 same_length : tie.Need-same-length
 same_length c = search rules
@@ -71,16 +65,15 @@ same_length c = search rules
 returns-2 : tie.Need-returns-2
 returns-2 c =
     let m = c.before.before in
-    let k = ends m.before.before in
+    let counted = m.before.before in
+    let k = ends counted.before in
     joined_now (valid k) (start k).args.e k.before.one_end.ensures.is k.other-end.ensures.is (start k).args.label.now
-    m.before.before.if1.false (counted k).before.vertex-count.ensures.is m.merge-labels.ensures
+    counted.before.if1.false counted.vertex-count.ensures.is m.merge-labels.ensures
 
 pub join-ends-spec : {M : Type 1} → statement M
 join-ends-spec =
     tie.close
     (tie.spec
-    vertex-count-requires
-    edge-count-requires
     one-end-requires
     other-end-requires
     mul-if1
@@ -88,6 +81,7 @@ join-ends-spec =
     mul-if1-2
     slice-read-if1-2
     returns
+    vertex-count-requires
     merge-labels-requires
     same_length
     returns-2)

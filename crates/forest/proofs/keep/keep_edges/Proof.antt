@@ -13,18 +13,18 @@ use Rattle.forest.proofs.keep.keep_edges.Statement.{statement}
 use Rattle.forest.proofs.keep.keep_edges.Tie as tie
 
 abbrev invariant-loop : tie.invariant-loop
-invariant-loop b edges label₀ kept₀ classes copies r₀ i₀ label kept r i = (i ≤ length edges) × Taking (graph_of b classes copies) edges i label₀ label kept₀ kept r
+invariant-loop b edges label₀ kept₀ classes r₀ i₀ label kept r i = (i ≤ length edges) × Taking (graph_of b classes) edges i label₀ label kept₀ kept r
 
 abbrev decreases-loop : tie.decreases-loop
-decreases-loop b edges label₀ kept₀ classes copies r₀ i₀ label kept r i = length edges - i
+decreases-loop b edges label₀ kept₀ classes r₀ i₀ label kept r i = length edges - i
 
 -- Where a turn begins: the graph, and room for one edge more.
 module _ (t : tie.At-loop invariant-loop decreases-loop) where
   abbrev start : tie.Start invariant-loop decreases-loop
-  start = t.before.before.before.before.before.before.before
+  start = t.before.before.before.before.before.before
 
   abbrev g : Graph
-  g = graph_of start.args.b.now start.args.classes.now start.args.copies.now
+  g = graph_of start.args.b.now start.args.classes.now
 
   valid : Valid g
   valid = start.pre.labelable.valid

@@ -16,7 +16,7 @@ returns : tie.Need-returns
 unfolding confirmed
 returns c =
     let k = c.before in
-    let s = k.before.before.before.before.before.before in
+    let s = k.before.before.before.before.before in
     c.is-yes.ensures ∙ ap (λ v. is_yes v s.args.heaviest) k.check.ensures.rule
 
 pub confirms-spec : {M : Type 1} → statement M

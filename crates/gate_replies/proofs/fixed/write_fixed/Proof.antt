@@ -1,30 +1,16 @@
 -- `gate_replies::fixed::write_fixed` meets its contract, reply by reply.
 -- Assumes nothing.
-use types.Run.{miss}
 use Rattle.lists.specs.Lists.{flat}
-use Rattle.graph.specs.Graph.{Graph}
-use Rattle.rules.specs.Questions.{graph_in}
-use Rattle.admit.specs.Crews.{asks_with}
 use Rattle.reply_text.specs.Lines.{all_spaced, ended, line}
 use Rattle.reply_text.proofs.CoverSaid.{cover_inside}
-use Rattle.gate_replies.proofs.FullReplies.{others}
-use Rattle.gate_replies.proofs.ShortTexts.{Short, short_other, short_asked, short_written}
 use Rattle.gate_replies.proofs.FixedReplies.{fixed_cover, fixed_parts, fixed_other}
 use borrow.Author.Rules.{rules}
 use Rattle.gate_replies.proofs.fixed.write_fixed.Statement.{statement}
 use Rattle.gate_replies.proofs.fixed.write_fixed.Tie as tie
 
 -- The entry, seen from where the lengths are known.
-abbrev start : tie.After-shared-slice-known5 → tie.Start
-start c = c.before.before.before.before.before.before
-
--- The graph that the question is about.
-abbrev asked : tie.Start → Graph
-asked s = let a = s.args in graph_in (asks_with a.kind a.k a.b.now a.lists a.classes.now a.vans.now a.times.now)
-
--- Where the reply is neither a cover nor parts.
-short : (m : tie.At-match-keys3) → Short (start m.before).args.reply
-short m = short_other others (miss others 1 tt) (start m.before).args.reply m.match.keys3
+abbrev start : tie.After-shared-slice-known4 → tie.Start
+start c = c.before.before.before.before.before
 
 enum-known-reply : tie.Need-enum-known-reply
 enum-known-reply c = search rules
@@ -74,17 +60,11 @@ returns-2 c =
     let k = w.before.before.before in
     fixed_parts k.enum_told.given.1 w.put_word.ensures
 
-slice-aggregate-write-reply : tie.Need-slice-aggregate-write-reply
-slice-aggregate-write-reply c = search rules
-
-slice-aggregate-write-reply-2 : tie.Need-slice-aggregate-write-reply-2
-slice-aggregate-write-reply-2 c = search rules
+read-list-requires : tie.Need-read-list-requires
+read-list-requires c κs = search rules
 
 write-reply-requires : tie.Need-write-reply-requires
-write-reply-requires c κs =
-    let m = c.before.before.before in
-    let s = start m.before in
-    short_asked s.args.reply (short m) (asked s) _ s.pre
+write-reply-requires c κs = rw c.read-list.ensures (start c.before.before.before).requires
 
 same-length-3 : tie.Need-same-length-3
 same-length-3 c = search rules
@@ -92,9 +72,9 @@ same-length-3 c = search rules
 returns-3 : tie.Need-returns-3
 returns-3 c =
     let w = c.before.before in
-    let m = let d = w.before.before in d.before.before in
-    let s = start m.before in
-    fixed_other s.args.reply m.match.keys3 (short_written s.args.reply (short m) _ (asked s) w.write-reply.ensures)
+    let l = w.before in
+    let m = l.before.before in
+    fixed_other (start m.before).args.reply m.match.keys3 (rw l.read-list.ensures at w.write-reply.ensures)
 
 pub write-fixed-spec : {M : Type 1} → statement M
 write-fixed-spec =
@@ -112,8 +92,7 @@ write-fixed-spec =
     put-word-requires
     same-length-2
     returns-2
-    slice-aggregate-write-reply
-    slice-aggregate-write-reply-2
+    read-list-requires
     write-reply-requires
     same-length-3
     returns-3)

@@ -13,10 +13,10 @@ use Rattle.near.proofs.held.near_piece.Statement.{statement}
 use Rattle.near.proofs.held.near_piece.Tie as tie
 
 abbrev invariant-loop : tie.invariant-loop
-invariant-loop b near start edges classes copies n m word₀ i₀ word i = Joining (graph_of b classes copies) near start edges i word
+invariant-loop b near start edges classes word₀ i₀ word i = Joining (graph_of b classes) near start edges i word
 
 abbrev decreases-loop : tie.decreases-loop
-decreases-loop b near start edges classes copies n m word₀ i₀ word i = length edges - i
+decreases-loop b near start edges classes word₀ i₀ word i = length edges - i
 
 -- Where the ends of an edge were read: what came, and that each end has a word.
 module _ (o : tie.After-other-end invariant-loop decreases-loop) where
@@ -27,10 +27,10 @@ module _ (o : tie.After-other-end invariant-loop decreases-loop) where
   l = turn.before
 
   abbrev s : tie.Start invariant-loop decreases-loop
-  s = let d = l.before.before.before.before in d.before.before.before.before.before
+  s = l.before.before.before.before.before.before
 
   abbrev g : Graph
-  g = graph_of s.args.b.now s.args.classes.now s.args.copies.now
+  g = graph_of s.args.b.now s.args.classes.now
 
   abbrev e : ℕ
   e = get_or s.args.edges.now l.loop.i 0
@@ -46,15 +46,6 @@ module _ (o : tie.After-other-end invariant-loop decreases-loop) where
 
   other-inside : o.other-end.result < length s.args.near.now
   other-inside = omega (arith, other, other_end_below s.pre.given.valid e, s.pre.given.room)
-
-  other-small : o.other-end.result < 256
-  other-small = omega (arith, other, other_end_below s.pre.given.valid e, s.pre.given.valid.vertices_most)
-
-vertex-count-requires : tie.Need-vertex-count-requires invariant-loop decreases-loop
-vertex-count-requires c κs = search rules
-
-edge-count-requires : tie.Need-edge-count-requires invariant-loop decreases-loop
-edge-count-requires c κs = search rules
 
 mul-word : tie.Need-overflow-mul-word invariant-loop decreases-loop
 mul-word c = search rules
@@ -87,7 +78,7 @@ shared-slice-read-word-2 : tie.Need-shared-slice-read-word-2 invariant-loop decr
 shared-slice-read-word-2 c = one_inside c.before
 
 mul-word-3 : tie.Need-overflow-mul-word-3 invariant-loop decreases-loop
-mul-word-3 c = omega (arith, other-small c.before)
+mul-word-3 c = omega (arith, c.before.other-end.ensures.small)
 
 shared-slice-read-word-3 : tie.Need-shared-slice-read-word-3 invariant-loop decreases-loop
 shared-slice-read-word-3 c = other-inside c.before.before
@@ -112,8 +103,6 @@ near-piece-spec =
     (tie.spec
     invariant-loop
     decreases-loop
-    vertex-count-requires
-    edge-count-requires
     mul-word
     shared-slice-read-word
     loop-holds

@@ -19,10 +19,10 @@ use Rattle.near.proofs.held.near_pieces.Statement.{statement}
 use Rattle.near.proofs.held.near_pieces.Tie as tie
 
 abbrev invariant-loop : tie.invariant-loop
-invariant-loop b near starts cuts members places words₀ classes copies i₀ words i = Wording (graph_of b classes copies) near starts cuts members places i words₀ words
+invariant-loop b near starts cuts members places words₀ classes i₀ words i = Wording (graph_of b classes) near starts cuts members places i words₀ words
 
 abbrev decreases-loop : tie.decreases-loop
-decreases-loop b near starts cuts members places words₀ classes copies i₀ words i = length places - i
+decreases-loop b near starts cuts members places words₀ classes i₀ words i = length places - i
 
 -- The start and the edges that were read are those of tree c.
 the-tree : (starts cuts members : List ℕ) (c : ℕ) {g : Graph} {near edges : List ℕ} {start word : ℕ} → start ≡ get_or starts c 0 → edges ≡ segment cuts members c
@@ -37,12 +37,12 @@ module _ (t : tie.In-loop invariant-loop decreases-loop) where
   l = t.before
 
   abbrev s : tie.Start invariant-loop decreases-loop
-  s = let x = l.before.before.before.before in x.before.before.before.before.before.before
+  s = let x = l.before.before.before.before in x.before.before.before.before.before
 
   abbrev c₀ : ℕ
   c₀ = get_or s.args.places.now l.loop.i 0
 
-  tree : TreeHeld (graph_of s.args.b.now s.args.classes.now s.args.copies.now).vertices s.args.starts.now s.args.cuts.now s.args.members.now c₀
+  tree : TreeHeld (graph_of s.args.b.now s.args.classes.now).vertices s.args.starts.now s.args.cuts.now s.args.members.now c₀
   tree = s.pre.trees l.loop.i t.loop-test.taken
 
   room : l.loop.i < length l.loop.words

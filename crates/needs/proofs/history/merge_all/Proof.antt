@@ -17,19 +17,19 @@ use Rattle.needs.proofs.history.merge_all.Statement.{statement}
 use Rattle.needs.proofs.history.merge_all.Tie as tie
 
 abbrev invariant-loop : tie.invariant-loop
-invariant-loop b kept label₀ made₀ total₀ until₀ classes copies i₀ label made total until i =
-    Recorded (graph_of b classes copies) kept i label made total until × Sizes (graph_of b classes copies).vertices (length kept + 1) label₀ made₀ total₀ until₀ label made total until
+invariant-loop b kept label₀ made₀ total₀ until₀ classes i₀ label made total until i =
+    Recorded (graph_of b classes) kept i label made total until × Sizes (graph_of b classes).vertices (length kept + 1) label₀ made₀ total₀ until₀ label made total until
 
 abbrev decreases-loop : tie.decreases-loop
-decreases-loop b kept label₀ made₀ total₀ until₀ classes copies i₀ label made total until i = length kept - i
+decreases-loop b kept label₀ made₀ total₀ until₀ classes i₀ label made total until i = length kept - i
 
 -- Where a turn begins: what was given, and the lengths of the arrays, which stay.
 module _ (t : tie.At-loop invariant-loop decreases-loop) where
   abbrev start : tie.Start invariant-loop decreases-loop
-  start = t.before.before.before.before.before.before.before.before.before
+  start = t.before.before.before.before.before.before.before.before
 
   abbrev g : Graph
-  g = graph_of start.args.b.now start.args.classes.now start.args.copies.now
+  g = graph_of start.args.b.now start.args.classes.now
 
   valid : Valid g
   valid = start.pre.history.forest_kept.valid
@@ -57,9 +57,9 @@ turn w = w.before.before.before
 
 loop-holds : tie.Need-loop-init invariant-loop decreases-loop
 loop-holds c =
-    let s = c.before.before.before.before.before.before.before.before in
+    let s = c.before.before.before.before.before.before.before in
     let a = s.args in (
-      recorded_none (graph_of a.b.now a.classes.now a.copies.now) a.kept.now a.label.now a.made.now a.total.now a.until.now s.requires.labels s.requires.made_none s.requires.none,
+      recorded_none (graph_of a.b.now a.classes.now) a.kept.now a.label.now a.made.now a.total.now a.until.now s.requires.labels s.requires.made_none s.requires.none,
       record {
         labels = refl;
         mades = refl;

@@ -14,9 +14,9 @@ use Rattle.needs.proofs.history.merge_edge.Tie as tie
 -- Where an end of the edge is read: what was given.
 module _ (c : tie.After-one-end) where
   abbrev first : tie.Start
-  first = c.before.before.before.before.before.before.before.before
+  first = c.before.before.before.before.before.before.before
 
-  one_inside : c.one_end.result < (graph_of first.args.b.now first.args.classes.now first.args.copies.now).vertices
+  one_inside : c.one_end.result < (graph_of first.args.b.now first.args.classes.now).vertices
   one_inside = omega (arith, c.one_end.ensures.is, one_end_below first.pre.labelable.valid first.args.e)
 
 -- Where the other end is.
@@ -24,7 +24,7 @@ module _ (c : tie.After-other-end) where
   abbrev one-read : tie.After-one-end
   one-read = c.before.before.before
 
-  other-inside : c.other-end.result < (graph_of (first one-read).args.b.now (first one-read).args.classes.now (first one-read).args.copies.now).vertices
+  other-inside : c.other-end.result < (graph_of (first one-read).args.b.now (first one-read).args.classes.now).vertices
   other-inside = omega (arith, c.other-end.ensures.is, other_end_below (first one-read).pre.labelable.valid (first one-read).args.e)
 
 -- Where all is read: both labels.
@@ -36,7 +36,7 @@ module _ (w : tie.After-weight) where
   start = first (one-read other_end)
 
   abbrev g : Graph
-  g = graph_of start.args.b.now start.args.classes.now start.args.copies.now
+  g = graph_of start.args.b.now start.args.classes.now
 
   one_label : other_end.before.wide.result ≡ get_or start.args.label.now (one_end g start.args.e) 0
   one_label = other_end.before.wide.ensures.is ∙ ap (λ v. get_or start.args.label.now v 0) (one-read other_end).one_end.ensures.is
@@ -60,7 +60,7 @@ other-end-requires : tie.Need-other-end-requires
 other-end-requires c κs = search rules
 
 mul-wide-2 : tie.Need-overflow-mul-wide-2
-mul-wide-2 c = record { fits = omega (arith, other-inside c, (first (one-read c)).pre.labelable.valid.vertices_most) }
+mul-wide-2 c = search rules
 
 slice-read-wide-2 : tie.Need-slice-read-wide-2
 slice-read-wide-2 c = let s = first (one-read c.before) in omega (arith, other-inside c.before, s.pre.labelable.room)

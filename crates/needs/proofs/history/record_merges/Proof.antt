@@ -12,7 +12,7 @@ use Rattle.needs.proofs.history.record_merges.Tie as tie
 
 -- Where all vertices are apart: what was given.
 abbrev start : tie.After-start-labels → tie.Start
-start l = l.before.before.before.before.before.before.before.before.before.before
+start l = l.before.before.before.before.before.before.before.before.before
 
 -- Where the merges are recorded, and where all vertices were apart before.
 abbrev merged : tie.After-slice-known4 → tie.After-merge-all

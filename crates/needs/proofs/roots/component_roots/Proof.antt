@@ -25,7 +25,7 @@ lowest-of-each-requires : tie.Need-lowest-of-each-requires
 lowest-of-each-requires c κs =
     let v = c.before in
     let l = v.before.before.before in
-    let s = let d = l.before.before.before.before in d.before.before.before.before in
+    let s = let d = l.before.before.before.before in d.before.before.before in
     let count = v.vertex-count.ensures.is in
     record {
       most = omega (arith, count, s.pre.valid.vertices_most);

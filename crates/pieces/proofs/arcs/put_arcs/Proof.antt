@@ -12,7 +12,7 @@ use Rattle.pieces.proofs.arcs.put_arcs.Tie as tie
 -- Where the edges rise.
 module _ (r : tie.After-sweep-edges) where
   abbrev s : tie.Start
-  s = let d = r.before.before.before.before in d.before.before.before.before.before
+  s = let d = r.before.before.before.before in d.before.before.before.before
 
   abbrev rises : take r.sweep-edges.result r.sweep-edges.last.1.1.0 ≡ rise s.args.edges.now
   rises = put_taken r.sweep-edges.ensures
@@ -26,7 +26,7 @@ slice-aggregate-sweep-edges c = search rules
 sweep-edges-requires : tie.Need-sweep-edges-requires
 sweep-edges-requires c κs =
     let n = c.before in
-    let a = let d = n.before.before.before in d.before.before.before.before.requires in
+    let a = let d = n.before.before.before in d.before.before.before.requires in
     record {
       once = a.once;
       inside = λ e m. omega (arith, a.inside e m, n.IsEdge-count.ensures.is);

@@ -10,10 +10,10 @@ use Rattle.pieces.proofs.whole.join_all.Statement.{statement}
 use Rattle.pieces.proofs.whole.join_all.Tie as tie
 
 abbrev invariant-loop : tie.invariant-loop
-invariant-loop b edges label₀ classes copies i₀ label i = Joining (graph_of b classes copies) edges i label₀ label
+invariant-loop b edges label₀ classes i₀ label i = Joining (graph_of b classes) edges i label₀ label
 
 abbrev decreases-loop : tie.decreases-loop
-decreases-loop b edges label₀ classes copies i₀ label i = length edges - i
+decreases-loop b edges label₀ classes i₀ label i = length edges - i
 
 loop-holds : tie.Need-loop-init invariant-loop decreases-loop
 loop-holds c = joining_none _

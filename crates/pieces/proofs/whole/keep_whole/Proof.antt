@@ -12,7 +12,7 @@ start-labels-requires c κs = search rules
 
 keep-edges-requires : tie.Need-keep-edges-requires
 keep-edges-requires c κs =
-    let s = let d = c.before.before.before.before.before.before in d.before.before.before.before.before.before.before.before in
+    let s = let d = c.before.before.before.before.before.before in d.before.before.before.before.before.before.before in
     record { labelable = record { valid = s.pre.keepable.labelable.valid; room = search rules }; room = search rules }
 
 same_length : tie.Need-same-length
@@ -30,7 +30,7 @@ module _ (k : tie.After-keep-edges) where
   counted = started.before.before
 
   abbrev start : tie.Start
-  start = counted.before.before.before.before.before.before.before.before
+  start = counted.before.before.before.before.before.before.before
 
 returns : tie.Need-returns
 returns c =

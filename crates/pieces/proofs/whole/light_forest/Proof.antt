@@ -4,7 +4,7 @@ use Rattle.pieces.proofs.whole.light_forest.Statement.{statement}
 use Rattle.pieces.proofs.whole.light_forest.Tie as tie
 
 light-count-requires : tie.Need-light-count-requires
-light-count-requires c κs = whole_by_weight c.before.before.before.before.requires
+light-count-requires c κs = whole_by_weight c.before.before.before.requires
 
 returns : tie.Need-returns
 returns c = light_forest c.light-count.ensures

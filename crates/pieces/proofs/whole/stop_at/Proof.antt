@@ -20,7 +20,7 @@ wide-requires c κs = search rules
 
 -- Where the first root is read: what was asked.
 abbrev start : tie.After-wide → tie.Start
-start w = let d = w.before.before.before.before.before.before in d.before.before.before.before.before.before.before.before
+start w = let d = w.before.before.before.before.before.before in d.before.before.before.before.before.before.before
 
 lowest-unjoined-requires : tie.Need-lowest-unjoined-requires
 lowest-unjoined-requires c κs =

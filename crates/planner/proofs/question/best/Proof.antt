@@ -10,9 +10,6 @@ slice-aggregate-ask c = search rules
 slice-aggregate-ask-2 : tie.Need-slice-aggregate-ask-2
 slice-aggregate-ask-2 c = search rules
 
-slice-aggregate-ask-3 : tie.Need-slice-aggregate-ask-3
-slice-aggregate-ask-3 c = search rules
-
 ask-requires : tie.Need-ask-requires
 ask-requires c κs = search rules
 
@@ -24,5 +21,4 @@ returns c = best_promised c.before.before.ask.ensures
 
 pub best-spec : {M : Type 1} → statement M
 best-spec =
-    tie.close
-    (tie.spec slice-aggregate-ask slice-aggregate-ask-2 slice-aggregate-ask-3 ask-requires same_length returns)
+    tie.close (tie.spec slice-aggregate-ask slice-aggregate-ask-2 ask-requires same_length returns)

@@ -15,10 +15,10 @@ use Rattle.planner.proofs.question.test.Tie as tie
 
 -- The question was tested for what every question brings,
 abbrev start : tie.After-admit → tie.Start
-start t = t.before.before.before.before.before
+start t = t.before.before.before.before
 
 abbrev q : tie.After-admit → Question
-q t = let a = (start t).args in asks_with a.kind a.k a.b.now a.lists a.classes.now a.vans.now a.times.now
+q t = let a = (start t).args in asks_with a.kind a.k a.b.now a.lists a.classes.now a.vans.now
 
 -- and nothing of that is refused,
 module _ (e : tie.After-enum-told) where

@@ -5,7 +5,7 @@ use mathlib.Core.Path.{◌≡◌, refl, sym, ◌∙◌}
 use mathlib.Core.Bool.{false}
 use lib.ListN.{length}
 use Rattle.rules.specs.Questions.{unknown}
-use Rattle.question.proofs.Asked.{known_long, sheet_is, can_print, unknown_answered, known_answered}
+use Rattle.question.proofs.Asked.{known_long, sheet_is, unknown_answered, known_answered}
 use borrow.Author.Rules.{rules}
 use Rattle.question.proofs.question.answer_in.Statement.{statement}
 use Rattle.question.proofs.question.answer_in.Tie as tie
@@ -60,15 +60,8 @@ reply-to-requires c κs = search rules
 slice-aggregate-write-reply : tie.Need-slice-aggregate-write-reply
 slice-aggregate-write-reply c = search rules
 
-slice-aggregate-write-reply-2 : tie.Need-slice-aggregate-write-reply-2
-slice-aggregate-write-reply-2 c = search rules
-
 write-reply-requires : tie.Need-write-reply-requires
-write-reply-requires c κs =
-    let p = c.before.before.before.before.before.before in
-    let e = p.before.before.before in
-    let n = e.before.before.before in
-    can_print _ _ _ p.reply-to.ensures (start n).requires.enough
+write-reply-requires c κs = search rules
 
 same-length-2 : tie.Need-same-length-2
 same-length-2 c = search rules
@@ -79,7 +72,7 @@ same-length-3 c = search rules
 returns-2 : tie.Need-returns-2
 returns-2 c =
     let w = c.before.before in
-    let k = w.before.before.before.before.before in
+    let k = w.before.before.before.before in
     let p = k.before.before in
     let e = p.before.before.before in
     let n = e.before.before.before in
@@ -106,7 +99,6 @@ answer-in-spec =
     part-b-end
     reply-to-requires
     slice-aggregate-write-reply
-    slice-aggregate-write-reply-2
     write-reply-requires
     same-length-2
     same-length-3

@@ -16,23 +16,23 @@ use Rattle.reply_text.proofs.reply.write_cover.Tie as tie
 -- The text, from its parts on. Nothing is put yet.
 module _ (s : tie.Start) where
   abbrev limit-on : List ℕ
-  limit-on = text.fromLimit (graph_of s.args.b.now s.args.classes.now s.args.copies.now) s.args.limit s.args.heaviest s.args.t s.args.c.now
+  limit-on = text.fromLimit (graph_of s.args.b.now s.args.classes.now) s.args.limit s.args.heaviest s.args.t s.args.c.now
 
   abbrev heaviest-on : List ℕ
-  heaviest-on = text.fromHeaviest (graph_of s.args.b.now s.args.classes.now s.args.copies.now) s.args.limit s.args.heaviest s.args.t s.args.c.now
+  heaviest-on = text.fromHeaviest (graph_of s.args.b.now s.args.classes.now) s.args.limit s.args.heaviest s.args.t s.args.c.now
 
   abbrev count-on : List ℕ
-  count-on = text.fromCount (graph_of s.args.b.now s.args.classes.now s.args.copies.now) s.args.limit s.args.heaviest s.args.t s.args.c.now
+  count-on = text.fromCount (graph_of s.args.b.now s.args.classes.now) s.args.limit s.args.heaviest s.args.t s.args.c.now
 
   abbrev trees : List ℕ
-  trees = text.trees (graph_of s.args.b.now s.args.classes.now s.args.copies.now) s.args.limit s.args.heaviest s.args.t s.args.c.now
+  trees = text.trees (graph_of s.args.b.now s.args.classes.now) s.args.limit s.args.heaviest s.args.t s.args.c.now
 
   abbrev whole : List ℕ
   whole = bytes_of "cover" ++ limit-on
 
   room : 0 + length whole ≤ length s.args.out.now
   room =
-      text.cover_room (graph_of s.args.b.now s.args.classes.now s.args.copies.now) s.args.limit s.args.heaviest s.args.t s.args.c.now (omega (arith, s.fits.limit))
+      text.cover_room (graph_of s.args.b.now s.args.classes.now) s.args.limit s.args.heaviest s.args.t s.args.c.now (omega (arith, s.fits.limit))
       (omega (arith, s.fits.heaviest)) (omega (arith, s.fits.t)) s.pre.fits
 
   begun : PutSoFar 0 whole whole s.args.out.now s.args.out.now 0
@@ -41,7 +41,7 @@ module _ (s : tie.Start) where
 -- The word is put.
 module _ (c : tie.After-put-word) where
   abbrev start : tie.Start
-  start = let k = c.before.before.before in k.before.before.before.before.before
+  start = let k = c.before.before.before in k.before.before.before.before
 
   word-put : PutSoFar 0 (whole start) (limit-on start) start.args.out.now c.put_word.new.1.0 c.put_word.result
   word-put = so_far_on (begun start) {xs = bytes_of "cover"} {other = limit-on start} refl c.put_word.ensures
@@ -117,7 +117,7 @@ returns c =
     let t = c.before.before in
     let p = t.before.before.before.before in
     let s = s₄ p in
-    rw (text.cover_parts (graph_of s.args.b.now s.args.classes.now s.args.copies.now) s.args.limit s.args.heaviest s.args.t s.args.c.now)
+    rw (text.cover_parts (graph_of s.args.b.now s.args.classes.now) s.args.limit s.args.heaviest s.args.t s.args.c.now)
     (so_far_all (so_far_on (count-put p) {xs = trees s} {other = []} (sym (append-nil (trees s))) t.put-trees.ensures) refl)
 
 pub write-cover-spec : {M : Type 1} → statement M

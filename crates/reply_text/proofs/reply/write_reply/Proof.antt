@@ -11,8 +11,8 @@ use Rattle.reply_text.proofs.reply.write_reply.Statement.{statement}
 use Rattle.reply_text.proofs.reply.write_reply.Tie as tie
 
 -- The entry, seen from where the lengths are known.
-abbrev start : tie.After-shared-slice-known4 → tie.Start
-start c = c.before.before.before.before.before
+abbrev start : tie.After-shared-slice-known3 → tie.Start
+start c = c.before.before.before.before
 
 enum-known-reply : tie.Need-enum-known-reply
 enum-known-reply c = search rules
@@ -34,7 +34,7 @@ returns c =
     let w = c.before.before in
     let n = w.before.before in
     let k = n.before.before in
-    let g = graph_of (start k.before.before).args.b.now (start k.before.before).args.classes.now (start k.before.before).args.copies.now in
+    let g = graph_of (start k.before.before).args.b.now (start k.before.before).args.classes.now in
     reply_written g k.reply.given.1 (λ trees. cause_refused g trees k.reply.given.0.0)
     (rw n.number.ensures at (w.write-refused.ensures.text g))
 
@@ -83,7 +83,7 @@ unfolding text_said line
 returns-3 c =
     let w = c.before.before in
     let k = w.before.before.before.before in
-    reply_written (graph_of (start k.before.before).args.b.now (start k.before.before).args.classes.now (start k.before.before).args.copies.now) k.reply3.given.1 (λ trees. refl) w.write-line.ensures
+    reply_written (graph_of (start k.before.before).args.b.now (start k.before.before).args.classes.now) k.reply3.given.1 (λ trees. refl) w.write-line.ensures
 
 enum-known-reply-4 : tie.Need-enum-known-reply-4
 enum-known-reply-4 c = search rules
@@ -99,7 +99,7 @@ unfolding text_said
 returns-4 c =
     let w = c.before.before in
     let k = w.before.before.before in
-    reply_written (graph_of (start k.before.before).args.b.now (start k.before.before).args.classes.now (start k.before.before).args.copies.now) k.reply4.given.1 (λ trees. refl) w.write-parts.ensures
+    reply_written (graph_of (start k.before.before).args.b.now (start k.before.before).args.classes.now) k.reply4.given.1 (λ trees. refl) w.write-parts.ensures
 
 enum-known-reply-5 : tie.Need-enum-known-reply-5
 enum-known-reply-5 c = search rules
@@ -118,7 +118,7 @@ unfolding text_said line
 returns-5 c =
     let w = c.before.before in
     let k = w.before.before.before.before in
-    reply_written (graph_of (start k.before.before).args.b.now (start k.before.before).args.classes.now (start k.before.before).args.copies.now) k.reply5.given.1 (λ trees. refl) w.write-line2.ensures
+    reply_written (graph_of (start k.before.before).args.b.now (start k.before.before).args.classes.now) k.reply5.given.1 (λ trees. refl) w.write-line2.ensures
 
 enum_told : tie.Need-enum-told
 enum_told c = search rules
@@ -137,7 +137,7 @@ unfolding text_said line ended all_spaced flat
 returns-6 c =
     let w = c.before.before in
     let k = w.before.before.before in
-    reply_written (graph_of (start k.before.before).args.b.now (start k.before.before).args.classes.now (start k.before.before).args.copies.now) k.enum_told.given.1 (λ trees. refl) w.put_word.ensures
+    reply_written (graph_of (start k.before.before).args.b.now (start k.before.before).args.classes.now) k.enum_told.given.1 (λ trees. refl) w.put_word.ensures
 
 pub write-reply-spec : {M : Type 1} → statement M
 write-reply-spec =

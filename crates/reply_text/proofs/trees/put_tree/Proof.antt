@@ -19,7 +19,7 @@ use Rattle.reply_text.proofs.trees.put_tree.Tie as tie
 -- The graph, the tree and its line. Nothing is put yet.
 module _ (s : tie.Start) where
   abbrev g : Graph
-  g = graph_of s.args.b.now s.args.classes.now s.args.copies.now
+  g = graph_of s.args.b.now s.args.classes.now
 
   abbrev tree : Tree
   tree = run_tree s.args.c.now s.args.j s.args.from s.args.to
@@ -39,7 +39,7 @@ module _ (c : tie.After-put-word) where
   weighed = c.before.before.before
 
   abbrev start : tie.Start
-  start = let k = weighed.before.before in k.before.before.before.before
+  start = let k = weighed.before.before in k.before.before.before
 
   weight_is : weighed.run-weight.result ≡ tree_weight (g start) (tree start)
   unfolding tree_weight
@@ -94,7 +94,7 @@ slice-aggregate-put-word c = search rules
 put-word-requires : tie.Need-put-word-requires
 put-word-requires c κs =
     let k = c.before.before.before.before in
-    let s = k.before.before.before.before in
+    let s = k.before.before.before in
     so_far_room (begun s) (bytes_of "tree") (from_start (g s) (tree s)) refl (room s)
 
 start-in-requires : tie.Need-start-in-requires

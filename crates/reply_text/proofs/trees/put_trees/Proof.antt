@@ -18,23 +18,23 @@ use Rattle.reply_text.proofs.trees.put_trees.Statement.{statement}
 use Rattle.reply_text.proofs.trees.put_trees.Tie as tie
 
 abbrev invariant-loop : tie.invariant-loop
-invariant-loop b c out₀ at classes copies t next₀ from₀ j₀ out next from j =
+invariant-loop b c out₀ at classes t next₀ from₀ j₀ out next from j =
     record {
       begins : BeginsAt c j from;
-      room : at + length (tree_lines (graph_of b classes copies) (trees_from c 0)) ≤ length out₀;
-      putting : PutSoFar at (tree_lines (graph_of b classes copies) (trees_from c 0)) (tree_lines (graph_of b classes copies) (trees_from c j)) out₀ out next;
+      room : at + length (tree_lines (graph_of b classes) (trees_from c 0)) ≤ length out₀;
+      putting : PutSoFar at (tree_lines (graph_of b classes) (trees_from c 0)) (tree_lines (graph_of b classes) (trees_from c j)) out₀ out next;
     }
 
 abbrev decreases-loop : tie.decreases-loop
-decreases-loop b c out₀ at classes copies t next₀ from₀ j₀ out next from j = t - j
+decreases-loop b c out₀ at classes t next₀ from₀ j₀ out next from j = t - j
 
 -- Where the loop began, the graph, and how many trees there are.
 module _ (l : tie.At-loop invariant-loop decreases-loop) where
   abbrev start : tie.Start invariant-loop decreases-loop
-  start = let k = l.before.before in k.before.before.before.before.before
+  start = let k = l.before.before in k.before.before.before.before
 
   abbrev g : Graph
-  g = graph_of start.args.b.now start.args.classes.now start.args.copies.now
+  g = graph_of start.args.b.now start.args.classes.now
 
   count : l.before.trees-in.result ≡ trees_in start.args.c.now
   count = l.before.trees-in.ensures.is
@@ -63,8 +63,8 @@ trees-in-requires c κs = tt
 
 loop-holds : tie.Need-loop-init invariant-loop decreases-loop
 loop-holds c =
-    let s = c.before.before.before.before.before.before in
-    let g = graph_of s.args.b.now s.args.classes.now s.args.copies.now in
+    let s = c.before.before.before.before.before in
+    let g = graph_of s.args.b.now s.args.classes.now in
     let room : s.args.at + length (tree_lines g (trees_from s.args.c.now 0)) ≤ length s.args.out.now = rw (trees_all s.args.c.now) s.requires.fits in
     record {
       begins = begins_first s.args.c.now (edge_count g) s.requires.entries;

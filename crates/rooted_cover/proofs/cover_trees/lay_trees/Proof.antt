@@ -19,23 +19,23 @@ use Rattle.rooted_cover.proofs.cover_trees.lay_trees.Statement.{statement}
 use Rattle.rooted_cover.proofs.cover_trees.lay_trees.Tie as tie
 
 abbrev invariant-loop : tie.invariant-loop
-invariant-loop b order distances lasts roots starts cuts members lefts places assignment bounds₀ edges₀ classes copies at₀ j₀ bounds edges at j =
+invariant-loop b order distances lasts roots starts cuts members lefts places assignment bounds₀ edges₀ classes at₀ j₀ bounds edges at j =
     record {
       within : j ≤ length roots;
-      few : at ≤ j * (graph_of b classes copies).vertices;
-      laid : TreesLaid (graph_of b classes copies) distances lasts roots (arrays_of starts cuts members lefts places) assignment j at bounds edges;
+      few : at ≤ j * (graph_of b classes).vertices;
+      laid : TreesLaid (graph_of b classes) distances lasts roots (arrays_of starts cuts members lefts places) assignment j at bounds edges;
       bounds-size : length bounds ≡ length bounds₀;
       edges-size : length edges ≡ length edges₀;
       bounds_rest : OnlyFirst (length roots + 1) bounds₀ bounds;
-      edges_rest : OnlyFirst (length roots * (graph_of b classes copies).vertices) edges₀ edges;
+      edges_rest : OnlyFirst (length roots * (graph_of b classes).vertices) edges₀ edges;
     }
 
 abbrev decreases-loop : tie.decreases-loop
-decreases-loop b order distances lasts roots starts cuts members lefts places assignment bounds₀ edges₀ classes copies at₀ j₀ bounds edges at j = length roots - j
+decreases-loop b order distances lasts roots starts cuts members lefts places assignment bounds₀ edges₀ classes at₀ j₀ bounds edges at j = length roots - j
 
 -- What came, from the head of the loop.
 abbrev came : tie.At-loop invariant-loop decreases-loop → tie.Start invariant-loop decreases-loop
-came l = let d = l.before.before.before.before in let e = d.before.before.before.before in e.before.before.before.before.before.before.before.before
+came l = let d = l.before.before.before.before in let e = d.before.before.before.before in e.before.before.before.before.before.before.before
 
 -- In a turn: there is room for one tree more.
 module _ (t : tie.In-loop invariant-loop decreases-loop) where
@@ -43,7 +43,7 @@ module _ (t : tie.In-loop invariant-loop decreases-loop) where
   s = came t.before
 
   abbrev n : ℕ
-  n = (graph_of s.args.b.now s.args.classes.now s.args.copies.now).vertices
+  n = (graph_of s.args.b.now s.args.classes.now).vertices
 
   fits : (size : ℕ) → length s.args.roots.now * n ≤ size → t.before.loop.at + n ≤ size
   fits size many = omega (arith, t.before.loop.inv.few, row_room t.before.loop.j _ n size t.loop-test.taken many)
@@ -59,7 +59,7 @@ slice-write-bounds c = search rules
 
 loop-holds : tie.Need-loop-init invariant-loop decreases-loop
 loop-holds c =
-    let s = let d = c.before.before.before.before.before in let e = d.before.before.before.before in e.before.before.before.before.before.before in
+    let s = let d = c.before.before.before.before.before in let e = d.before.before.before.before in e.before.before.before.before.before in
     record {
       within = omega arith;
       few = omega arith;

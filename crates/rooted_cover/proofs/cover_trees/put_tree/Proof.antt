@@ -15,7 +15,7 @@ edges_few s = omega arith
 
 -- Where the vertices are counted: what came.
 abbrev came : tie.After-vertex-count → tie.Start
-came v = let d = v.before.before.before.before in let e = d.before.before.before.before in e.before.before.before.before.before.before.before
+came v = let d = v.before.before.before.before in let e = d.before.before.before.before in e.before.before.before.before.before.before
 
 -- Where the root and the number of its leftover are read.
 module _ (e : tie.After-number-at) where
@@ -28,7 +28,7 @@ module _ (e : tie.After-number-at) where
   abbrev n : ℕ
   n = counted.vertex-count.result
 
-  count : n ≡ (graph_of s.args.b.now s.args.classes.now s.args.copies.now).vertices
+  count : n ≡ (graph_of s.args.b.now s.args.classes.now).vertices
   count = counted.vertex-count.ensures.is
 
   root_is : e.before.wide.result ≡ get_or s.args.roots.now s.args.j 0

@@ -15,8 +15,8 @@ use Rattle.rooted_cover.proofs.cover_trees.write_rooted.Statement.{statement}
 use Rattle.rooted_cover.proofs.cover_trees.write_rooted.Tie as tie
 
 -- Where the arrays are known: what came.
-abbrev came : tie.After-shared-slice-known13 → tie.Start
-came k = let d = k.before.before.before.before in let e = d.before.before.before.before in e.before.before.before.before.before.before.before
+abbrev came : tie.After-shared-slice-known12 → tie.Start
+came k = let d = k.before.before.before.before in let e = d.before.before.before.before in e.before.before.before.before.before.before
 
 -- Where the trees are laid.
 abbrev start : tie.After-lay-trees → tie.Start

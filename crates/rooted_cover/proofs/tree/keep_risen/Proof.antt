@@ -8,7 +8,7 @@ use Rattle.rooted_cover.proofs.tree.keep_risen.Statement.{statement}
 use Rattle.rooted_cover.proofs.tree.keep_risen.Tie as tie
 
 keep-union-requires : tie.Need-keep-union-requires
-keep-union-requires c κs = let pre = c.before.before.before.before.before.before.before.requires in record { valid = pre.asked.valid; room = pre.asked.room; few = rw pre.asked.in_order pre.few }
+keep-union-requires c κs = let pre = c.before.before.before.before.before.before.requires in record { valid = pre.asked.valid; room = pre.asked.room; few = rw pre.asked.in_order pre.few }
 
 slice-relend-prefix-rise-edges : tie.Need-slice-relend-prefix-rise-edges
 slice-relend-prefix-rise-edges c = search rules
@@ -26,7 +26,7 @@ returns : tie.Need-returns
 returns c =
     let r = c.before.before in
     let k = r.before.before.before.before in
-    let order_is = k.before.before.before.before.before.before.before.before.requires.asked.in_order in
+    let order_is = k.before.before.before.before.before.before.before.requires.asked.in_order in
     record { kept = rw order_is at (front_then_risen k.keep-union.ensures.kept r.rise-edges.ensures); fewer = k.keep-union.ensures.fewer }
 
 pub keep-risen-spec : {M : Type 1} → statement M

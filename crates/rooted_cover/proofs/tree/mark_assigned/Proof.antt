@@ -26,7 +26,7 @@ marked-as p q r = rw q at (rw p at r)
 -- Where a place was found.
 module _ (e : tie.Else1) where
   abbrev start : tie.Start
-  start = e.before.before.before.before.before.before.before.before.before.before.before.before.before
+  start = e.before.before.before.before.before.before.before.before.before.before.before.before
 
   abbrev places : List ℕ
   places = start.args.places.now

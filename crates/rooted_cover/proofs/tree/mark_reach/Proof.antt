@@ -12,7 +12,7 @@ use Rattle.rooted_cover.proofs.tree.mark_reach.Tie as tie
 
 -- Where the nearest vertex is known: what came.
 abbrev start : tie.After-nearest-vertex → tie.Start
-start v = v.before.before.before.before.before.before.before.before
+start v = v.before.before.before.before.before.before.before
 
 -- A part in an array has at most so many edges.
 few : (v : tie.After-nearest-vertex) → length (start v).args.edges.now ≤ most_in_piece

@@ -7,7 +7,7 @@ use Rattle.rooted_cover.proofs.tree.rooted_tree.Tie as tie
 
 -- Where the piece left is marked: what came.
 abbrev start : tie.After-mark-piece → tie.Start
-start p = p.before.before.before.before.before.before.before.before.before.before.before.before.before.before
+start p = p.before.before.before.before.before.before.before.before.before.before.before.before.before
 
 slice-aggregate-mark-piece : tie.Need-slice-aggregate-mark-piece
 slice-aggregate-mark-piece c = search rules

@@ -1,6 +1,6 @@
 -- `rooted_parts::parts::assign_parts` meets its contract: the words of the parts are made into rows, by which the parts are assigned.
 -- Assumes nothing.
-use Prim.Native.Nat.{ℕ, ◌^◌, ◌<◌}
+use Prim.Native.Nat.{ℕ}
 use mathlib.Core.Path.{◌≡◌, sym}
 use mathlib.Core.List.{List}
 use native.Mathlib.Omega.{arith}
@@ -16,20 +16,16 @@ use Rattle.rooted_parts.proofs.RowsNear.{taken, assign_asked, rows_assigned}
 use Rattle.rooted_parts.proofs.parts.assign_parts.Statement.{statement}
 use Rattle.rooted_parts.proofs.parts.assign_parts.Tie as tie
 
--- The rows have no more bytes than a number can say.
-rows_few : (s : tie.Start) → length s.args.rows.now < 2 ^ 64
-rows_few s = omega arith
-
 -- Where the words are made: what came, and the words.
 module _ (q : tie.After-pieces-near) where
   abbrev s : tie.Start
   s =
       let x = q.before.before.before.before in
       let y = x.before.before.before.before in
-      y.before.before.before.before.before
+      y.before.before.before.before
 
   abbrev g : Graph
-  g = graph_of s.args.b.now s.args.classes.now s.args.copies.now
+  g = graph_of s.args.b.now s.args.classes.now
 
   abbrev p : ℕ
   p = s.args.parts
@@ -61,11 +57,11 @@ pieces-near-requires : tie.Need-pieces-near-requires
 pieces-near-requires c κs =
     let x = c.before.before.before.before in
     let y = x.before.before.before.before in
-    let h = y.before.before.before.before.requires.held in
+    let h = y.before.before.before.requires.held in
     record { held = h; words_room = omega (arith, few h, h.ready.given.valid.vertices_most, length-replicate {A = ℕ} 256 0) }
 
 mul-size : tie.Need-overflow-mul-size
-mul-size c = let q = c.before in omega (arith, (s q).requires.rows_room, rows_few (s q))
+mul-size c = search rules
 
 array-share-prefix-words : tie.Need-array-share-prefix-words
 array-share-prefix-words c = search rules

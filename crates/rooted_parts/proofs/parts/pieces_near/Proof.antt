@@ -12,7 +12,7 @@ use Rattle.rooted_parts.proofs.parts.pieces_near.Tie as tie
 abbrev start : tie.After-near → tie.Start
 start c =
     let x = c.before.before.before.before in
-    x.before.before.before.before.before.before.before
+    x.before.before.before.before.before.before
 
 slice-aggregate-roots-within : tie.Need-slice-aggregate-roots-within
 slice-aggregate-roots-within c = search rules

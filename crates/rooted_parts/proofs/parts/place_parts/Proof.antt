@@ -11,7 +11,7 @@ start c =
     let y = x.before.before.before.before in
     let z = y.before.before.before.before in
     let u = z.before.before.before.before in
-    u.before.before.before.before
+    u.before.before.before
 
 abbrev placed : tie.After-assign-parts-arg6 → tie.After-place-pieces
 placed c =

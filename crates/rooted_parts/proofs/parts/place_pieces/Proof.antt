@@ -13,9 +13,9 @@ use Rattle.rooted_parts.proofs.parts.place_pieces.Tie as tie
 -- The start, seen from where the vertices were counted,
 module _ (v : tie.After-vertex-count) where
   abbrev s₀ : tie.Start
-  s₀ = let x = v.before.before.before.before in let y = x.before.before.before.before in y.before.before.before.before
+  s₀ = let x = v.before.before.before.before in let y = x.before.before.before.before in y.before.before.before
 
-  n-is : v.vertex-count.result ≡ (graph_of s₀.args.b.now s₀.args.classes.now s₀.args.copies.now).vertices
+  n-is : v.vertex-count.result ≡ (graph_of s₀.args.b.now s₀.args.classes.now).vertices
   n-is = v.vertex-count.ensures.is
 
 -- and that place, seen from where the trees were split.

@@ -9,9 +9,9 @@ use Rattle.rooted_parts.proofs.within.roots_within.Tie as tie
 -- Where the vertices are counted: what came.
 module _ (v : tie.After-vertex-count) where
   abbrev s : tie.Start
-  s = v.before.before.before.before.before.before.before
+  s = v.before.before.before.before.before.before
 
-  n-is : v.vertex-count.result ≡ (graph_of s.args.b.now s.args.classes.now s.args.copies.now).vertices
+  n-is : v.vertex-count.result ≡ (graph_of s.args.b.now s.args.classes.now).vertices
   n-is = v.vertex-count.ensures.is
 
 vertex-count-requires : tie.Need-vertex-count-requires

@@ -8,13 +8,13 @@ enum_told : tie.Need-enum-told
 enum_told c = search rules
 
 accepts-rooted-requires : tie.Need-accepts-rooted-requires
-accepts-rooted-requires c κs = let s = let d = c.before.before.before.before.before in d.before.before.before.before.before.before in rooted_decision s.pre c.enum_told.given.1
+accepts-rooted-requires c κs = let s = let d = c.before.before.before.before.before in d.before.before.before.before.before in rooted_decision s.pre c.enum_told.given.1
 
 enum-told-2 : tie.Need-enum-told-2
 enum-told-2 c = search rules
 
 accepts-unrooted-requires : tie.Need-accepts-unrooted-requires
-accepts-unrooted-requires c κs = let s = let d = c.before.before.before.before.before in d.before.before.before.before.before.before in s.pre.crews.ready.history c.enum-told2.given.1
+accepts-unrooted-requires c κs = let s = let d = c.before.before.before.before.before in d.before.before.before.before.before in s.pre.crews.ready.history c.enum-told2.given.1
 
 returns : tie.Need-returns
 returns c = rw c.before.enum_told.given.1 c.accepts-rooted.ensures

@@ -9,7 +9,7 @@ use Rattle.search.proofs.limit.find_limit.Tie as tie
 
 -- Where there is an array for the steps: what was asked.
 abbrev start : tie.After-steps → tie.Start
-start a = let d = a.before.before.before.before in let e = d.before.before.before.before in e.before.before.before.before
+start a = let d = a.before.before.before.before in let e = d.before.before.before.before in e.before.before.before
 
 slice-aggregate-write-steps : tie.Need-slice-aggregate-write-steps
 slice-aggregate-write-steps c = search rules

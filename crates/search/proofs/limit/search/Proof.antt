@@ -11,15 +11,15 @@ use Rattle.search.proofs.limit.search.Statement.{statement}
 use Rattle.search.proofs.limit.search.Tie as tie
 
 abbrev invariant-loop : tie.invariant-loop
-invariant-loop kind k b roots kept distances total until steps sum budget classes copies low₀ high₀ left₀ low high left = SearchUnderway (graph_of b classes copies) (crews_with kind k roots) sum budget low high left
+invariant-loop kind k b roots kept distances total until steps sum budget classes low₀ high₀ left₀ low high left = SearchUnderway (graph_of b classes) (crews_with kind k roots) sum budget low high left
 
 abbrev decreases-loop : tie.decreases-loop
-decreases-loop kind k b roots kept distances total until steps sum budget classes copies low₀ high₀ left₀ low high left = left
+decreases-loop kind k b roots kept distances total until steps sum budget classes low₀ high₀ left₀ low high left = left
 
 -- Where a turn begins: what was asked.
 module _ (l : tie.At-loop invariant-loop decreases-loop) where
   abbrev s : tie.Start invariant-loop decreases-loop
-  s = let d = l.before.before.before.before in d.before.before.before.before.before.before
+  s = let d = l.before.before.before.before in d.before.before.before.before.before
 
 loop-holds : tie.Need-loop-init invariant-loop decreases-loop
 loop-holds c = search_begins _ _ _ _
@@ -54,8 +54,8 @@ loop-again-2 c =
     let o = c.before.before in
     low_moves o.before.before.loop.invariant o.before.loop-test.true (ltb-true 1 _ o.if1.true) (sym c.before.accepts-at.ensures ∙ c.if2.false)
 
-sub-t23 : tie.Need-overflow-sub-t23 invariant-loop decreases-loop
-sub-t23 c = c.before.loop.invariant.left_most
+sub-t22 : tie.Need-overflow-sub-t22 invariant-loop decreases-loop
+sub-t22 c = c.before.loop.invariant.left_most
 
 returns : tie.Need-returns invariant-loop decreases-loop
 returns c = ends c.before.loop.invariant (λ near. ltb-false 1 _ near.1.left) (λ spent. omega (arith, spent.left)) c.loop-test.branch
@@ -75,5 +75,5 @@ search-spec =
     loop-again
     loop-less-2
     loop-again-2
-    sub-t23
+    sub-t22
     returns)

@@ -17,10 +17,10 @@ use Rattle.search.proofs.limit.search_limit.Tie as tie
 -- Where 0 is tried: the graph, and the crews.
 module _ (a : tie.After-accepts-at) where
   abbrev s : tie.Start
-  s = let d = a.before.before.before.before in d.before.before.before.before.before.before.before
+  s = let d = a.before.before.before.before in d.before.before.before.before.before.before
 
   abbrev g : Graph
-  g = graph_of s.args.b.now s.args.classes.now s.args.copies.now
+  g = graph_of s.args.b.now s.args.classes.now
 
   abbrev crews : Crews
   crews = crews_with s.args.kind s.args.k s.args.roots.now
@@ -52,19 +52,19 @@ search-requires : tie.Need-search-requires
 search-requires c κs =
     record { crews = (s (tried c)).pre.crews; stepped = (s (tried c)).pre.stepped; sum_most = omega (arith, sum_is c, sum_bounded (valid (tried c))) }
 
-add-t18 : tie.Need-overflow-add-t18
-add-t18 c =
+add-t17 : tie.Need-overflow-add-t17
+add-t17 c =
     let e = c.before in
     let start = s (tried e.before) in
     omega (arith, e.search.ensures.turns_most, start.pre.some_trials, start.fits.trials)
 
-add-t19 : tie.Need-overflow-add-t19
-add-t19 c =
+add-t18 : tie.Need-overflow-add-t18
+add-t18 c =
     let e = c.before.before in
     omega (arith, e.search.ensures.in_order, e.search.ensures.most, sum_is e.before, sum_bounded (valid (tried e.before)))
 
-sub-t20 : tie.Need-overflow-sub-t20
-sub-t20 c = c.before.before.before.search.ensures.in_order
+sub-t19 : tie.Need-overflow-sub-t19
+sub-t19 c = c.before.before.before.search.ensures.in_order
 
 returns-2 : tie.Need-returns-2
 returns-2 c =
@@ -81,7 +81,7 @@ search-limit-spec =
     edges-weight-requires
     sub-search
     search-requires
+    add-t17
     add-t18
-    add-t19
-    sub-t20
+    sub-t19
     returns-2)

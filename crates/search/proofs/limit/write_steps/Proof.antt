@@ -14,15 +14,15 @@ use Rattle.search.proofs.limit.write_steps.Tie as tie
 -- Where the vertices are counted: crews have roots, and what was prepared for them is given.
 module _ (v : tie.After-vertex-count) where
   abbrev s : tie.Start
-  s = let d = v.before.before.before.before in d.before.before.before.before.before.before
+  s = let d = v.before.before.before.before in d.before.before.before.before.before
 
-  given : RootsGiven (graph_of s.args.b.now s.args.classes.now s.args.copies.now) s.args.roots.now
+  given : RootsGiven (graph_of s.args.b.now s.args.classes.now) s.args.roots.now
   given = s.pre.given v.before.enum_told.given.1
 
-  around : WholeAround (graph_of s.args.b.now s.args.classes.now s.args.copies.now) s.args.roots.now s.args.bounds.now s.args.arcs.now
+  around : WholeAround (graph_of s.args.b.now s.args.classes.now) s.args.roots.now s.args.bounds.now s.args.arcs.now
   around = s.pre.around v.before.enum_told.given.1
 
-  n-is : v.vertex-count.result ≡ (graph_of s.args.b.now s.args.classes.now s.args.copies.now).vertices
+  n-is : v.vertex-count.result ≡ (graph_of s.args.b.now s.args.classes.now).vertices
   n-is = v.vertex-count.ensures.is
 
 enum_told : tie.Need-enum-told

@@ -17,22 +17,22 @@ use Rattle.unions.proofs.union.keep_marked.Statement.{statement}
 use Rattle.unions.proofs.union.keep_marked.Tie as tie
 
 abbrev invariant-loop : tie.invariant-loop
-invariant-loop b list marks label₀ out₀ classes copies most left₀ r₀ i₀ label out left r i =
+invariant-loop b list marks label₀ out₀ classes most left₀ r₀ i₀ label out left r i =
     record {
-      keeping : KeepingMarked (graph_of b classes copies) (marked marks) list label₀ label out₀ out r i (most - left);
+      keeping : KeepingMarked (graph_of b classes) (marked marks) list label₀ label out₀ out r i (most - left);
       within : left ≤ most;
     }
 
 abbrev decreases-loop : tie.decreases-loop
-decreases-loop b list marks label₀ out₀ classes copies most left₀ r₀ i₀ label out left r i = length list - i
+decreases-loop b list marks label₀ out₀ classes most left₀ r₀ i₀ label out left r i = length list - i
 
 -- Where a turn begins: what came, the graph, and room for one edge more.
 module _ (l : tie.At-loop invariant-loop decreases-loop) where
   abbrev s : tie.Start invariant-loop decreases-loop
-  s = l.before.before.before.before.before.before.before.before
+  s = l.before.before.before.before.before.before.before
 
   abbrev g : Graph
-  g = graph_of s.args.b.now s.args.classes.now s.args.copies.now
+  g = graph_of s.args.b.now s.args.classes.now
 
   valid : Valid g
   valid = s.pre.keepable.labelable.valid
@@ -84,9 +84,9 @@ joined c = c.before.before.before
 
 loop-holds : tie.Need-loop-init invariant-loop decreases-loop
 loop-holds c =
-    let a = c.before.before.before.before.before.before.before.args in
+    let a = c.before.before.before.before.before.before.args in
     let none-met : a.most - a.most ≡ 0 = omega arith in
-    record { keeping = rw none-met (keeping_none (graph_of a.b.now a.classes.now a.copies.now) (marked a.marks.now) a.list.now a.label.now a.out.now); within = omega arith }
+    record { keeping = rw none-met (keeping_none (graph_of a.b.now a.classes.now) (marked a.marks.now) a.list.now a.label.now a.out.now); within = omega arith }
 
 same_length : tie.Need-same-length invariant-loop decreases-loop
 same_length c = search rules

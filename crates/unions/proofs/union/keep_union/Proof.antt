@@ -16,10 +16,10 @@ use Rattle.unions.proofs.union.keep_union.Tie as tie
 -- Where the labels at the start are written: what came, and that all vertices are apart.
 module _ (l : tie.After-start-labels) where
   abbrev s : tie.Start
-  s = let d = l.before.before.before.before in d.before.before.before.before.before.before
+  s = let d = l.before.before.before.before in d.before.before.before.before.before
 
   abbrev g : Graph
-  g = graph_of s.args.b.now s.args.classes.now s.args.copies.now
+  g = graph_of s.args.b.now s.args.classes.now
 
   abbrev label : List ℕ
   label = l.start-labels.last.1.1.0

@@ -7,10 +7,10 @@ use Rattle.unrooted.proofs.answer.at_limit.Tie as tie
 
 -- Where the edges within the limit are counted: what was given.
 abbrev start : tie.After-light-forest → tie.Start
-start l = l.before.before.before.before.before.before.before
+start l = l.before.before.before.before.before.before
 
 light-forest-requires : tie.Need-light-forest-requires
-light-forest-requires c κs = whole_kept c.before.before.before.before.before.before.requires.forest_kept
+light-forest-requires c κs = whole_kept c.before.before.before.before.before.requires.forest_kept
 
 vertex-count-requires : tie.Need-vertex-count-requires
 vertex-count-requires c κs = search rules

@@ -8,7 +8,7 @@ use Rattle.unrooted.proofs.answer.no_cover_unrooted.Tie as tie
 
 -- Where the vertices are counted: what was given.
 abbrev start : tie.After-vertex-count → tie.Start
-start c = c.before.before.before.before.before
+start c = c.before.before.before.before
 
 vertex-count-requires : tie.Need-vertex-count-requires
 vertex-count-requires c κs = search rules

@@ -11,7 +11,7 @@ use Rattle.unrooted.proofs.unrooted.order_trees.Tie as tie
 -- Where the numbers of the trees are written.
 module _ (p : tie.After-tree-places) where
   abbrev s : tie.Start
-  s = let d = p.before.before.before.before in d.before.before.before.before.before.before
+  s = let d = p.before.before.before.before in d.before.before.before.before.before
 
 -- Where the edges rise.
 module _ (r : tie.After-rise-segments) where

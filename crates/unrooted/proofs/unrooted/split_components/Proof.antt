@@ -14,7 +14,7 @@ use Rattle.unrooted.proofs.unrooted.split_components.Tie as tie
 -- Where the roots are known,
 module _ (o : tie.After-component-roots) where
   abbrev s : tie.Start
-  s = let d = o.before.before.before.before in d.before.before.before.before.before.before
+  s = let d = o.before.before.before.before in d.before.before.before.before.before
 
 -- where the arcs are put,
 module _ (p : tie.After-put-arcs) where

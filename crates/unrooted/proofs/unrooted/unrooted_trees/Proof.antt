@@ -12,7 +12,7 @@ use Rattle.unrooted.proofs.unrooted.unrooted_trees.Tie as tie
 -- Where the components are split,
 module _ (p : tie.After-split-components) where
   abbrev s : tie.Start
-  s = let d = p.before.before.before.before in d.before.before.before.before.before.before
+  s = let d = p.before.before.before.before in d.before.before.before.before.before
 
 -- where the trees are in order,
 module _ (o : tie.After-order-trees) where
@@ -79,7 +79,7 @@ heaviest-chosen-requires : tie.Need-heaviest-chosen-requires
 heaviest-chosen-requires c κs =
     let o = let d = c.before.before.before in d.before.before.before in
     let p = pieced o in
-    answer_held (s p).pre.forest_given.valid p.split-components.ensures o.order-trees.ensures (s p).pre.served
+    answer_held (s p).pre.forest_given.valid p.split-components.ensures o.order-trees.ensures
 
 slice-aggregate-write-cover : tie.Need-slice-aggregate-write-cover
 slice-aggregate-write-cover c = search rules
@@ -102,7 +102,7 @@ write-cover-requires c κs =
     let o = ordered h in
     let p = pieced o in
     let valid = (s p).pre.forest_given.valid in
-    answer_writable valid p.split-components.ensures o.order-trees.ensures (s p).pre.served (s p).pre.room (s p).pre.needs_few
+    answer_writable valid p.split-components.ensures o.order-trees.ensures (s p).pre.room (s p).pre.needs_few
 
 same_length : tie.Need-same-length
 same_length c = search rules
@@ -116,11 +116,11 @@ returns c =
     let valid = (s p).pre.forest_given.valid in
     let x = p.split-components.ensures in
     let y = o.order-trees.ensures in
-    let trees = answer valid x y (s p).pre.served in
+    let trees = answer valid x y in
     record {
       put = rw trees at w.write-cover.ensures.put;
-      heaviest_is = h.heaviest-chosen.ensures.is _ ∙ ap (heaviest (graph_of (s p).args.b.now (s p).args.classes.now (s p).args.copies.now)) trees;
-      trees_are = answer_count valid x y (s p).pre.served;
+      heaviest_is = h.heaviest-chosen.ensures.is _ ∙ ap (heaviest (graph_of (s p).args.b.now (s p).args.classes.now)) trees;
+      trees_are = answer_count valid x y;
     }
 
 pub unrooted-trees-spec : {M : Type 1} → statement M

@@ -12,10 +12,10 @@ use Rattle.unrooted_pieces.proofs.components.lowest_vertex.Statement.{statement}
 use Rattle.unrooted_pieces.proofs.components.lowest_vertex.Tie as tie
 
 abbrev invariant-loop : tie.invariant-loop
-invariant-loop b start edges classes copies v₀ i₀ v i = v ≡ lowest_up_to (graph_of b classes copies) start edges i
+invariant-loop b start edges classes v₀ i₀ v i = v ≡ lowest_up_to (graph_of b classes) start edges i
 
 abbrev decreases-loop : tie.decreases-loop
-decreases-loop b start edges classes copies v₀ i₀ v i = length edges - i
+decreases-loop b start edges classes v₀ i₀ v i = length edges - i
 
 -- Where the other end of an edge was looked at.
 module _ (c : tie.After-lower2 invariant-loop decreases-loop) where
@@ -26,10 +26,10 @@ module _ (c : tie.After-lower2 invariant-loop decreases-loop) where
   turn = o.before.before.before
 
   abbrev s : tie.Start invariant-loop decreases-loop
-  s = turn.before.before.before.before.before.before
+  s = turn.before.before.before.before.before
 
   abbrev g : Graph
-  g = graph_of s.args.b.now s.args.classes.now s.args.copies.now
+  g = graph_of s.args.b.now s.args.classes.now
 
   abbrev edges : List ℕ
   edges = s.args.edges.now
@@ -49,7 +49,7 @@ module _ (c : tie.After-lower2 invariant-loop decreases-loop) where
       (c.before.other-end.ensures.is ∙ ap (other_end g) is-e)
 
 loop-holds : tie.Need-loop-init invariant-loop decreases-loop
-loop-holds c = let a = c.before.before.before.before.args in sym (lowest_none (graph_of a.b.now a.classes.now a.copies.now) a.start a.edges.now)
+loop-holds c = let a = c.before.before.before.args in sym (lowest_none (graph_of a.b.now a.classes.now) a.start a.edges.now)
 
 mul_wide : tie.Need-overflow-mul-wide invariant-loop decreases-loop
 mul_wide c = search rules

@@ -16,10 +16,10 @@ use Rattle.unrooted_pieces.proofs.components.set_lowest.Statement.{statement}
 use Rattle.unrooted_pieces.proofs.components.set_lowest.Tie as tie
 
 abbrev invariant-loop : tie.invariant-loop
-invariant-loop b starts₀ cuts members k classes copies i₀ starts i = (i ≤ k) × SetUpTo (λ j. lowest_of (graph_of b classes copies) (tree_of (get_or starts₀ j 0) (segment cuts members j))) i starts₀ starts
+invariant-loop b starts₀ cuts members k classes i₀ starts i = (i ≤ k) × SetUpTo (λ j. lowest_of (graph_of b classes) (tree_of (get_or starts₀ j 0) (segment cuts members j))) i starts₀ starts
 
 abbrev decreases-loop : tie.decreases-loop
-decreases-loop b starts₀ cuts members k classes copies i₀ starts i = k - i
+decreases-loop b starts₀ cuts members k classes i₀ starts i = k - i
 
 loop-holds : tie.Need-loop-init invariant-loop decreases-loop
 loop-holds c = (omega arith, set_none _)
@@ -34,7 +34,7 @@ piece-lowest-requires : tie.Need-piece-lowest-requires invariant-loop decreases-
 piece-lowest-requires c κs =
     let t = c.before in
     let l = t.before.before.before in
-    let s = l.before.before.before.before.before in
+    let s = l.before.before.before.before in
     let p = s.requires.pieces in
     record { cut = omega (arith, p.cut); held = p.held t.before.loop.i t.loop-test.true }
 
@@ -55,11 +55,11 @@ loop-again c =
     let l = c.before.before.before in
     let u = l.loop.invariant.1 in
     let d = l.before.before.before in
-    let s = d.before.before.before.before in
+    let s = d.before.before.before in
     let same = u.rest l.loop.i (omega arith) in (
       omega arith,
       set_more u (omega (arith, u.size))
-          (c.piece-lowest.ensures.is ∙ ap (λ v. lowest_of (graph_of s.args.b.now s.args.classes.now s.args.copies.now) (tree_of v (segment s.args.cuts.now s.args.members.now l.loop.i))) same),
+          (c.piece-lowest.ensures.is ∙ ap (λ v. lowest_of (graph_of s.args.b.now s.args.classes.now) (tree_of v (segment s.args.cuts.now s.args.members.now l.loop.i))) same),
     )
 
 same_length : tie.Need-same-length invariant-loop decreases-loop
