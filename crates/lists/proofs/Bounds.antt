@@ -15,6 +15,7 @@ module _ {ℓ} {A : Type ℓ} (f : A → ℕ) where
   -- each value is at most the sum
   pub sum_each : {x : A} {xs : List A} → x ∈ xs → f x ≤ sum_of f xs
   unfolding sum_of
+  sum_each {xs = []} x3 = elim x3 [ ]
   sum_each {xs = x ∷ xs} (Memᴰ.head q) = omega (arith, ap f q)
   sum_each {xs = x ∷ xs} (Memᴰ.tail m) = omega (arith, sum_each m)
 

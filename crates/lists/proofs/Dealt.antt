@@ -13,7 +13,7 @@ use borrow.Author.Tests.{eq-eqb, ne_eqb}
 use Rattle.lists.specs.Count.{below}
 use Rattle.lists.specs.Lists.{filter, sum_of}
 use Rattle.lists.specs.Member.{◌∈◌}
-use Rattle.lists.specs.InOrder.{Once, next}
+use Rattle.lists.specs.InOrder.{Once, none, next}
 use Rattle.lists.proofs.Below.{in_below, below_rising}
 use Rattle.lists.proofs.InOrder.{rising_once}
 use Rattle.lists.proofs.Places.{map_at_places}
@@ -27,6 +27,7 @@ sum_places f d xs =
 -- A value that one number of a list without repeats adds, and no other.
 pub sum_alone : (w x : ℕ) {xs : List ℕ} → Once xs → x ∈ xs → sum_of (λ y. cond (eqb x y) w 0) xs ≡ w
 unfolding sum_of
+sum_alone w x none x4 = elim x4 [ ]
 sum_alone w x (next {x = y} {xs = ys} others rest) (Memᴰ.head q) =
     let none_later : sum_of (λ z. cond (eqb x z) w 0) ys ≡ 0 = sum_zero (λ z. cond (eqb x z) w 0) ys (λ z m. rw (ne_eqb x z (λ p. others z m (sym q ∙ p)))) in
     rw (eq-eqb x y q, none_later) (omega arith)

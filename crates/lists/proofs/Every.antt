@@ -54,6 +54,7 @@ module _ {ℓ} {A : Type ℓ} (f : A → Bool) where
   -- Where the test says yes, each element passes.
   pub all_each : {x : A} (xs : List A) → all f xs ≡ true → x ∈ xs → f x ≡ true
   unfolding all
+  all_each [] t x3 = elim x3 [ ]
   all_each (y ∷ ys) t (Memᴰ.head e) = ap f e ∙ first_true (f y) (all f ys) t
   all_each (y ∷ ys) t (Memᴰ.tail m) = all_each ys (second_true (f y) (all f ys) t) m
 

@@ -2,13 +2,14 @@
 -- Assumes nothing.
 use mathlib.Core.Path.{◌≡◌, sym, ap, ◌∙◌}
 use mathlib.Core.List.Memᴰ
-use mathlib.Core.List.{List, ◌∷◌, map}
+use mathlib.Core.List.{[], List, ◌∷◌, map}
 use Rattle.lists.specs.Member.{◌∈◌}
 use Rattle.lists.proofs.Member.{in_map, of_map}
 use Rattle.lists.proofs.InOrder.{InOrder, none, next, Once, first_before, rest_in_order, in_order_within}
 
 -- Where no image stands twice, elements with one image are one.
 pub same_image {ℓ κ} : {A : Type ℓ} {B : Type κ} (f : A → B) (xs : List A) → Once (map f xs) → {x y : A} → x ∈ xs → y ∈ xs → f x ≡ f y → x ≡ y
+same_image {A = A} {B = B} f [] once {x = x} {y = y} x6 _ e = elim x6 [ ]
 same_image f (z ∷ zs) once (Memᴰ.head p) (Memᴰ.head q) e = p ∙ sym q
 same_image f (z ∷ zs) once {x} {y} (Memᴰ.head p) (Memᴰ.tail n) e = absurd (first_before once (f y) (in_map f n) (sym (ap f p) ∙ e))
 same_image f (z ∷ zs) once {x} {y} (Memᴰ.tail m) (Memᴰ.head q) e = absurd (first_before once (f x) (in_map f m) (sym (ap f q) ∙ sym e))

@@ -20,6 +20,7 @@ module _ {ℓ} {A : Type ℓ} (d : A) where
 
   -- what stands in the list stands at a place
   pub place_of : {x : A} {xs : List A} → x ∈ xs → (i : ℕ) × (i < length xs) × (get_or xs i d ≡ x)
+  place_of {xs = []} x3 = elim x3 [ ]
   place_of {xs = x ∷ xs} (Memᴰ.head q) = (0, omega arith, sym q)
   place_of {xs = x ∷ xs} (Memᴰ.tail m) = let (i, h, q) = place_of m in (suc i, omega arith, q)
 
