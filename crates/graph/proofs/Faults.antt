@@ -28,6 +28,7 @@ unless_quiet k e = rw e
 -- The first of several refuses nothing exactly where none of them refuses.
 pub quiet_each : {f : Fault} (fs : List Fault) → first_fault fs ≡ none → f ∈ fs → f ≡ none
 unfolding first_fault
+quiet_each {f = f} [] e m = elim m [ ]
 quiet_each (none ∷ fs) e (Memᴰ.head q) = q
 quiet_each (none ∷ fs) e (Memᴰ.tail m) = quiet_each fs e m
 quiet_each (some k ∷ fs) e m = absurd (some-ne-none k e)

@@ -13,7 +13,3 @@ pub mod Adjusted
 pub mod Surfaced
 -- a view shows its own bytes
 pub mod Viewed
--- the walk of a reader through a view
-mod Reading
--- the walk of a function that makes a view and reads through it
-mod Through

@@ -3,6 +3,8 @@
 // bytes, and every public function of this file but `u16_within` takes any bytes. Edges are read through a view.
 // The words of the contracts stand in specs/: `sheet_graph` is the graph with its weights as given, `graph_of` with its
 // weights by class.
+#![tactic(auto)]
+
 pub mod surface;
 pub mod view;
 

@@ -5,6 +5,8 @@
 // augmenting paths, one part after the other: `path` finds a path and exchanges along it, and `deficient` marks the
 // parts that were reached where there is none. No more than y + 1 parts are
 // tried, since no more than y can have a root, each by a search of at most (y + 1) · (y + 1) turns.
+#![tactic(auto)]
+
 mod deficient;
 mod input;
 mod path;
