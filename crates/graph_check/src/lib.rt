@@ -1,5 +1,7 @@
 // The check of a graph's bytes (document 01: a "sheet") with 11 to 16: whether they are a graph's, and what is wrong
 // with them otherwise. It takes any bytes. The words of the contracts stand in specs/: `check_of` is the check.
+#![tactic(auto)]
+
 ghost use Rattle.std.specs.Prelude.{◌≡◌};
 ghost use Rattle.graph.specs.Bytes.{sheet_graph};
 ghost use Rattle.graph_check.specs.Check.{number_of, says, check_all, check_of};
