@@ -44,7 +44,7 @@ data FirstWay (g : Graph) (start : ℕ) (c : List ℕ) : ℕ → List ℕ → Ty
   at_home : {v : ℕ} → FirstWay g start c v []
   came_by : {v e : ℕ} {way : List ℕ} → FirstReached g start c v e → FirstWay g start c (far_end g e v) way → FirstWay g start c v (e ∷ way)
 
-way_still : {g : Graph} {start v : ℕ} {c way : List ℕ} (f : ℕ) → FirstWay g start c v way → FirstWay g start (c ++ (f ∷ [])) v way
+way_still : {g : Graph} {start : ℕ} {c : List ℕ} {v : ℕ} {way : List ℕ} (f : ℕ) → FirstWay g start c v way → FirstWay g start (c ++ (f ∷ [])) v way
 way_still f at_home = at_home
 way_still f (came_by x w) = came_by (first_still f x) (way_still f w)
 

@@ -106,7 +106,7 @@ entries_again start {es} a zero r low high = sym (empty_list es (λ x m. omega (
 entries_again start {es} a (suc m) r low high =
     ap (λ l. named a (edges_of a es) ++ entries_of (suc a) l)
     (map_same (from (suc a) m) (λ j n. (λ i. record { start = start j; edges = same j (of_from (suc a) m n).0 i })))
-    ∙ (ap (λ l. named a (edges_of a es) ++ l) (entries_again start (suc a) m p.rises p.past (λ x n. omega (arith, high x (kept x n)))) ∙ sym p.whole)
+    ∙ (ap (λ l. named a (edges_of a es) ++ l) (entries_again start {es = p.rest} (suc a) m p.rises p.past (λ x n. omega (arith, high x (kept x n)))) ∙ sym p.whole)
   where
     p : Parted a es
     p = parted a r low

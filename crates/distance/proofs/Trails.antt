@@ -17,7 +17,7 @@ unfolding trail_in
 trail_in_lem zero (home q) h = refl
 trail_in_lem {root = root} {v = v} (suc most) (home q) h = rw (eq-eqb v root q)
 trail_in_lem zero (over away inside q t) h = absurd (omega arith)
-trail_in_lem {root = root} {v = v} (suc most) (over away inside q t) h = rw (ne_eqb v root away, trail_in_lem most t (omega arith), q)
+trail_in_lem {last = last} {root = root} {v = v} (suc most) (over away inside q t) h = rw (ne_eqb v root away, trail_in_lem {v = vertex_before (get_or {A = ℕ} last v 0)} most t (omega arith), q)
 
 pub trail_of_lem : {last : List ℕ} {root v : ℕ} {edges : List ℕ} → IsTrail last root edges v → length edges ≤ length last → trail_of last root v ≡ edges
 unfolding trail_of

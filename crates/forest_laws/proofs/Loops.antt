@@ -48,7 +48,7 @@ module _ {g : Graph} where
   middle_apart : {P : Labels} (before : List ℕ) (e : ℕ) (after : List ℕ) → AllKept g P (before ++ e ∷ after) → JoinsEnds g (merge_all g P before) e → ⊥
   unfolding merge_all
   middle_apart [] e after (all_next p k) q = p q
-  middle_apart (x ∷ before) e after (all_next p k) q = middle_apart before e after k q
+  middle_apart {P = P} (x ∷ before) e after (all_next p k) q = middle_apart {P = merge_edge g P x} before e after k q
 
   -- the edges after the first do not join its ends: else exchange it for the one that first does
   first_apart : {P : Labels} {e : ℕ} {E : List ℕ} → AllKept g P (e ∷ E) → JoinsEnds g (merge_all g P E) e → ⊥

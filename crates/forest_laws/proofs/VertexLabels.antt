@@ -65,4 +65,4 @@ apart_vertices n = record { itself = λ x. refl; below = λ x l. l }
 pub merged_vertices : {g : Graph} → Valid g → {label : Labels} → VertexLabels g.vertices label → (E : List ℕ) → VertexLabels g.vertices (merge_all g label E)
 unfolding merge_all merge_edge
 merged_vertices valid s [] = s
-merged_vertices {g} valid s (e ∷ E) = merged_vertices valid (merge_vertices s (one_end g e) (other_end g e) (one_end_below valid e)) E
+merged_vertices {g} valid {label = label} s (e ∷ E) = merged_vertices valid {label = merge label (one_end g e) (other_end g e)} (merge_vertices s (one_end g e) (other_end g e) (one_end_below valid e)) E

@@ -61,6 +61,12 @@ unfolding van_fault
 no_vans yards k n = refl
 no_vans roving k n = refl
 
+-- Nothing refused last adds nothing.
+none_last : (f : Fault) → first_fault (f ∷ none ∷ []) ≡ first_fault (f ∷ [])
+unfolding first_fault
+none_last (some n) = refl
+none_last none = refl
+
 module _ (kind : Kind) (k : ℕ) (sheet : List ℕ) where
   abbrev q : Question
   q = question kind k sheet
@@ -81,7 +87,7 @@ module _ (kind : Kind) (k : ℕ) (sheet : List ℕ) where
     where
       go : (f : Fault) → sheet_fault sheet ≡ f → question_fault q ≡ first_fault (f ∷ crew_fault kind k none g.vertices ∷ [])
       go (some n) e = rw e
-      go none e = rw (e, plain_graph sheet, each_light g (λ i h. (((sheet_right sheet).0 e).valid.each_edge i h).weight_most), no_vans kind k g.vertices)
+      go none e = rw (e, plain_graph sheet, each_light g (λ i h. (((sheet_right sheet).0 e).valid.each_edge i h).weight_most), no_vans kind k g.vertices) (none_last (crew_fault kind k none g.vertices))
 
   -- The replies.
   pub plain_trial : (limit room : ℕ) (c : Choices) → ask_trial q limit room c
