@@ -3,6 +3,8 @@
 // number.
 // The words of the contracts stand in specs/ and in the definitions of the crate `rules`: `question_fault` is what is
 // refused.
+#![tactic(auto)]
+
 pub mod brought;
 pub mod crews;
 pub mod refusal;
