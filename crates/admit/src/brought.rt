@@ -12,7 +12,7 @@ use crate::refusal::Refusal;
 use graph::view;
 
 // Which lists are brought: a list of no bytes is not the same as none. One that is not brought is not read.
-#[derive(Drop)]
+#[derive(Clone, Copy)]
 pub struct Lists {
     // The class bytes, one for each edge ("line").
     pub classes: bool,

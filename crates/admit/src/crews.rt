@@ -2,7 +2,7 @@
 ghost use Rattle.admit.specs.Crews.{CrewsTested};
 
 // Whether the crews have a root each ("yard"), or none ("roving").
-#[derive(Drop)]
+#[derive(Clone, Copy)]
 pub enum Kind {
     Rooted,
     Unrooted,

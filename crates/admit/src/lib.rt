@@ -24,7 +24,7 @@ use crate::vans::admit_vans;
 use graph_check::Checked;
 
 // What the tests of a question come to.
-#[derive(Drop)]
+#[derive(Clone, Copy)]
 pub enum Admitted {
     Refused(Refusal),
     Fits,

@@ -15,7 +15,7 @@ pub const LEAST_ROOM: usize = 32708;
 pub const LEAST_WALK_ROOM: usize = 1022;
 
 // What can be refused.
-#[derive(Drop)]
+#[derive(Clone, Copy)]
 pub enum Refusal {
     // The graph's bytes have a fault.
     Sheet(graph_check::Cause),

@@ -17,7 +17,7 @@ use replies::{Reply, Told, UNTRIED};
 use search::limit::find_limit;
 
 // What is asked.
-#[derive(Drop)]
+#[derive(Clone, Copy)]
 pub enum Asked {
     // A trial at a limit.
     At(u64),

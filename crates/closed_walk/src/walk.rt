@@ -16,7 +16,7 @@ use cover::runs::run_end;
 use filed::check::{Verdict, check};
 
 // What is answered. The stops stand in the buffer.
-#[derive(Drop)]
+#[derive(Clone, Copy)]
 pub enum Walked {
     // The question is refused.
     Refused(Refusal),

@@ -19,7 +19,7 @@ use replies::Reply;
 use unions::deficient::{count_allowed, marked_places};
 
 // How many parts the set has ("T"), and how many roots are allowed to them ("D").
-#[derive(Drop)]
+#[derive(Clone, Copy)]
 pub struct Deficient {
     pub parts: usize,
     pub roots: usize,

@@ -21,7 +21,7 @@ use filed_entries::starts::{starts_at_most, starts_at_roots, starts_below};
 use filed_entries::vertices::vertices_covered;
 
 // What the check answers.
-#[derive(Drop)]
+#[derive(Clone, Copy)]
 pub enum Verdict {
     // The bytes are a cover's, whose heaviest tree weighs so much.
     Yes(u64),

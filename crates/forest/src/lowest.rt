@@ -5,7 +5,7 @@ ghost use Rattle.forest.specs.Lowest.{Unjoined, LowestAsked, Components};
 use edges::index::wide;
 
 // A vertex, or none.
-#[derive(Drop)]
+#[derive(Clone, Copy)]
 pub enum Found {
     At(usize),
     Nothing,

@@ -9,7 +9,7 @@ ghost use Rattle.graph_check.specs.Check.{number_of, says, check_all, check_of};
 use graph::view;
 
 // What can be wrong with a graph's bytes.
-#[derive(Drop)]
+#[derive(Clone, Copy)]
 pub enum Cause {
     // The length is not that of so many edges.
     Length,
@@ -26,7 +26,7 @@ pub enum Cause {
 }
 
 // What the check answers: how many vertices and edges there are, or the cause of the first fault.
-#[derive(Drop)]
+#[derive(Clone, Copy)]
 pub enum Checked {
     Counts(usize, usize),
     Refused(Cause),

@@ -15,7 +15,7 @@ use pieces::pieces::number_up;
 use pieces::whole::keep_whole;
 
 // How many edges there are, and how many of them the whole forest has.
-#[derive(Drop)]
+#[derive(Clone, Copy)]
 pub struct Ready {
     pub edges: usize,
     pub forest: usize,

@@ -6,7 +6,7 @@ ghost use Rattle.replies.specs.Replies.{says, bit_of};
 use admit::refusal::Refusal;
 
 // The reply. What is written besides, the cover or the parts, stands in the buffer.
-#[derive(Drop)]
+#[derive(Clone, Copy)]
 pub enum Reply {
     // The question is refused.
     Refused(Refusal),
@@ -24,7 +24,7 @@ pub enum Reply {
 
 // What is known after some trials of a search: how many were made; a floor, below which no cover's heaviest tree is; and
 // whether they are spent while limits are left to try.
-#[derive(Drop)]
+#[derive(Clone, Copy)]
 pub struct Known {
     pub trials: usize,
     pub floor: u64,
@@ -39,7 +39,7 @@ pub const UNTRIED: Known = Known {
 };
 
 // A reply, and what is known besides it.
-#[derive(Drop)]
+#[derive(Clone, Copy)]
 pub struct Told {
     pub reply: Reply,
     pub known: Known,

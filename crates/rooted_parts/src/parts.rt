@@ -14,7 +14,7 @@ use split::split_forest;
 use unions::places::part_places;
 
 // How many parts there are, and whether each has a root of its own.
-#[derive(Drop)]
+#[derive(Clone, Copy)]
 pub struct Placed {
     pub parts: usize,
     pub assigned: bool,

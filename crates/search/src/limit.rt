@@ -12,7 +12,7 @@ use replies::Known;
 use steps::put_steps;
 
 // Where a search stands: low was not accepted, high was, and so many limits between them were tried.
-#[derive(Drop)]
+#[derive(Clone, Copy)]
 pub struct Standing {
     pub low: u64,
     pub high: u64,
@@ -20,7 +20,7 @@ pub struct Standing {
 }
 
 // What a search found: the least limit that it saw accepted, and what is known besides.
-#[derive(Drop)]
+#[derive(Clone, Copy)]
 pub struct Found {
     pub high: u64,
     pub known: Known,

@@ -15,7 +15,7 @@ use replies::Reply;
 
 // What a limit makes of the whole forest: how many of its edges are within the limit, and how many trees the components
 // there need.
-#[derive(Drop)]
+#[derive(Clone, Copy)]
 pub struct AtLimit {
     pub edges: usize,
     pub trees: u64,

@@ -14,14 +14,14 @@ use unrooted_pieces::components::{rise_segments, set_lowest, write_keys};
 use unrooted_pieces::tree_places::tree_places;
 
 // How many pieces the components were split into, and how many components there are.
-#[derive(Drop)]
+#[derive(Clone, Copy)]
 pub struct Split {
     pub pieces: usize,
     pub roots: usize,
 }
 
 // What was written: the weight of the heaviest tree, and how many trees.
-#[derive(Drop)]
+#[derive(Clone, Copy)]
 pub struct Written {
     pub heaviest: u64,
     pub trees: usize,

@@ -1,6 +1,6 @@
 -- `graph_check::check_edges` meets its contract. The loop's invariant: the first fault of all edges is the first from edge e on.
 -- The measure is how many edges are left. Assumes nothing.
-use Prim.Native.Nat.{ℕ, ◌+◌, ◌-◌, ◌<◌}
+use Prim.Native.Nat.{ℕ, ◌+◌, ◌<◌}
 use mathlib.Core.Path.{◌≡◌, refl, sym, ap, ◌∙◌}
 use mathlib.Core.Option.{some, none}
 use native.Mathlib.Omega.{arith}
