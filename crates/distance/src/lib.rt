@@ -2,6 +2,8 @@
 // step 5). The method is Dijkstra's: of the vertices that are reached and wait, the nearest is settled, and its arcs
 // are relaxed. No bytes are read. Who waits, last edges and one arc relaxed stand in the crate `waiting`. The words of
 // the contracts stand in specs/.
+#![tactic(auto)]
+
 mod relax;
 mod start;
 

@@ -108,6 +108,7 @@ module _ (g : Graph) (dist : List ℕ) (start : ℕ) (edges : List ℕ) where
 
     -- All edges: no vertex that the tree covers is nearer.
     at_end : (x v : ℕ) → x < i → v ∈ ends_of g (get_or edges x 0) → far r ≤ far v
+    at_end x v l (Memᴰ.tail (Memᴰ.tail x9)) = elim x9 [ ]
     at_end x v l (Memᴰ.head q) = rw q (w.one_no_nearer x l)
     at_end x v l (Memᴰ.tail (Memᴰ.head q)) = rw q (w.other_no_nearer x l)
 

@@ -46,7 +46,7 @@ module _ {g : Graph} where
     own_left {label = label} (all_next {e = e} p k) s (suc j) h =
         omega (
           arith,
-          own_left k (merge_vertices s (one_end g e) (other_end g e) (one_end_below valid e)) j (omega arith),
+          own_left {label = merge_edge g label e} k (merge_vertices s (one_end g e) (other_end g e) (one_end_below valid e)) j (omega arith),
           own_fewer g label s e p (one_end_below valid e) (other_end_below valid e),
         )
 

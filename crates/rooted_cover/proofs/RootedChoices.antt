@@ -39,6 +39,7 @@ use Rattle.rooted_cover.proofs.PartPaths.{PathFor}
 -- A list turned round has all its elements.
 in_turned : {x : ℕ} {p : List ℕ} → x ∈ p → x ∈ turned p
 unfolding turned
+in_turned {p = []} x3 = elim x3 [ ]
 in_turned {p = e ∷ p} (Memᴰ.head q) = Memᴰ.append_right (turned p) (Memᴰ.head q)
 in_turned {p = e ∷ p} (Memᴰ.tail m) = Memᴰ.append_left _ (in_turned m)
 

@@ -2,6 +2,8 @@
 // A step is a child, the vertex above it and the weight of the edge between, packed as an arc is, with the child in the
 // edge's place.
 // The words of the contracts stand in specs/.
+#![tactic(auto)]
+
 ghost use Rattle.steps.specs.StepsPut.{AllStepsReady, AllStepsAsked, AllStepsPut, TreesPut};
 
 pub mod count;
