@@ -1,6 +1,5 @@
 -- `distance::distances_from` meets its contract. The loop's invariant: some vertices are settled, others wait, and `least` is the nearest's key.
 -- The measure is how many vertices are not settled. Assumes nothing.
-use Prim.Native.Nat.{◌-◌}
 use native.Mathlib.Omega.{arith}
 use lib.ListN.{length-replicate, get_or-replicate}
 use Rattle.waiting.specs.Waiting.{nobody}
@@ -39,11 +38,10 @@ loop-least-init c =
     c.key_of.ensures c.put_key.ensures c.least_from-least.ensures
 
 pub take_key-requires : goal.take_key-requires
-take_key-requires c =
-    (
-      omega (arith, searching_vertex c.loop-least.invariant c.loop-least-test.true c.vertex_of-u.ensures, c.loop-least.invariant.ready.sound.few),
-      c.loop-least.invariant.blocks,
-    )
+take_key-requires c = (
+  omega (arith, searching_vertex c.loop-least.invariant c.loop-least-test.true c.vertex_of-u.ensures, c.loop-least.invariant.ready.sound.few),
+  c.loop-least.invariant.blocks,
+)
 
 pub relax_arcs-requires : goal.relax_arcs-requires
 relax_arcs-requires c = searching_relaxable c.loop-least.invariant c.loop-least-test.true c.vertex_of-u.ensures c.take_key.ensures

@@ -1,6 +1,6 @@
 -- `distance::path_back` meets its contract. The loop's invariant: the trail is written up to the vertex at hand.
 -- The measure is the room that is left. Assumes nothing.
-use Prim.Native.Nat.{◌-◌, ◌<◌}
+use Prim.Native.Nat.{◌<◌}
 use native.Mathlib.Omega.{arith}
 use lib.ListN.{length, length-set}
 use Rattle.distance.proofs.Trails.{following_none, following_inside, following_more, following_all}

@@ -1,6 +1,6 @@
 -- `cover::heaviest::edges_weight` meets its contract. The loop's invariant: the sum is the weight of the edges before i, less than 2^32 for
 -- each. The measure is how many edges are left. Assumes nothing.
-use Prim.Native.Nat.{◌+◌, ◌-◌}
+use Prim.Native.Nat.{◌+◌}
 use mathlib.Core.Path.{◌≡◌, ap, ◌∙◌}
 use native.Mathlib.Omega.{arith}
 use lib.ListN.{take}
@@ -35,12 +35,12 @@ pub loop-i-preserved : goal.loop-i-preserved
 loop-i-preserved c =
     let g : Graph = graph_of c.args.b.now c.args.classes.now in
     let weight_added : c.loop-i.sum + c.weight-sum.result ≡ total_weight g (take (c.loop-i.i + 1) c.args.edges.now) = omega (
-        arith,
-        list_weight_next g c.args.edges.now c.loop-i.i (omega arith),
-        c.weight-sum.ensures.is,
-        ap (weight_of g) c.number_at.ensures.is,
-        c.loop-i.invariant.2,
-      ) in
+      arith,
+      list_weight_next g c.args.edges.now c.loop-i.i (omega arith),
+      c.weight-sum.ensures.is,
+      ap (weight_of g) c.number_at.ensures.is,
+      c.loop-i.invariant.2,
+    ) in
     (omega arith, omega arith, weight_added)
 
 pub returns : goal.returns

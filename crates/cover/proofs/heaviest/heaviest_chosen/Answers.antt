@@ -1,6 +1,6 @@
 -- `cover::heaviest::heaviest_chosen` meets its contract. The loop's invariant: `most` is the heaviest of the first j trees chosen. The
 -- measure is how many trees are left. Assumes nothing.
-use Prim.Native.Nat.{ℕ, ◌+◌, ◌-◌, ◌<◌, max}
+use Prim.Native.Nat.{ℕ, ◌+◌, ◌<◌, max}
 use mathlib.Core.Path.{◌≡◌, ap, ap₂, ◌∙◌}
 use native.Mathlib.Omega.{arith}
 use lib.ListN.{length, get_or}
@@ -44,7 +44,7 @@ loop-j-preserved c =
     let weighed : c.edges_weight.result ≡ total_weight g (segment c.args.bounds.now c.args.edges.now (get_or c.args.chosen.now c.loop-j.j 0)) = c.edges_weight.ensures ∙ ap (total_weight g) (held_edges c.number_at-c.ensures c.edges_at.ensures) in
     let more : c.loop-j.j < length c.args.chosen.now = omega arith in
     let larger_is : max c.loop-j.most c.edges_weight.result ≡ heaviest (c.loop-j.j + 1) = ap₂ max c.loop-j.invariant.1 weighed
-      ∙ chosen_next g c.args.bounds.now c.args.edges.now c.args.chosen.now c.loop-j.j more in
+    ∙ chosen_next g c.args.bounds.now c.args.edges.now c.args.chosen.now c.loop-j.j more in
     (omega arith, c.larger-most.ensures ∙ larger_is)
 
 pub returns : goal.returns

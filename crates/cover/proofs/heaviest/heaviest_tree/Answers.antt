@@ -1,6 +1,5 @@
 -- `cover::heaviest::heaviest_tree` meets its contract. The loop's invariant: `most` is the heaviest of the trees before j, and the entries of
 -- tree j begin at `from`. The measure is how many trees are left. Assumes nothing.
-use Prim.Native.Nat.{◌-◌}
 use mathlib.Core.Path.{◌≡◌, ◌∙◌}
 use native.Mathlib.Omega.{arith}
 use Rattle.graph.specs.Graph.{Graph, edge_count}
@@ -38,8 +37,7 @@ pub loop-j-preserved : goal.loop-j-preserved
 loop-j-preserved c =
     let g : Graph = graph_of c.args.b.now c.args.classes.now in
     let run_is_tree : tree_in c.args.c.now c.loop-j.j
-      ≡ record { start = start_in c.args.c.now c.loop-j.j; edges = run_edges c.args.c.now c.loop-j.from c.run_end-to.result } = tree_is_run c.args.c.now (edge_count g) c.requires.entries c.loop-j.invariant.1 c.run_end-to.ensures in
-    (
+    ≡ record { start = start_in c.args.c.now c.loop-j.j; edges = run_edges c.args.c.now c.loop-j.from c.run_end-to.result } = tree_is_run c.args.c.now (edge_count g) c.requires.entries c.loop-j.invariant.1 c.run_end-to.ensures in (
       omega arith,
       begins_next c.args.c.now (edge_count g) c.requires.entries c.loop-j.invariant.1 c.run_end-to.ensures,
       c.larger-most.ensures ∙ heaviest_next g c.args.c.now c.loop-j.j c.loop-j.from c.run_end-to.result run_is_tree

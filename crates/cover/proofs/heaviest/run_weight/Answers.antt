@@ -1,6 +1,5 @@
 -- `cover::heaviest::run_weight` meets its contract. The loop's invariant: the sum is the weight of the entries before i, less than 2^32 for each.
 -- The measure is how many entries are left. Assumes nothing.
-use Prim.Native.Nat.{◌-◌}
 use mathlib.Core.Path.{◌≡◌, ap, ◌∙◌}
 use native.Mathlib.Omega.{arith}
 use Rattle.graph.specs.Graph.{Graph, weight_of}
@@ -32,8 +31,7 @@ loop-i-smaller c = omega arith
 
 pub loop-i-preserved : goal.loop-i-preserved
 loop-i-preserved c =
-    let g : Graph = graph_of c.args.b.now c.args.classes.now in
-    (
+    let g : Graph = graph_of c.args.b.now c.args.classes.now in (
       omega arith,
       omega arith,
       omega arith,

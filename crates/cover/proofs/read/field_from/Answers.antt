@@ -10,4 +10,4 @@ pub returns-then-c-i : goal.returns-then-c-i
 returns-then-c-i c = record { is = sym (u16_past c.args.c.now (c.args.from + 2 * c.args.i) (omega arith)); small = omega arith }
 
 pub overflow_add-from : goal.overflow_add-from
-overflow_add-from c = omega (arith, c.well-formed.0.1)
+overflow_add-from c = omega (arith, c.well_formed.0.1)

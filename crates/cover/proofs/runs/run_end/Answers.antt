@@ -1,10 +1,8 @@
 -- `cover::runs::run_end` meets its contract. The loop's invariant: the entries before i name tree j. The measure is how many entries are left.
 -- Assumes nothing.
-use Prim.Native.Nat.{◌-◌}
 use mathlib.Core.Path.{sym, ◌∙◌}
 use native.Mathlib.Omega.{arith}
 use borrow.Author.Count.{below_more}
-use Rattle.rules.specs.CoverBytes.{entry_tree}
 use Rattle.cover.proofs.runs.run_end.Goals as goal
 
 pub entries_in-q-requires : goal.entries_in-q-requires

@@ -1,6 +1,6 @@
 -- `cover::write::entry_count` meets its contract. The loop's invariant: the sum is that of the first j trees, no more than that of all.
 -- The measure is how many are left. Assumes nothing.
-use Prim.Native.Nat.{◌+◌, ◌-◌, ◌≤◌}
+use Prim.Native.Nat.{◌+◌, ◌≤◌}
 use mathlib.Core.Path.{◌≡◌, ap, ◌∙◌}
 use native.Mathlib.Omega.{arith}
 use lib.ListN.{take}
@@ -24,12 +24,12 @@ pub overflow_add-sum : goal.overflow_add-sum
 unfolding entry_count
 overflow_add-sum c =
     let sum_next : c.loop-j.sum + c.size_at-sum.result ≡ entry_count c.args.bounds.now (take (c.loop-j.j + 1) c.args.chosen.now) = omega (
-        arith,
-        sum_first_more (size_at c.args.bounds.now) c.args.chosen.now c.loop-j.j 0 (omega arith),
-        c.size_at-sum.ensures.is,
-        ap (size_at c.args.bounds.now) c.number_at.ensures.is,
-        c.loop-j.invariant.1,
-      ) in
+      arith,
+      sum_first_more (size_at c.args.bounds.now) c.args.chosen.now c.loop-j.j 0 (omega arith),
+      c.size_at-sum.ensures.is,
+      ap (size_at c.args.bounds.now) c.number_at.ensures.is,
+      c.loop-j.invariant.1,
+    ) in
     let sum_within : c.loop-j.sum + c.size_at-sum.result ≤ entry_count c.args.bounds.now c.args.chosen.now = omega (arith, sum_next, sum_first (size_at c.args.bounds.now) c.args.chosen.now (c.loop-j.j + 1)) in
     omega (arith, sum_within)
 
@@ -43,12 +43,12 @@ pub loop-j-preserved : goal.loop-j-preserved
 unfolding entry_count
 loop-j-preserved c =
     let sum_next : c.loop-j.sum + c.size_at-sum.result ≡ entry_count c.args.bounds.now (take (c.loop-j.j + 1) c.args.chosen.now) = omega (
-        arith,
-        sum_first_more (size_at c.args.bounds.now) c.args.chosen.now c.loop-j.j 0 (omega arith),
-        c.size_at-sum.ensures.is,
-        ap (size_at c.args.bounds.now) c.number_at.ensures.is,
-        c.loop-j.invariant.1,
-      ) in
+      arith,
+      sum_first_more (size_at c.args.bounds.now) c.args.chosen.now c.loop-j.j 0 (omega arith),
+      c.size_at-sum.ensures.is,
+      ap (size_at c.args.bounds.now) c.number_at.ensures.is,
+      c.loop-j.invariant.1,
+    ) in
     (omega arith, sum_next)
 
 pub returns : goal.returns

@@ -1,6 +1,6 @@
 -- `cover::write::put_edges` meets its contract. The loop's invariant: the edges of the first j trees are put. The measure is how many
 -- trees are left. Assumes nothing.
-use Prim.Native.Nat.{ℕ, ◌-◌, ◌<◌}
+use Prim.Native.Nat.{ℕ, ◌<◌}
 use mathlib.Core.Path.{◌≡◌}
 use native.Mathlib.Omega.{arith}
 use lib.ListN.{length, get_or}

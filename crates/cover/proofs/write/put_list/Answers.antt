@@ -1,6 +1,6 @@
 -- `cover::write::put_list` meets its contract. The loop's invariant: the first i fields are put. The measure is how many are left.
 -- Assumes nothing.
-use Prim.Native.Nat.{ℕ, ◌-◌, ◌<◌}
+use Prim.Native.Nat.{ℕ, ◌<◌}
 use mathlib.Core.Path.{◌≡◌, ◌∙◌}
 use mathlib.Core.List.{List, map-id}
 use native.Mathlib.Omega.{arith}

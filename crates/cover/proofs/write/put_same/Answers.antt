@@ -1,6 +1,5 @@
 -- `cover::write::put_same` meets its contract. The loop's invariant: i fields are put. The measure is how many are left.
 -- Assumes nothing.
-use Prim.Native.Nat.{◌-◌}
 use mathlib.Core.Path.{◌≡◌}
 use mathlib.Core.List.{[], ◌∷◌}
 use native.Mathlib.Omega.{arith}

@@ -1,7 +1,7 @@
 -- `cover::write::put_starts` meets its contract. The loop's invariant: the starts of the first j trees are put. The measure is
 -- how many are left.
 -- Assumes nothing.
-use Prim.Native.Nat.{ℕ, ◌-◌, ◌<◌}
+use Prim.Native.Nat.{ℕ, ◌<◌}
 use mathlib.Core.Path.{◌≡◌, ap, ◌∙◌}
 use mathlib.Core.List.{List, map}
 use native.Mathlib.Omega.{arith}
@@ -37,7 +37,7 @@ loop-j-smaller c = omega arith
 pub loop-j-preserved : goal.loop-j-preserved
 loop-j-preserved c =
     let more : c.loop-j.j < length c.args.chosen.now = omega arith in
-    let start_read : c.number_at.result ≡ get_or c.args.starts.now (get_or c.args.chosen.now c.loop-j.j 0) 0 = c.number_at.ensures.is ∙ ap (λ c. get_or c.args.starts.now c 0) c.number_at-c.ensures.is in
+    let start_read : c.number_at.result ≡ get_or c.args.starts.now (get_or c.args.chosen.now c.loop-j.j 0) 0 = c.number_at.ensures.is ∙ ap (λ c'. get_or c.args.starts.now c' 0) c.number_at-c.ensures.is in
     next_put c.loop-j.invariant more (as_list _ (rw start_read at c.put_u16-next.ensures))
 
 pub returns : goal.returns

@@ -1,6 +1,6 @@
 -- `distance::relax::relax_arcs` meets its contract. The loop's invariant: the arcs before place i are relaxed, and whoever is nearer by them has a new key.
 -- The measure is how many are left. Assumes nothing.
-use Prim.Native.Nat.{ℕ, ◌+◌, ◌-◌, ◌<◌}
+use Prim.Native.Nat.{ℕ, ◌+◌, ◌<◌}
 use mathlib.Core.Path.{◌≡◌, refl}
 use mathlib.Core.Bool.{true}
 use native.Mathlib.Omega.{arith}

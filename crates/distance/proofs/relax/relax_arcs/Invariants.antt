@@ -9,7 +9,7 @@ use Rattle.distance.proofs.ArcsRekeyed.{Rekeying}
 use Rattle.distance.proofs.relax.relax_arcs.Given as goal
 
 abbrev pub invariant-loop-i : goal.invariant-loop-i
-invariant-loop-i l = 
+invariant-loop-i l =
     record {
       from : get_or l.bounds l.u 0 ≤ l.i;
       to : l.i ≤ get_or l.bounds (l.u + 1) 0;

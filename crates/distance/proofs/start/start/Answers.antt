@@ -1,6 +1,5 @@
 -- `distance::start::start` meets its contract. The loop's invariant: the vertices below v are not reached.
 -- The measure is how many are left. Assumes nothing.
-use Prim.Native.Nat.{◌-◌}
 use mathlib.Core.Path.{refl}
 use native.Mathlib.Omega.{arith}
 use Rattle.distance.proofs.SearchStart.{starting_none, starting_more, starting_all}
