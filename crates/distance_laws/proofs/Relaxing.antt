@@ -96,7 +96,10 @@ module _ (g : Graph) (known : List Distance) (v : ℕ) where
   relaxed_old [] h = h
   relaxed_old (e ∷ es) h = relaxed_more e es (relaxed_old es h)
 
+  over_each : {e : ℕ} {es : List ℕ} {u c : ℕ} → e ∈ es → Joins g e u v → AtMost (get_or known u none) c → AtMost (relaxed g known v es) (c + weight_of g e)
+  over_each {e = e} {c = c} (Memᴰ.head {xs = es} q) j h = subst (λ x. AtMost (relaxed g known v (x ∷ es)) (c + weight_of g e)) q (relaxed_first e es j h)
+  over_each (Memᴰ.tail {x = x} {xs = es} m) j h = relaxed_more x es (over_each m j h)
+
   -- Relaxing makes nothing further than it is over an edge of the list.
-  pub relaxed_over : {e : ℕ} {es : List ℕ} {u c : ℕ} → e ∈ es → Joins g e u v → AtMost (get_or known u none) c → AtMost (relaxed g known v es) (c + weight_of g e)
-  relaxed_over {e = e} {c = c} (Memᴰ.head {xs = es} q) j h = subst (λ x. AtMost (relaxed g known v (x ∷ es)) (c + weight_of g e)) q (relaxed_first e es j h)
-  relaxed_over (Memᴰ.tail {x = x} {xs = es} m) j h = relaxed_more x es (relaxed_over m j h)
+  pub relaxed_over : {es : List ℕ} {e u c : ℕ} → e ∈ es → Joins g e u v → AtMost (get_or known u none) c → AtMost (relaxed g known v es) (c + weight_of g e)
+  relaxed_over m j h = over_each m j h

@@ -9,7 +9,6 @@ use native.Mathlib.Omega.{arith}
 use lib.ListN.{length, get_or}
 use lib.Dec.{eqb, leb, ltb}
 use borrow.Author.Tests.{ltb-true, lt-ltb, le-ltb, le-leb, lt-leb, eq-eqb, ne_eqb}
-use Rattle.lists.specs.Count.{below}
 use Rattle.lists.proofs.AllBelow.{all_below, not_below, each_below}
 use Rattle.rules.specs.Cover.{rooted, unrooted}
 use Rattle.rules.specs.CoverBytes.{trees_in, start_in}

@@ -1,5 +1,7 @@
 // What a trial or a best-limit question is answered, by cause, with document 01's number and values of each answer; and
 // what is known besides after some trials.
+#![tactic(auto)]
+
 ghost use Rattle.std.specs.Prelude.{◌≡◌};
 ghost use Rattle.replies.specs.Replies.{says, bit_of};
 
