@@ -19,7 +19,6 @@ use Rattle.graph.proofs.Faults.{quiet_unless, quiet_each}
 use Rattle.rules.specs.Cover.{Tree, IsTree}
 use Rattle.rules.specs.CoverBytes.{trees_in, tree_in, decode}
 use Rattle.rules.specs.CheckCover.{cover_fault}
-use Rattle.rules.specs.Reply as reply
 use Rattle.rules.specs.Questions.{Question, graph_in, crews_in, question_fault, check_fault, ask_check}
 use Rattle.rules.specs.WalkQuestion.{least_walk_room, walk_fault, refused, ask_walk, stop_bytes, walk_after}
 use Rattle.rules.proofs.Admitted.{admitted}

@@ -1,4 +1,6 @@
 // The assignment as a library that a C or a Rust program links: `include/matching.h` declares it.
+#![tactic(auto)]
+
 ghost use Rattle.matching_c.specs.Promise.{Numbered};
 
 use matching::Answer;

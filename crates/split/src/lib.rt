@@ -2,6 +2,8 @@
 // The trees are walked over the edges around each vertex, so that no byte of the graph is read.
 // What is done at each node with its bunch stands in the crate `bunches`.
 // The words of the contracts stand in specs/: `ForestSplit` is what the public function promises.
+#![tactic(auto)]
+
 ghost use Rattle.split.specs.ForestSplit.{lent, Splittable, Unwalked, RootsWalked, ForestSplit};
 
 mod walk;
