@@ -1,6 +1,5 @@
 -- `needs::history::needed_by_history` meets its contract. The loop's invariant: the merges before i are summed.
 -- The measure is how many are left. Assumes nothing.
-use Prim.Native.Nat.{◌-◌}
 use native.Mathlib.Omega.{arith}
 use Rattle.needs.proofs.HistoryRead.{reading_none, reading_fits, reading_more, reading_all}
 use Rattle.needs.proofs.history.needed_by_history.Goals as goal

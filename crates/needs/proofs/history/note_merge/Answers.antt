@@ -10,7 +10,7 @@ overflow_add-total c =
     let one_is : c.wide-one.result ≡ get_or c.args.made.now c.args.a 0 = c.wide-one.ensures.is in
     let other_is : c.wide-other.result ≡ get_or c.args.made.now c.args.c 0 = c.wide-other.ensures.is in
     let sums_are : get_or c.args.total.now c.wide-one.result 0 + get_or c.args.total.now c.wide-other.result 0
-      ≡ get_or c.args.total.now (get_or c.args.made.now c.args.a 0) 0 + get_or c.args.total.now (get_or c.args.made.now c.args.c 0) 0 = ap₂ (λ x y. get_or c.args.total.now x 0 + get_or c.args.total.now y 0) one_is other_is in
+    ≡ get_or c.args.total.now (get_or c.args.made.now c.args.a 0) 0 + get_or c.args.total.now (get_or c.args.made.now c.args.c 0) 0 = ap₂ (λ x y. get_or c.args.total.now x 0 + get_or c.args.total.now y 0) one_is other_is in
     omega (arith, one_is, other_is, sums_are, c.requires.fits)
 
 pub overflow_add-total-2 : goal.overflow_add-total-2
@@ -18,7 +18,7 @@ overflow_add-total-2 c =
     let one_is : c.wide-one.result ≡ get_or c.args.made.now c.args.a 0 = c.wide-one.ensures.is in
     let other_is : c.wide-other.result ≡ get_or c.args.made.now c.args.c 0 = c.wide-other.ensures.is in
     let sums_are : get_or c.args.total.now c.wide-one.result 0 + get_or c.args.total.now c.wide-other.result 0
-      ≡ get_or c.args.total.now (get_or c.args.made.now c.args.a 0) 0 + get_or c.args.total.now (get_or c.args.made.now c.args.c 0) 0 = ap₂ (λ x y. get_or c.args.total.now x 0 + get_or c.args.total.now y 0) one_is other_is in
+    ≡ get_or c.args.total.now (get_or c.args.made.now c.args.a 0) 0 + get_or c.args.total.now (get_or c.args.made.now c.args.c 0) 0 = ap₂ (λ x y. get_or c.args.total.now x 0 + get_or c.args.total.now y 0) one_is other_is in
     omega (arith, one_is, other_is, sums_are, c.requires.fits)
 
 pub bounds-until-other : goal.bounds-until-other
