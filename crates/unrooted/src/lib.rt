@@ -2,5 +2,7 @@
 // limit. What the components need stands in the crate `needs`, and which pieces are trees, and their order, in
 // `unrooted_pieces`.
 // The words of the contracts stand in specs/ and in the definitions of the crate `rules`.
+#![tactic(auto)]
+
 pub mod answer;
 pub mod unrooted;
