@@ -6,7 +6,6 @@ use mathlib.Core.Bool.{false, ◌&&◌}
 use mathlib.Core.List.{List, map}
 use native.Mathlib.Omega.{arith}
 use lib.ListN.{length, take, length-take}
-use Rattle.lists.specs.Lists.{flat}
 use Rattle.lists.specs.Segments.{segment}
 use Rattle.lists.proofs.Pigeonhole.{count_same}
 use Rattle.lists.proofs.SameTests.{any_below_same}

@@ -2,6 +2,8 @@
 // "ordered by smallest line"). The pieces stand as the splitting left them; those chosen are laid out again with their
 // edges rising.
 // The words of the contracts stand in specs/ and in the definitions of the crate `rules`.
+#![tactic(auto)]
+
 ghost use Rattle.std.specs.Prelude.{map, ◌≤◌, length};
 ghost use Rattle.lists.specs.Put.{PutTo};
 ghost use Rattle.rules.specs.CoverBytes.{encode};

@@ -2,6 +2,8 @@
 // with roots the edges around each vertex of it and the distances from all roots; without roots the history of its
 // merges. Each kind prepares only what it reads.
 // The words of the contracts stand in specs/ and in the definitions of the crate `rules`.
+#![tactic(auto)]
+
 ghost use Rattle.std.specs.Prelude.{length};
 ghost use Rattle.graph.specs.Bytes.{graph_of};
 ghost use Rattle.prepare.specs.Preparing.{ForestAsked, ForestPrepared, DistancesAsked, DistancesPrepared, RootedPreparable, RootedPrepared, UnrootedPreparable, UnrootedPrepared};

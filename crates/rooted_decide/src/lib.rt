@@ -2,6 +2,8 @@
 // steps 2 to 5), over what is prepared once a question. Where the whole graph joins every vertex to a root, all are
 // joined within the limit exactly where no edge of the whole forest is above it.
 // The words of the contracts stand in specs/ and in the definitions of the crate `rules`.
+#![tactic(auto)]
+
 ghost use Rattle.std.specs.Prelude.{◌≡◌};
 ghost use Rattle.graph.specs.Bytes.{graph_of};
 ghost use Rattle.rules.specs.Cover.{rooted};
