@@ -2,6 +2,8 @@
 // prepared once a question. Its parts stand in the crate `rooted_parts`, its cover in `rooted_cover`, and those of a
 // set without an assignment in `deficient`.
 // The words of the contracts stand in specs/ and in the definitions of the crate `rules`.
+#![tactic(auto)]
+
 ghost use Rattle.std.specs.Prelude.{length};
 ghost use Rattle.graph.specs.Bytes.{graph_of};
 ghost use Rattle.rules.specs.Cover.{rooted};

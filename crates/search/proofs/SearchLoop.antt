@@ -11,13 +11,12 @@ use lib.Dec.{ltb}
 use Rattle.graph.specs.Graph.{Graph}
 use Rattle.rules.specs.Cover.{Crews}
 use Rattle.rules.specs.Search.{accepts, narrowed, searched}
-use Rattle.rules.specs.FewTrials.{middles, known}
+use Rattle.rules.specs.FewTrials.{middles}
 use Rattle.planner_laws.proofs.SearchSteps.{search_stops, search_steps}
 use Rattle.planner_laws.proofs.FirstBounds.{all_weights}
 use Rattle.planner_laws.proofs.TrialsMade.{middles_stop, middles_step}
 use Rattle.planner_laws.proofs.FewTrials.{standing_zero, standing_more, known_zero, known_more}
 use Rattle.search.specs.declared.limit.Standing.{Standing}
-use Rattle.search.specs.declared.limit.Found.{Found}
 use Rattle.search.specs.Searching.{between, stands, SearchEnded, found_after}
 
 -- Low and high, and how many trials are left: the search from here ends where the whole search does, and the trials made and to come are its trials.
