@@ -1,4 +1,6 @@
 // Whether there is no cover at all, and the answer at a limit, by crews of either kind.
+#![tactic(auto)]
+
 ghost use Rattle.std.specs.Prelude.{◌≡◌, length};
 ghost use Rattle.graph.specs.Bytes.{graph_of};
 ghost use Rattle.rules.specs.Search.{no_cover_exists};
