@@ -16,7 +16,7 @@ use Rattle.graph.specs.Fault.{Fault, fault_if, first_fault, refused_or}
 use Rattle.graph.proofs.Faults.{quiet_if, quiet_each}
 use Rattle.rules.specs.Reply as rules
 use Rattle.rules.specs.RootedTrial.{no_choices}
-use Rattle.rules.specs.Search.{trial, best, best_limit}
+use Rattle.rules.specs.Search.{trial, best_limit}
 use Rattle.rules.specs.FewTrials as few
 use Rattle.rules.specs.FewTrials.{untried, before_trials, within}
 use Rattle.rules.specs.Questions.{most_limit, least_room, most_trials, Question, listed, graph_in, crews_in, limit_fault, room_fault, trials_fault, question_fault, trial_fault, ask_trial, best_fault, ask_best, within_fault, ask_within, written, buffer_after}
@@ -27,7 +27,7 @@ use Rattle.planner_laws.proofs.FewTrials.{unspent_best, unspent_same, valid_unsp
 use Rattle.planner_laws.proofs.Replies.{trial_means, best_means, within_means}
 use Rattle.admit.specs.declared.crews.Kind.{Kind}
 use Rattle.admit.specs.declared.refusal.Refusal.{Refusal}
-use Rattle.admit.specs.declared.refusal.Refusal.TheVariants.{Room, Trials}
+use Rattle.admit.specs.declared.refusal.Refusal.TheVariants.{Room}
 use Rattle.admit.specs.declared.brought.Lists.{Lists}
 use Rattle.admit.specs.Crews.{asks_with}
 use Rattle.admit.specs.Refusals.{number_of}
@@ -37,7 +37,7 @@ use Rattle.replies.specs.Replies.{Replied, alone, Tells}
 use Rattle.asking.specs.declared.ask.Asked.{Asked}
 use Rattle.asking.specs.declared.ask.Asked.TheVariants.{At, Within}
 use Rattle.asking.specs.Asking.{AskedFits, Answered, CrewsAsked}
-use Rattle.planner.specs.Promise.{Refuses, TrialPromise, BestPromise, WithinPromise, limit_fault_of, trials_fault_of, fault_of, TrialTold, AskPromise, LimitTested, TrialsTested, refused_or_told, QuestionPromise}
+use Rattle.planner.specs.Promise.{Refuses, BestPromise, WithinPromise, limit_fault_of, trials_fault_of, fault_of, TrialTold, AskPromise, LimitTested, TrialsTested, refused_or_told, QuestionPromise}
 
 -- THE TESTS
 
