@@ -21,7 +21,7 @@ use Rattle.replies.specs.Replies.{said, says, bit_of}
 use Rattle.planner.specs.Promise.{AskPromise}
 use Rattle.planner.proofs.Promised.{best_promised}
 use Rattle.planner_c.specs.Numbers.{kind_of, asked_of, besides, says_told, said_of, Puts}
-use Rattle.planner_c.specs.Promise.{TrialExported, BestExported, AskExported}
+use Rattle.planner_c.specs.Promise.{AskExported}
 
 -- A number that is not 0 names the unrooted kind.
 pub unrooted : (kind : ℕ) → (kind ≡ 0 → ⊥) → Unrooted ≡ kind_of kind
@@ -84,10 +84,6 @@ six_put (a ∷ b ∷ c ∷ d ∷ []) long = absurd (omega (arith, long))
 six_put (a ∷ b ∷ c ∷ d ∷ e ∷ []) long = absurd (omega (arith, long))
 six_put (a ∷ b ∷ c ∷ d ∷ e ∷ f ∷ rest) long = refl
 
--- The cases of a reply that is no cover (1).
-abbrev others : List ℕ
-others = 0 ∷ 2 ∷ 3 ∷ 4 ∷ 5 ∷ []
-
 module _ (t : Told) {before after : List ℕ} where
   -- What is known behind a cover's values,
   pub puts_besides : {limit heaviest count spent : ℕ} → t.reply ≡ replies.Cover limit heaviest count → 6 ≤ length before → spent ≡ bit_of t.known.spent
@@ -97,13 +93,13 @@ module _ (t : Told) {before after : List ℕ} where
       record { values = rw is ((rw (is, bit) at p).values ∙ six_put before long) }
 
   -- and nothing behind those of another reply.
-  pub puts_no_more : OneOf others (tag_of reply.the_type t.reply) → Puts (says t.reply) before after → Puts (says_told t) before after
-  puts_no_more case p = let none = nothing t.reply case in record { values = rw (none, append-nil (says t.reply).values) p.values }
+  pub puts_no_more : ((limit heaviest count : ℕ) → t.reply ≡ replies.Cover limit heaviest count → ⊥) → Puts (says t.reply) before after → Puts (says_told t) before after
+  puts_no_more other p = let none = nothing t.reply refl in record { values = rw (none, append-nil (says t.reply).values) p.values }
     where
-      nothing : (r : Reply) → OneOf others (tag_of reply.the_type r) → besides r t.known ≡ []
-      nothing (replies.Refused f) case = refl
-      nothing (replies.Cover limit heaviest count) case = absurd (miss others 1 tt case)
-      nothing (replies.Stop v) case = refl
-      nothing (replies.Parts T D) case = refl
-      nothing (replies.Needs C) case = refl
-      nothing replies.NoCover case = refl
+      nothing : (r : Reply) → t.reply ≡ r → besides r t.known ≡ []
+      nothing (replies.Refused f) e = refl
+      nothing (replies.Cover limit heaviest count) e = absurd (other limit heaviest count e)
+      nothing (replies.Stop v) e = refl
+      nothing (replies.Parts T D) e = refl
+      nothing (replies.Needs C) e = refl
+      nothing replies.NoCover e = refl

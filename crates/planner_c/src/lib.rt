@@ -1,5 +1,7 @@
 // The planner as a library that a C or a Rust program links: `include/planner.h` declares it. Four functions take a
 // question without lists; beside them four general ones take what a question may bring beside its graph.
+#![tactic(auto)]
+
 pub mod said;
 
 ghost use Rattle.admit.specs.Crews.{asks, asks_with};
