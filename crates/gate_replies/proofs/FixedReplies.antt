@@ -1,24 +1,21 @@
 -- What is written of a reply where the rules leave a choice, reply by reply, and that it fits.
 -- Assumes nothing.
 use Prim.Native.Nat.{ℕ, ◌≤◌}
-use mathlib.Core.Path.{◌≡◌, sym, ap, subst, ◌∙◌}
+use mathlib.Core.Path.{◌≡◌, sym, ap, subst, ◌∙◌, refl}
 use mathlib.Core.Bool.{Bool}
 use mathlib.Core.List.{List, []}
 use lib.ListN.{length, take}
-use denote.Enum.Declared.{tag_of}
-use types.Run.{OneOf, miss}
 use Rattle.lists.specs.Put.{PutTo}
 use Rattle.lists.proofs.Put.{put_fits}
 use Rattle.graph.specs.Graph.{Graph}
 use Rattle.rules.specs.CoverBytes.{cover_length}
 use Rattle.rules.specs.Questions.{Question, graph_in}
-use Rattle.replies.specs.contracts.Reply as reply
 use Rattle.replies.specs.declared.Reply.{Reply}
 use Rattle.replies.specs.declared.Reply.TheVariants.{Refused, Cover, Stop, Parts, Needs, NoCover}
 use Rattle.reply_text.specs.Lines.{line}
 use Rattle.reply_text.specs.Replies.{TextAsked, TextWritten}
 use Rattle.gate_replies.specs.Fixed.{confirmed, sure_line, FixedBy, FixedWritten}
-use Rattle.gate_replies.proofs.FullReplies.{others}
+use Rattle.gate_replies.proofs.FullReplies.{Other}
 
 module _ {q : Question} {buf before after : List ℕ} {r : ℕ} where
   -- A cover: the buffer's own counts say where its bytes end.
@@ -36,11 +33,11 @@ module _ {q : Question} {buf before after : List ℕ} {r : ℕ} where
   fixed_parts is p = record { fixed = subst (FixedBy q buf before after r) (sym is) p }
 
   -- Any other.
-  pub fixed_other : (x : Reply) → OneOf others (tag_of reply.the_type x) → TextWritten (graph_in q) x buf before after r → FixedWritten q x buf before after r
+  pub fixed_other : (x : Reply) → Other x → TextWritten (graph_in q) x buf before after r → FixedWritten q x buf before after r
   fixed_other (Refused f) o p = record { fixed = p }
-  fixed_other (Cover limit heaviest t) o p = absurd (miss others 1 tt o)
+  fixed_other (Cover limit heaviest t) o p = absurd (o.0 limit heaviest t refl)
   fixed_other (Stop v) o p = record { fixed = p }
-  fixed_other (Parts T D) o p = absurd (miss others 3 tt o)
+  fixed_other (Parts T D) o p = absurd (o.1 T D refl)
   fixed_other (Needs C) o p = record { fixed = p }
   fixed_other NoCover o p = record { fixed = p }
 

@@ -2,13 +2,10 @@
 -- Assumes nothing.
 use Prim.Native.Nat.{ℕ, ◌+◌, ◌*◌, ◌≤◌}
 use mathlib.Core.Path.{◌≡◌, refl, sym, subst}
-use mathlib.Core.List.{List, [], ◌∷◌, ◌++◌}
+use mathlib.Core.List.{List, ◌++◌}
 use native.Mathlib.Omega.{arith}
 use lib.ListN.{length, length-append}
-use denote.Enum.Declared.{tag_of}
-use types.Run.{OneOf, miss}
 use Rattle.lists.specs.Put.{PutTo}
-use Rattle.replies.specs.contracts.Reply as reply
 use Rattle.replies.specs.declared.Reply.{Reply}
 use Rattle.replies.specs.declared.Reply.TheVariants.{Refused, Cover, Stop, Parts, Needs, NoCover}
 use Rattle.replies.specs.Replies.{Said, says}
@@ -16,16 +13,16 @@ use Rattle.gate_replies.specs.Fields.{field, fields}
 use Rattle.gate_replies.specs.Full.{head_of, front_length}
 use Rattle.gate_replies.proofs.FieldLaws.{field_length, fields_length}
 
--- The replies that are neither a cover nor parts, by place in their type.
-abbrev pub others : List ℕ
-others = 0 ∷ 2 ∷ 4 ∷ 5 ∷ []
+-- A reply that is neither a cover nor parts.
+abbrev pub Other : Reply → Type 0
+Other r = ((limit heaviest t : ℕ) → r ≡ Cover limit heaviest t → ⊥) × ((T D : ℕ) → r ≡ Parts T D → ⊥)
 
 -- None of them writes to the buffer.
-pub writes_nothing : (r : Reply) (buf : List ℕ) → OneOf others (tag_of reply.the_type r) → 0 ≡ front_length r buf
+pub writes_nothing : (r : Reply) (buf : List ℕ) → Other r → 0 ≡ front_length r buf
 writes_nothing (Refused f) buf k = refl
-writes_nothing (Cover limit heaviest t) buf k = absurd (miss others 1 tt k)
+writes_nothing (Cover limit heaviest t) buf k = absurd (k.0 limit heaviest t refl)
 writes_nothing (Stop v) buf k = refl
-writes_nothing (Parts T D) buf k = absurd (miss others 3 tt k)
+writes_nothing (Parts T D) buf k = absurd (k.1 T D refl)
 writes_nothing (Needs C) buf k = refl
 writes_nothing NoCover buf k = refl
 
