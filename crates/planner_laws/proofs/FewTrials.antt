@@ -16,7 +16,7 @@ use Rattle.rules.specs.Cover.{Tree, heaviest, Crews, IsCover}
 use Rattle.rules.specs.RootedTrial.{Choices}
 use Rattle.rules.specs.Search.{accepts, Bounds, searched, no_cover_exists, best_limit, best, trial}
 use Rattle.rules.specs.Reply.{no_cover}
-use Rattle.rules.specs.FewTrials.{middles, standing, known, Told, untried, before_trials, within}
+use Rattle.rules.specs.FewTrials.{middles, standing, known, before_trials, within}
 use Rattle.rules.specs.Questions.{most_limit, most_trials}
 use Rattle.rules.specs.Fit.{GoodFor}
 use Rattle.planner_laws.proofs.SearchSteps.{width, Between, search_between, search_within, search_narrows, search_ends, search_once, steps_enough}

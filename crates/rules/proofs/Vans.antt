@@ -24,7 +24,7 @@ use Rattle.rules.specs.CheckCover.{cover_fault}
 use Rattle.rules.specs.Reply.{refused}
 use Rattle.rules.specs.RootedTrial.{Choices}
 use Rattle.rules.specs.Search.{trial, best}
-use Rattle.rules.specs.Questions.{Kind, yards, roving, Question, listed, graph_in, roots_by, crews_by, crews_in, sheet_fault, surface_fault, too_many_roots, crew_fault, van_fault, question_fault, limit_fault, room_fault, trial_fault, ask_trial, best_fault, ask_best, check_fault, ask_check}
+use Rattle.rules.specs.Questions.{Kind, yards, roving, Question, listed, graph_in, roots_by, crews_by, crews_in, sheet_fault, too_many_roots, crew_fault, van_fault, question_fault, limit_fault, room_fault, trial_fault, ask_trial, best_fault, ask_best, check_fault, ask_check}
 use Rattle.rules.specs.WalkQuestion.{walk_fault, ask_walk}
 use Rattle.rules.proofs.Fields.{Small, read_written, fields_length}
 use Rattle.rules.proofs.SheetRight.{sheet_right}
