@@ -2,7 +2,6 @@
 -- ended. The measure is how many trials are left. Assumes nothing.
 use mathlib.Core.Path.{sym, ◌∙◌}
 use native.Mathlib.Omega.{arith}
-use borrow.Author.Tests.{ltb-true}
 use Rattle.search.proofs.SearchLoop.{search_begins, high_moves, low_moves, ends}
 use Rattle.search.proofs.limit.search.Goals as goal
 use Rattle.search.proofs.limit.search.Goals.{then-loop-left-test+else-high-low-gt1, else-loop-left-test}
@@ -26,13 +25,13 @@ pub loop-left-smaller-then-accepts_at : goal.loop-left-smaller-then-accepts_at
 loop-left-smaller-then-accepts_at c = omega (arith, c.loop-left-test.true)
 
 pub loop-left-preserved-then-accepts_at : goal.loop-left-preserved-then-accepts_at
-loop-left-preserved-then-accepts_at c = high_moves c.loop-left.invariant c.loop-left-test.true (ltb-true 1 _ c.if-high-low-gt1.true-raw) (sym c.accepts_at.ensures ∙ c.if-accepts_at.true)
+loop-left-preserved-then-accepts_at c = high_moves c.loop-left.invariant c.loop-left-test.true (omega (arith, c.if-high-low-gt1.true)) (sym c.accepts_at.ensures ∙ c.if-accepts_at.true)
 
 pub loop-left-smaller : goal.loop-left-smaller
 loop-left-smaller c = omega (arith, c.loop-left-test.true)
 
 pub loop-left-preserved : goal.loop-left-preserved
-loop-left-preserved c = low_moves c.loop-left.invariant c.loop-left-test.true (ltb-true 1 _ c.if-high-low-gt1.true-raw) (sym c.accepts_at.ensures ∙ c.if-accepts_at.false)
+loop-left-preserved c = low_moves c.loop-left.invariant c.loop-left-test.true (omega (arith, c.if-high-low-gt1.true)) (sym c.accepts_at.ensures ∙ c.if-accepts_at.false)
 
 pub overflow_sub-result : goal.overflow_sub-result
 overflow_sub-result c = c.loop-left.invariant.left_most
