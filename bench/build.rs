@@ -1,4 +1,4 @@
-// Links libplanner_c.a from where `rt staticlib planner_c` writes it, or from the folder that PLANNER_LIB_DIR names.
+// Links libplanner_c.a from where `tools/build planner_c` puts it, or from the folder that PLANNER_LIB_DIR names.
 // Without it only the plain Rust version is measured. Beside it, where PLANNER_BEFORE_DIR names a folder, the library of an
 // earlier state: libplanner_before.a, whose names begin with `before_`, and its header planner.h; it may be of a time before
 // questions had lists, before they had vans, or before few trials were asked for.

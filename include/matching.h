@@ -1,4 +1,4 @@
-/* The assignment of parts to yards: link libmatching_c.a, which `rt staticlib matching_c` writes. */
+/* The assignment of parts to yards: link libmatching_c.a, which `tools/build matching_c` makes. */
 #ifndef MATCHING_H
 #define MATCHING_H
 

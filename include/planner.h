@@ -1,4 +1,4 @@
-/* Min-max tree covers of a graph: link libplanner_c.a, which `rt staticlib planner_c` writes. */
+/* Min-max tree covers of a graph: link libplanner_c.a, which `tools/build planner_c` makes. */
 #ifndef PLANNER_H
 #define PLANNER_H
 

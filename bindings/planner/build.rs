@@ -1,4 +1,4 @@
-// Links libplanner_c.a from where `rt staticlib planner_c` writes it, or from the folder that PLANNER_LIB_DIR names.
+// Links libplanner_c.a from where `tools/build planner_c` puts it, or from the folder that PLANNER_LIB_DIR names.
 use std::env;
 use std::path::PathBuf;
 use std::process::exit;
@@ -15,7 +15,7 @@ fn main() {
     println!("cargo:rerun-if-changed={}", archive.display());
     if !archive.exists() {
         eprintln!("{} is not there.", archive.display());
-        eprintln!("`rt staticlib planner_c`, at the top of the repository, writes target/staticlib/libplanner_c.a;");
+        eprintln!("`tools/build planner_c`, at the top of the repository, puts it into target/staticlib;");
         eprintln!("PLANNER_LIB_DIR names another folder that has it.");
         exit(1);
     }

@@ -7,7 +7,6 @@ use mathlib.Core.List.{List, [], ◌∷◌}
 use lib.ListN.{length}
 use Rattle.lists.specs.Put.{PutTo}
 use Rattle.graph.specs.Bytes.{graph_of}
-use Rattle.rules.specs.Reply as rules
 use Rattle.rules.specs.Questions.{Question, graph_in}
 use Rattle.admit.specs.declared.refusal.Refusal.{Refusal}
 use Rattle.admit.specs.Refusals.{number_of}

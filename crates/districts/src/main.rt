@@ -8,6 +8,8 @@
 // vans.
 // What it must print was printed by an unrelated implementation. The replies in full go to standard error, as bytes,
 // for a judge that knows which choices are free.
+#![tactic(auto)]
+
 mod text;
 
 ghost use Rattle.std.specs.Prelude.{◌^◌, ◌≤◌, ◌<◌, length};
@@ -20,12 +22,14 @@ use admit::crews::Kind;
 use admit::refusal::MOST_TRIALS;
 use asking::ask::Asked;
 use gate_replies::full::{filled, room, write_full};
-use libc::{STDERR_FILENO, STDIN_FILENO, STDOUT_FILENO};
+use reading::read_full;
 use replies::{Known, Reply, Told};
+use std::io::Print;
 use text::{write_known, write_text, write_verdict};
 
 // Prints a reply: all of it, or what the rules fix.
 fn print_reply(
+    rt: &HostRuntime,
     whole: bool,
     kind: Kind,
     k: usize,
@@ -42,23 +46,23 @@ fn print_reply(
     let end = write_text(
         whole, kind, k, b, reply, buf, &mut out, lists, classes, vans,
     );
-    io::write_all(STDOUT_FILENO, &out[..end]);
+    let _ = rt.stdout().write_all(&out[..end]);
 }
 
 // Writes a reply in full to standard error, for a judge, so that standard output is what the gate compares.
-fn file_reply(reply: Reply, buf: &[u8])
+fn file_reply(rt: &HostRuntime, reply: Reply, buf: &[u8])
     requires { length buf.now ≤ 65536 }
 {
     let mut out = room();
     let end = write_full(reply, buf, &mut out);
-    io::write_all(STDERR_FILENO, &out[..end]);
+    let _ = rt.stderr().write_all(&out[..end]);
 }
 
 // Prints what is known besides a reply.
-fn print_known(known: Known) {
+fn print_known(rt: &HostRuntime, known: Known) {
     let mut out = room();
     let end = write_known(known.trials as u64, known.floor, known.spent, &mut out);
-    io::write_all(STDOUT_FILENO, &out[..end]);
+    let _ = rt.stdout().write_all(&out[..end]);
 }
 
 // What the planner tells of a trial, or of the search for the best limit. Its reply can be printed.
@@ -80,6 +84,7 @@ fn told_to(
 
 // Asks the planner, and prints and files the reply; prints what is known besides, where that is asked for.
 fn answer(
+    rt: &HostRuntime,
     asked: Asked,
     besides: bool,
     whole: bool,
@@ -95,16 +100,17 @@ fn answer(
 {
     let told = told_to(asked, kind, k, b, buf, lists, classes, vans);
     let reply = told.reply;
-    print_reply(whole, kind, k, b, reply, buf, lists, classes, vans);
-    file_reply(reply, buf);
+    print_reply(rt, whole, kind, k, b, reply, buf, lists, classes, vans);
+    file_reply(rt, reply, buf);
     if besides {
         let known = told.known;
-        print_known(known);
+        print_known(rt, known);
     }
 }
 
 // Has the planner asked with a filled buffer of the length that the record names.
 fn ask(
+    rt: &HostRuntime,
     asked: Asked,
     besides: bool,
     whole: bool,
@@ -120,6 +126,7 @@ fn ask(
 {
     let mut buf = filled();
     answer(
+        rt,
         asked,
         besides,
         whole,
@@ -134,15 +141,25 @@ fn ask(
 }
 
 // Asks the check, and prints its answer.
-fn check(kind: Kind, k: usize, b: &[u8], filed: &[u8], lists: Lists, classes: &[u8], vans: &[u8]) {
+fn check(
+    rt: &HostRuntime,
+    kind: Kind,
+    k: usize,
+    b: &[u8],
+    filed: &[u8],
+    lists: Lists,
+    classes: &[u8],
+    vans: &[u8],
+) {
     let mut out = room();
     let verdict = filed::check::check(kind, k, b, filed, lists, classes, vans);
     let end = write_verdict(verdict, &mut out);
-    io::write_all(STDOUT_FILENO, &out[..end]);
+    let _ = rt.stdout().write_all(&out[..end]);
 }
 
 // Answers a record by its question.
 fn answer_record(
+    rt: &HostRuntime,
     question: usize,
     k: usize,
     limit: u64,
@@ -161,10 +178,14 @@ fn answer_record(
     let best = Asked::Within(MOST_TRIALS);
     let within = Asked::Within(limit as usize);
     match (question + 1) / 2 {
-        1 => ask(at, false, whole, lent, kind, k, b, lists, classes, vans),
-        2 => ask(best, false, whole, lent, kind, k, b, lists, classes, vans),
-        3 => check(kind, k, b, filed, lists, classes, vans),
-        _ => ask(within, true, whole, lent, kind, k, b, lists, classes, vans),
+        1 => ask(rt, at, false, whole, lent, kind, k, b, lists, classes, vans),
+        2 => ask(
+            rt, best, false, whole, lent, kind, k, b, lists, classes, vans,
+        ),
+        3 => check(rt, kind, k, b, filed, lists, classes, vans),
+        _ => ask(
+            rt, within, true, whole, lent, kind, k, b, lists, classes, vans,
+        ),
     }
 }
 
@@ -177,11 +198,18 @@ fn kind_of(question: usize) -> Kind {
 }
 
 // Reads the bytes behind a record's head.
-fn read_bytes(sheet: &mut [u8], filed: &mut [u8], classes: &mut [u8], vans: &mut [u8]) {
-    io::read_full(STDIN_FILENO, sheet);
-    io::read_full(STDIN_FILENO, filed);
-    io::read_full(STDIN_FILENO, classes);
-    io::read_full(STDIN_FILENO, vans);
+fn read_bytes(
+    rt: &HostRuntime,
+    sheet: &mut [u8],
+    filed: &mut [u8],
+    classes: &mut [u8],
+    vans: &mut [u8],
+) {
+    let mut stdin = rt.stdin();
+    let _ = read_full(&mut stdin, sheet);
+    let _ = read_full(&mut stdin, filed);
+    let _ = read_full(&mut stdin, classes);
+    let _ = read_full(&mut stdin, vans);
 }
 
 // The lists that a number names.
@@ -193,9 +221,17 @@ fn lists_of(brought: usize) -> Lists {
 }
 
 // Reads the rest of a record, of which the head was read, and answers it.
-fn read_rest(head: &[u8], sheet: &mut [u8], filed: &mut [u8], classes: &mut [u8], vans: &mut [u8]) {
-    read_bytes(sheet, filed, classes, vans);
+fn read_rest(
+    rt: &HostRuntime,
+    head: &[u8],
+    sheet: &mut [u8],
+    filed: &mut [u8],
+    classes: &mut [u8],
+    vans: &mut [u8],
+) {
+    read_bytes(rt, sheet, filed, classes, vans);
     answer_record(
+        rt,
         graph::u16_at(head, 0),
         graph::u16_at(head, 2),
         graph::u32_at(head, 4),
@@ -210,20 +246,22 @@ fn read_rest(head: &[u8], sheet: &mut [u8], filed: &mut [u8], classes: &mut [u8]
 }
 
 // Reads one record and answers it; says whether there was one.
-fn answer_one() -> bool {
+fn answer_one(rt: &HostRuntime) -> bool {
     let mut head = [0u8; 24];
-    if io::read_full(STDIN_FILENO, &mut head) < 24 {
+    let (read, _) = read_full(&mut rt.stdin(), &mut head);
+    if read < 24 {
         return false;
     }
     let sheet_length = graph::u16_at(&head, 12);
     let cover_length = graph::u16_at(&head, 14);
     let class_length = graph::u16_at(&head, 18);
     let van_length = graph::u16_at(&head, 20);
-    let mut sheet = io::large_buffer();
-    let mut filed = io::large_buffer();
-    let mut classes = io::large_buffer();
-    let mut vans = io::large_buffer();
+    let mut sheet = [0u8; 65536];
+    let mut filed = [0u8; 65536];
+    let mut classes = [0u8; 65536];
+    let mut vans = [0u8; 65536];
     read_rest(
+        rt,
         &head,
         &mut sheet[..sheet_length],
         &mut filed[..cover_length],
@@ -233,11 +271,12 @@ fn answer_one() -> bool {
     true
 }
 
-// Answers records until there is none left. Nothing says that the input ends, so the turns are counted down from a
-// number that no input uses up.
-fn main() {
-    let mut turns = u64::MAX;
-    while turns > 0 && answer_one() {
-        turns -= 1;
+// Answers records until there is none left. Nothing says that the input ends, so the turns are counted, up to a number
+// that no input uses up.
+fn main(rt: HostRuntime) {
+    for _ in 0..u64::MAX {
+        if !answer_one(&rt) {
+            break;
+        }
     }
 }
