@@ -8,7 +8,7 @@ use crate::Progress;
 use crate::piece::put_piece;
 
 // The bunch of a node: it stands on the stack from `base` up to `end`, and weighs `weight`.
-#[derive(Drop)]
+#[derive(Clone, Copy)]
 pub struct Bunch {
     pub base: usize,
     pub end: usize,

@@ -8,7 +8,7 @@ pub mod piece;
 
 // How far the splitting has come: the number of pieces and of edges in them, the height of the stack of edges,
 // and the weight of what lies on its top.
-#[derive(Drop)]
+#[derive(Clone, Copy)]
 pub struct Progress {
     pub pieces: usize,
     pub used: usize,

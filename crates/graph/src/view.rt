@@ -7,7 +7,7 @@ ghost use Rattle.graph.specs.Bytes.{sheet_graph, Reads};
 ghost use Rattle.graph.specs.View.{CountsOf, Views};
 
 // A graph's bytes (document 01: a "sheet"), with how many vertices ("stops") and edges ("lines") there are.
-#[derive(Drop)]
+#[derive(Clone, Copy)]
 pub struct View<'a> {
     pub bytes: &'a [u8],
     pub vertices: usize,

@@ -17,7 +17,7 @@ ghost use Rattle.matching.specs.Input.{refused_of};
 ghost use Rattle.matching.specs.State.{Ready, Placed, Solved};
 
 // What `assign` answers: the input is refused, or the buffer's first bytes are the assignment, or a deficient set.
-#[derive(Drop)]
+#[derive(Clone, Copy)]
 pub enum Answer {
     Refused,
     Assigned,

@@ -11,7 +11,7 @@ use crate::input::allows;
 pub const NONE: usize = 255;
 
 // Where a search ends: at a root that no part has, or with nothing left to search and so many parts reached.
-#[derive(Drop)]
+#[derive(Clone, Copy)]
 pub enum Found {
     Root(usize),
     Nothing(usize),
