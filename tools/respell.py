@@ -4,7 +4,8 @@ become `closed_walk`, `floor_least`), an apostrophe for a prime. Run once, at th
 
 Names of types and modules stay, and so do functions of src/, strings, and whatever a file imports from a library. In a function's own proof files
 the goals and what stands behind a dot there are the prover's, so that only fields of this repository's records change behind a dot.
-Prints, as 'clash:', names that fall together in one file, and changes nothing where there is one that is not settled in SETTLED.
+Prints, as 'clash:', names that fall together in one file: a definition with the Rust function that computes it, or a field with a function, is
+meant; what must not fall together is settled in SETTLED and LEMMAS. Without --write nothing is changed.
 """
 import collections
 import os
