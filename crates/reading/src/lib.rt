@@ -1,18 +1,19 @@
 // Reads from a stream into a buffer of a fixed length, as far as the stream or the buffer reaches.
 #![tactic(auto)]
 
-ghost use Rattle.std.specs.Prelude.{◌≤◌, ◌<◌, length, take, OnOk};
+ghost use Rattle.std.specs.Prelude.{◌≤◌, ◌<◌, length, take, OnOk, OnErr};
 ghost use Rattle.std.specs.Io.KnownBytes.{Consumes, IsAtEnd};
 
 use std::io::{Read, Result};
 
 // Reads until the buffer is full, the input ends or a read fails, and says how many bytes stand at the buffer's front,
 // and how the last read failed, where one did. The bytes are the reader's next ones, in their order; without a failure
-// there are fewer than the buffer holds only where the reader has no more.
+// there are fewer than the buffer holds only where the reader has no more, and a full buffer comes with no failure.
 pub fn read_full<R: Read>(reader: &mut R, buf: &mut [u8]) -> (usize, Result<()>)
     ensures within { result.0 ≤ length buf.new }
     ensures bytes { Consumes (R.remaining reader.old) (R.remaining reader.new) (take result.0 buf.new) }
     ensures short { OnOk result.1 (result.0 < length buf.new → IsAtEnd (R.remaining reader.new)) }
+    ensures failed { OnErr result.1 (result.0 < length buf.new) }
 {
     let mut done = 0;
     while done < buf.len() {
