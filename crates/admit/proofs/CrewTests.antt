@@ -2,7 +2,7 @@
 -- Assumes nothing.
 use Prim.Native.Nat.{ℕ, ◌*◌, ◌≤◌, ◌<◌}
 use mathlib.Core.Path.{◌≡◌, refl, sym, ◌∙◌}
-use mathlib.Core.Bool.{Bool, true, false, false≢true, true≢false}
+use mathlib.Core.Bool.{true, false, false≢true, true≢false}
 use mathlib.Core.List.{List, [], ◌∷◌}
 use mathlib.Core.Option.{Option, some, none}
 use native.Mathlib.Omega.{arith}
@@ -21,7 +21,6 @@ use Rattle.rules.specs.Questions.{yards, roots_by, too_many_roots, crew_fault, v
 use Rattle.admit.specs.declared.crews.Kind.{Kind}
 use Rattle.admit.specs.declared.crews.Kind.TheVariants.{Rooted, Unrooted}
 use Rattle.admit.specs.declared.refusal.Refusal.TheVariants.{Crews, Vans}
-use Rattle.admit.specs.Brought.{brought}
 use Rattle.admit.specs.Refusals.{number_of}
 use Rattle.admit.specs.Crews.{kind_of, CrewsTested, VansTested}
 
@@ -31,44 +30,44 @@ unfolding too_many_roots
 never_many Rooted k vans n = refl
 never_many Unrooted k vans n = refl
 
-module _ (kind : Kind) (k n : ℕ) (given : Bool) where
+module _ (kind : Kind) (k n : ℕ) (vans : Option (List ℕ)) where
   -- The test of the crews says no, with 21.
-  refused_crews : ((vans : List ℕ) → crew_fault (kind_of kind) k (brought given vans) n ≡ some (number_of Crews)) → CrewsTested kind k n given false
+  refused_crews : crew_fault (kind_of kind) k vans n ≡ some (number_of Crews) → CrewsTested kind k n vans false
   refused_crews q = record { right = λ t. absurd (false≢true t); wrong = λ t. q }
 
-  pub no_crews : k < 1 → CrewsTested kind k n given false
+  pub no_crews : k < 1 → CrewsTested kind k n vans false
   unfolding crew_fault fault_if
-  no_crews h = refused_crews (λ vans. rw (lt-ltb k 1 h) refl)
+  no_crews h = refused_crews (rw (lt-ltb k 1 h) refl)
 
-  pub many_crews : 32 < k → CrewsTested kind k n given false
+  pub many_crews : 32 < k → CrewsTested kind k n vans false
   unfolding crew_fault fault_if
-  many_crews h = refused_crews (λ vans. rw (le-ltb k 1 (omega arith), lt-ltb 32 k h) refl)
+  many_crews h = refused_crews (rw (le-ltb k 1 (omega arith), lt-ltb 32 k h) refl)
 
   module _ (h : 1 ≤ k) (l : k ≤ 32) where
     -- There are 1 to 32 crews: only the roots may be too many.
-    few_crews : (vans : Option (List ℕ)) → crew_fault (kind_of kind) k vans n ≡ fault_if (too_many_roots (kind_of kind) k vans n) (number_of Crews)
+    few_crews : crew_fault (kind_of kind) k vans n ≡ fault_if (too_many_roots (kind_of kind) k vans n) (number_of Crews)
     unfolding crew_fault
-    few_crews vans = rw (le-ltb k 1 h, le-ltb 32 k l) refl
+    few_crews = rw (le-ltb k 1 h, le-ltb 32 k l) refl
 
-    fitting_crews : ((vans : List ℕ) → too_many_roots (kind_of kind) k (brought given vans) n ≡ false) → CrewsTested kind k n given true
+    fitting_crews : too_many_roots (kind_of kind) k vans n ≡ false → CrewsTested kind k n vans true
     unfolding fault_if
-    fitting_crews fits = record { right = λ t vans. few_crews (brought given vans) ∙ rw (fits vans) refl; wrong = λ t. absurd (true≢false t) }
+    fitting_crews fits = record { right = λ t. few_crews ∙ rw fits refl; wrong = λ t. absurd (true≢false t) }
 
-    pub listed_crews : given ≡ true → CrewsTested kind k n given true
-    listed_crews is = fitting_crews (λ vans. rw is (never_many kind k vans n))
+pub listed_crews : (kind : Kind) (k n : ℕ) (vans : List ℕ) → 1 ≤ k → k ≤ 32 → CrewsTested kind k n (some vans) true
+listed_crews kind k n vans h l = fitting_crews kind k n (some vans) h l (never_many kind k vans n)
 
-module _ (k n : ℕ) {given : Bool} (h : 1 ≤ k) (l : k ≤ 32) where
-  pub rooted_crews : given ≡ false → CrewsTested Rooted k n given (leb k n)
+module _ (k n : ℕ) (h : 1 ≤ k) (l : k ≤ 32) where
+  pub rooted_crews : CrewsTested Rooted k n none (leb k n)
   unfolding too_many_roots fault_if
-  rooted_crews is =
+  rooted_crews =
       record {
-        right = λ t vans. few_crews Rooted k n given h l (brought given vans) ∙ rw (is, le-ltb n k (leb-true k n t)) refl;
-        wrong = λ t vans. few_crews Rooted k n given h l (brought given vans) ∙ rw (is, lt-ltb n k (leb-false k n t)) refl;
+        right = λ t. few_crews Rooted k n none h l ∙ rw (le-ltb n k (leb-true k n t)) refl;
+        wrong = λ t. few_crews Rooted k n none h l ∙ rw (lt-ltb n k (leb-false k n t)) refl;
       }
 
-  pub unrooted_crews : CrewsTested Unrooted k n given true
+  pub unrooted_crews : (vans : Option (List ℕ)) → CrewsTested Unrooted k n vans true
   unfolding too_many_roots
-  unrooted_crews = fitting_crews Unrooted k n given h l (λ vans. refl)
+  unrooted_crews vans = fitting_crews Unrooted k n vans h l refl
 
 -- The list of vans: its length, and each of its vertices.
 module _ (k n : ℕ) (vans : List ℕ) where
@@ -93,18 +92,18 @@ module _ (k n : ℕ) (vans : List ℕ) where
         each : (root : ℕ) → root ∈ roots_by k (some vans) → ltb root n ≡ true
         each root m = let (j, i, is) = of_map (λ i. u16_at vans (2 * i)) (below k) m in rw is (lt-ltb (u16_at vans (2 * j)) n (inside j (of_below k i)))
 
--- What is refused of a list: nothing where none is given, or where the crews have no roots; otherwise what its test finds.
-module _ {kind : Kind} (k n : ℕ) (given : Bool) (vans : List ℕ) where
-  pub vans_unread : kind ≡ Unrooted → none ≡ van_fault (kind_of kind) k (brought given vans) n
+-- What is refused of a list: nothing where none is brought, or where the crews have no roots; otherwise what its test finds.
+module _ {kind : Kind} (k n : ℕ) where
+  pub vans_unread : (vans : Option (List ℕ)) → kind ≡ Unrooted → none ≡ van_fault (kind_of kind) k vans n
   unfolding van_fault
-  vans_unread unrooted = rw unrooted refl
+  vans_unread vans unrooted = rw unrooted refl
 
-  pub vans_not_given : kind ≡ Rooted → given ≡ false → none ≡ van_fault (kind_of kind) k (brought given vans) n
+  pub vans_not_brought : kind ≡ Rooted → none ≡ van_fault (kind_of kind) k none n
   unfolding van_fault
-  vans_not_given rooted is = rw (rooted, is) refl
+  vans_not_brought rooted = rw rooted refl
 
-  pub vans_tested : {f : Fault} → kind ≡ Rooted → given ≡ true → van_fault yards k (some vans) n ≡ f → f ≡ van_fault (kind_of kind) k (brought given vans) n
-  vans_tested rooted is q = rw (rooted, is) (sym q)
+  pub vans_tested : (vans : List ℕ) {f : Fault} → kind ≡ Rooted → van_fault yards k (some vans) n ≡ f → f ≡ van_fault (kind_of kind) k (some vans) n
+  vans_tested vans rooted q = rw rooted (sym q)
 
 -- The crews are refused by their number, or else by what is refused of the list.
 pub number_refused : {f : Fault} {number : ℕ} → f ≡ some number → (rest : Fault) → some number ≡ first_fault (f ∷ rest ∷ [])

@@ -1,6 +1,4 @@
 -- Laws that belong to no one function, in reading order.
--- the bytes of a list that are read
-pub mod Listed
 -- where crew j starts
 pub mod Roots
 -- the tests of the crews' number and of the list of their roots

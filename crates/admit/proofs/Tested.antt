@@ -3,7 +3,7 @@
 use Prim.Native.Nat.{ℕ}
 use mathlib.Core.Path.{◌≡◌, sym, ◌∙◌}
 use mathlib.Core.List.{List, [], ◌∷◌}
-use mathlib.Core.Option.{Option, some, none}
+use mathlib.Core.Option.{some, none}
 use lib.ListN.{length}
 use borrow.Author.Tests.{eq-eqb, ne_eqb}
 use Rattle.graph.specs.Graph.{edge_count}
@@ -18,20 +18,20 @@ use Rattle.rules.specs.Questions.{Question, listed, graph_in, number_in, sheet_f
 use Rattle.rules.proofs.Surfaces.{each_light}
 
 -- The class list beside a sheet: without one nothing is refused of a sheet that passed its check;
-module _ (sheet : List ℕ) {given : Option (List ℕ)} where
-  pub unlisted : given ≡ none → Valid (sheet_graph sheet) → none ≡ surface_fault sheet given
+module _ (sheet : List ℕ) where
+  pub unlisted : Valid (sheet_graph sheet) → none ≡ surface_fault sheet none
   unfolding surface_fault class_fault first_fault
-  unlisted e valid = rw (e, plain_graph sheet, each_light (sheet_graph sheet) (λ i h. (valid.each_edge i h).weight_most))
+  unlisted valid = rw (plain_graph sheet, each_light (sheet_graph sheet) (λ i h. (valid.each_edge i h).weight_most))
 
   -- with one its length, 53, and then the weights, 54, decide.
-  module _ {classes : List ℕ} (e : given ≡ some classes) where
-    pub count_refused : (length classes ≡ edge_count (sheet_graph sheet) → ⊥) → some 53 ≡ surface_fault sheet given
+  module _ (classes : List ℕ) where
+    pub count_refused : (length classes ≡ edge_count (sheet_graph sheet) → ⊥) → some 53 ≡ surface_fault sheet (some classes)
     unfolding surface_fault class_fault fault_unless first_fault
-    count_refused d = rw (e, ne_eqb (length classes) (edge_count (sheet_graph sheet)) d)
+    count_refused d = rw (ne_eqb (length classes) (edge_count (sheet_graph sheet)) d)
 
-    pub weights_decide : length classes ≡ edge_count (sheet_graph sheet) → {f : Fault} → adjusted_fault (graph_of sheet classes) ≡ f → f ≡ surface_fault sheet given
+    pub weights_decide : length classes ≡ edge_count (sheet_graph sheet) → {f : Fault} → adjusted_fault (graph_of sheet classes) ≡ f → f ≡ surface_fault sheet (some classes)
     unfolding surface_fault class_fault fault_unless first_fault
-    weights_decide l {f} p = sym (one_fault f) ∙ rw (e, eq-eqb (length classes) (edge_count (sheet_graph sheet)) l, p)
+    weights_decide l {f} p = sym (one_fault f) ∙ rw (eq-eqb (length classes) (edge_count (sheet_graph sheet)) l, p)
 
 -- All that is tested.
 module _ (q : Question) where

@@ -1,38 +1,31 @@
--- The question that the code's values ask, its crews, and the tests of their number and of the list of their roots.
+-- The question that the code's values ask, and the tests of its crews: of their number and of the list of their roots.
 -- Assumes nothing.
 use Rattle.std.specs.Prelude.{ℕ, ◌*◌, ◌≤◌, ◌≡◌, Bool, true, false, List}
 use Rattle.std.proofs.Math.Option.{Option, some, none}
 use Rattle.graph.specs.Bytes.{u16_at}
-use Rattle.rules.specs.Cover as cover
 use Rattle.rules.specs.Questions as rules
 use Rattle.rules.specs.Questions.{crew_fault, van_fault}
 use Rattle.admit.specs.declared.crews.Kind.{Kind}
 use Rattle.admit.specs.declared.crews.Kind.TheVariants.{Rooted, Unrooted}
 use Rattle.admit.specs.declared.refusal.Refusal.TheVariants.{Crews, Vans}
-use Rattle.admit.specs.declared.brought.Lists.{Lists}
 use Rattle.admit.specs.Refusals.{number_of}
-use Rattle.admit.specs.Brought.{brought}
 
 -- The kind as the rules have it.
 abbrev pub kind_of : Kind → rules.Kind
 kind_of Rooted = rules.yards
 kind_of Unrooted = rules.roving
 
--- The question without lists, the question with those that are brought, and whom the cover is for.
+-- The question without lists, and the same with those that are brought.
 abbrev pub asks : Kind → ℕ → List ℕ → rules.Question
 asks kind k b = rules.question (kind_of kind) k b
 
-abbrev pub asks_with : Kind → ℕ → List ℕ → Lists → List ℕ → List ℕ → rules.Question
-asks_with kind k b lists classes vans =
-    record { kind = kind_of kind; k = k; sheet = b; classes = brought lists.classes classes; vans = brought lists.vans vans }
+abbrev pub with_lists : rules.Question → Option (List ℕ) → Option (List ℕ) → rules.Question
+with_lists q classes vans = record { kind = q.kind; k = q.k; sheet = q.sheet; classes = classes; vans = vans }
 
-abbrev pub crews_of : Kind → ℕ → Option (List ℕ) → cover.Crews
-crews_of kind k vans = rules.crews_by (kind_of kind) k vans
-
--- r says whether the number of crews is not refused, whatever list of vans is brought, or none.
-pub record CrewsTested (kind : Kind) (k n : ℕ) (given r : Bool) : Type 0 where
-  pub right : r ≡ true → (vans : List ℕ) → crew_fault (kind_of kind) k (brought given vans) n ≡ none
-  pub wrong : r ≡ false → (vans : List ℕ) → crew_fault (kind_of kind) k (brought given vans) n ≡ some (number_of Crews)
+-- r says whether the number of crews is not refused, beside the list of vans that is brought, or none.
+pub record CrewsTested (kind : Kind) (k n : ℕ) (vans : Option (List ℕ)) (r : Bool) : Type 0 where
+  pub right : r ≡ true → crew_fault (kind_of kind) k vans n ≡ none
+  pub wrong : r ≡ false → crew_fault (kind_of kind) k vans n ≡ some (number_of Crews)
 
 -- r says whether a list of vans is not refused.
 pub record VansTested (k : ℕ) (vans : List ℕ) (n : ℕ) (r : Bool) : Type 0 where

@@ -1,13 +1,11 @@
 -- The number of each cause of a refusal, and what the tests of a question refuse.
 -- Assumes nothing.
-use Rattle.std.specs.Prelude.{ℕ}
+use Rattle.std.specs.Prelude.{ℕ, Result, Ok, Err}
 use Rattle.std.proofs.Math.Option.{some, none}
 use Rattle.graph.specs.Fault.{Fault}
 use Rattle.graph_check.specs.Check as sheet
 use Rattle.admit.specs.declared.refusal.Refusal.{Refusal}
 use Rattle.admit.specs.declared.refusal.Refusal.TheVariants.{Sheet, Classes, Adjusted, Crews, Vans, Limit, Room, Trials, Length, Starts, Entries, Trees, Vertices, TreeNumber, WalkRoom}
-use Rattle.admit.specs.declared.Admitted.{Admitted}
-use Rattle.admit.specs.declared.Admitted.TheVariants.{Refused, Fits}
 
 abbrev pub number_of : Refusal → ℕ
 number_of (Sheet f) = sheet.number_of f
@@ -26,6 +24,6 @@ number_of Vertices = 35
 number_of TreeNumber = 51
 number_of WalkRoom = 52
 
-abbrev pub fault_in : Admitted → Fault
-fault_in (Refused f) = some (number_of f)
-fault_in Fits = none
+abbrev pub fault_in : Result (Unit {0}) Refusal → Fault
+fault_in (Err f) = some (number_of f)
+fault_in (Ok _) = none

@@ -1,4 +1,5 @@
 // The crews that a question is for: with a root each, or without.
+ghost use Rattle.admit.specs.Brought.{lent};
 ghost use Rattle.admit.specs.Crews.{CrewsTested};
 
 // Whether the crews have a root each ("yard"), or none ("roving").
@@ -9,8 +10,8 @@ pub enum Kind {
 }
 
 // Says whether there are 1 to 32 crews, and no more than the n vertices where they have roots and no list says which.
-pub(crate) fn crews_right(kind: Kind, k: usize, n: usize, given: bool) -> bool
-    ensures { CrewsTested kind k n given result }
+pub(crate) fn crews_right(kind: Kind, k: usize, n: usize, vans: Option<&[u8]>) -> bool
+    ensures { CrewsTested kind k n (lent vans.entry) result }
 {
     if k < 1 {
         return false;
@@ -18,11 +19,11 @@ pub(crate) fn crews_right(kind: Kind, k: usize, n: usize, given: bool) -> bool
     if 32 < k {
         return false;
     }
-    if given {
-        return true;
-    }
-    match kind {
-        Kind::Rooted => k <= n,
-        Kind::Unrooted => true,
+    match vans {
+        Some(_) => true,
+        None => match kind {
+            Kind::Rooted => k <= n,
+            Kind::Unrooted => true,
+        },
     }
 }

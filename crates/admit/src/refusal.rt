@@ -1,6 +1,7 @@
 // Every cause of a refusal (document 01, "Who causes which number", and document 02), and its number, here alone.
 ghost use Rattle.std.specs.Prelude.{◌≡◌};
 ghost use Rattle.admit.specs.Refusals.{number_of};
+ghost use Rattle.admit.specs.declared.refusal.Refusal.TheVariants.{Sheet};
 
 // "B is 0 to 2,048,000,000".
 pub const MOST_LIMIT: u64 = 2048000000;
@@ -47,6 +48,15 @@ pub enum Refusal {
     TreeNumber,
     // The buffer is too small for some walk.
     WalkRoom,
+}
+
+impl From<graph_check::Cause> for Refusal {
+    ghost from_gives = { λ cause refusal. refusal ≡ Sheet cause };
+
+    // A fault of the graph's bytes is refused as that.
+    fn from(cause: graph_check::Cause) -> Refusal {
+        Refusal::Sheet(cause)
+    }
 }
 
 // The number of a cause.

@@ -4,35 +4,31 @@ ghost use Rattle.std.specs.Prelude.{◌≡◌, ◌^◌, ◌≤◌, ◌<◌, leng
 ghost use Rattle.lists.specs.Put.{PutTo};
 ghost use Rattle.graph.specs.Bytes.{Reads};
 ghost use Rattle.rules.specs.Questions.{roots_by, van_fault};
-ghost use Rattle.admit.specs.Brought.{brought};
+ghost use Rattle.admit.specs.Brought.{lent};
 ghost use Rattle.admit.specs.Crews.{kind_of, root_at, RootsAsked, VansTested};
 ghost use Rattle.admit.specs.Refusals.{fault_in};
 
-use crate::Admitted;
-use crate::brought::Lists;
 use crate::crews::Kind;
 use crate::refusal::Refusal;
 
 // The vertex where crew j of a rooted question starts: the j-th of the list, or j where none is brought.
-pub fn root_at(given: bool, vans: &[u8], j: usize) -> usize
+pub fn root_at(vans: Option<&[u8]>, j: usize) -> usize
     requires { j < 2 ^ 16 }
-    ensures { Reads (root_at (brought given vans.now) j) (2 ^ 16) result }
+    ensures { Reads (root_at (lent vans.entry) j) (2 ^ 16) result }
 {
-    if given {
-        return graph::u16_at(vans, 2 * j);
+    match vans {
+        Some(list) => graph::u16_at(list, 2 * j),
+        None => j,
     }
-    j
 }
 
 // Writes the vertices where k crews start to the front of the array.
-pub fn put_roots(k: usize, given: bool, vans: &[u8], out: &mut [u16])
+pub fn put_roots(k: usize, vans: Option<&[u8]>, out: &mut [u16])
     requires { RootsAsked k (length out.old) }
-    ensures { PutTo 0 (roots_by k (brought given vans.now)) out.old out.new k }
+    ensures { PutTo 0 (roots_by k (lent vans.entry)) out.old out.new k }
 {
-    let mut j = 0;
-    while j < k {
-        out[j] = root_at(given, vans, j) as u16;
-        j += 1;
+    for j in 0..k {
+        out[j] = root_at(vans, j) as u16;
     }
 }
 
@@ -44,32 +40,30 @@ fn vans_right(vans: &[u8], k: usize, n: usize) -> bool
     if vans.len() != 2 * k {
         return false;
     }
-    let mut j = 0;
-    while j < k {
-        if n <= root_at(true, vans, j) {
+    for j in 0..k {
+        if n <= graph::u16_at(vans, 2 * j) {
             return false;
         }
-        j += 1;
     }
     true
 }
 
 // Tests the list of vans of at most 32 crews, on n vertices: 55. Without one there is nothing to test, and beside a
 // question of crews without roots it is not read.
-pub(crate) fn admit_vans(kind: Kind, k: usize, n: usize, lists: Lists, vans: &[u8]) -> Admitted
+pub(crate) fn admit_vans(kind: Kind, k: usize, n: usize, vans: Option<&[u8]>) -> Result<(), Refusal>
     requires { k ≤ 32 }
-    ensures { fault_in result ≡ van_fault (kind_of kind) k (brought lists.vans vans.now) n }
+    ensures { fault_in result ≡ van_fault (kind_of kind) k (lent vans.entry) n }
 {
     match kind {
-        Kind::Rooted => {
-            if !lists.vans {
-                return Admitted::Fits;
+        Kind::Rooted => match vans {
+            Some(list) => {
+                if !vans_right(list, k, n) {
+                    return Err(Refusal::Vans);
+                }
+                Ok(())
             }
-            if !vans_right(vans, k, n) {
-                return Admitted::Refused(Refusal::Vans);
-            }
-            Admitted::Fits
-        }
-        Kind::Unrooted => Admitted::Fits,
+            None => Ok(()),
+        },
+        Kind::Unrooted => Ok(()),
     }
 }

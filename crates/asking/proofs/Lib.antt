@@ -1,7 +1,7 @@
 -- Laws that belong to no one function, in reading order.
--- what crews of each kind read, once it is prepared
-pub mod KindReady
 -- room for large graphs is room for smaller ones
 pub mod Rooms
+-- what is known of crews of either kind, once everything is prepared
+pub mod CrewsKnown
 -- questions about a graph, answered
 pub mod Answering

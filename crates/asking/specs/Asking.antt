@@ -1,7 +1,6 @@
 -- A question about a graph that passed its check: a trial at a limit, or the search for the best limit; and what is asked of each step that answers it.
 -- Assumes nothing.
 use Rattle.std.specs.Prelude.{ℕ, ◌≤◌, List, length}
-use Rattle.std.proofs.Math.Option.{Option}
 use Rattle.lists.specs.Put.{OnlyFirst}
 use Rattle.graph.specs.Graph.{Graph, edge_count}
 use Rattle.graph.specs.Valid.{Valid}
@@ -12,7 +11,6 @@ use Rattle.rules.specs.FewTrials as rules
 use Rattle.rules.specs.FewTrials.{standing, before_trials, within}
 use Rattle.rules.specs.Fit.{crew_count, CrewsFit, GoodFor}
 use Rattle.rules.specs.Questions.{most_limit, least_room}
-use Rattle.admit.specs.Crews.{crews_of}
 use Rattle.admit.specs.declared.crews.Kind.{Kind}
 use Rattle.replies.specs.declared.Told.{Told}
 use Rattle.replies.specs.Replies.{Tells}
@@ -22,6 +20,7 @@ use Rattle.asking.specs.declared.ask.Asked.TheVariants.{At, Within}
 use Rattle.answers.specs.Answers.{AnswerAsked}
 use Rattle.rooted_state.specs.Prepared.{RootsGiven}
 use Rattle.prepare.specs.declared.Ready.{Ready}
+use Rattle.prepare.specs.declared.crews.Prepared.{Prepared}
 use Rattle.prepare.specs.Preparing.{Small, RootedRoom, RootedPrepared}
 
 -- The limit at which the answer is written.
@@ -46,13 +45,13 @@ pub record Answered (asked : Asked) (g : Graph) (crews : cover.Crews) (before af
   pub tells : Tells (tell_to asked g crews choices) before after r
 
 -- Everything that the crews read, and trials for 0 and the sum.
-pub record SearchReady (kind : Kind) (k : ℕ) (g : Graph) (roots order kept bounds arcs distances lasts total until : List ℕ) (trials room : ℕ) : Type 0 where
-  pub answer : AnswerAsked kind k g roots order kept bounds arcs distances lasts total until room
+pub record SearchReady (g : Graph) (p : Prepared) (trials room : ℕ) : Type 0 where
+  pub answer : AnswerAsked g p room
   pub some_trials : 2 ≤ trials
 
 -- Everything that the crews read, for what is asked.
-pub record AskedReady (kind : Kind) (k : ℕ) (g : Graph) (roots : List ℕ) (asked : Asked) (order kept bounds arcs distances lasts total until : List ℕ) (room : ℕ) : Type 0 where
-  pub answer : AnswerAsked kind k g roots order kept bounds arcs distances lasts total until room
+pub record AskedReady (g : Graph) (p : Prepared) (asked : Asked) (room : ℕ) : Type 0 where
+  pub answer : AnswerAsked g p room
   pub asked_fits : AskedFits asked
 
 -- A question by crews with roots of which nothing is prepared yet.
@@ -98,15 +97,16 @@ pub record UnrootedAnswered (asked : Asked) (k : ℕ) (g : Graph) (keys₀ keys 
   pub spare_rest : OnlyFirst (edge_count g) spare₀ spare
   pub order_rest : OnlyFirst (edge_count g) order₀ order
 
--- A question by crews without roots of which nothing is prepared yet, about at most 512 edges.
-pub record UnrootedSmall (k : ℕ) (g : Graph) (asked : Asked) (room : ℕ) : Type 0 where
+-- A question by crews without roots of which nothing is prepared yet, about a graph whose edges fit in arrays of some length.
+pub record UnrootedFits (k : ℕ) (g : Graph) (asked : Asked) (size room : ℕ) : Type 0 where
   pub question : UnrootedAsked k g asked room
-  pub edges_few : edge_count g ≤ 512
+  pub edges_fit : edge_count g ≤ size
+  pub size_most : size ≤ 2048
 
 -- The crews of a question, at most 32 that fit the graph: nothing else is known.
-pub record CrewsAsked (kind : Kind) (k : ℕ) (vans : Option (List ℕ)) (g : Graph) (asked : Asked) (room : ℕ) : Type 0 where
+pub record CrewsAsked (g : Graph) (crews : cover.Crews) (asked : Asked) (room : ℕ) : Type 0 where
   pub valid : Valid g
-  pub few : crew_count (crews_of kind k vans) ≤ 32
-  pub fit : CrewsFit g (crews_of kind k vans)
+  pub few : crew_count crews ≤ 32
+  pub fit : CrewsFit g crews
   pub asked_fits : AskedFits asked
   pub room_most : least_room ≤ room

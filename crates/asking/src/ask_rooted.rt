@@ -1,65 +1,56 @@
 // A question by crews with roots: prepared in arrays, and answered. The arrays are small where that is enough, since
 // setting them to zero is much of what a question about a small graph costs.
 ghost use Rattle.std.specs.Prelude.{length};
-ghost use Rattle.graph.specs.Bytes.{graph_of};
 ghost use Rattle.rules.specs.Cover.{rooted};
 ghost use Rattle.asking.specs.Asking.{Answered, RootedAsked, RootedLent, RootedAnswered, RootedSmall};
 ghost use Rattle.prepare.specs.Preparing.{SizeTold};
 
 use crate::ask::{Asked, answer_asked};
-use admit::crews::Kind;
+use distance_table::table::Table;
+use edges::around::Around;
+use graph::Graph;
+use prepare::crews::with_roots;
 use prepare::prepare_rooted;
 use replies::Told;
 
-// Prepares the question in the arrays that are lent, and answers it.
-fn ask_rooted_in(
-    b: &[u8],
-    roots: &[u16],
+// Prepares the question in the arrays that are lent, and answers it. What the answer reads of them is lent for one time.
+fn ask_rooted_in<'a>(
+    g: &Graph,
+    roots: &'a [u16],
     asked: Asked,
-    order: &mut [u16],
-    kept: &mut [u16],
-    bounds: &mut [u16],
+    order: &'a mut [u16],
+    kept: &'a mut [u16],
+    bounds: &'a mut [u16],
     all: &mut [u64],
-    arcs: &mut [u64],
-    distances: &mut [u32],
-    lasts: &mut [u32],
+    arcs: &'a mut [u64],
+    distances: &'a mut [u32],
+    lasts: &'a mut [u32],
     buf: &mut [u8],
-    classes: &[u8],
 ) -> Told
-    requires { RootedLent (graph_of b.now classes.now) roots.now asked order.old kept.old bounds.old
+    requires { RootedLent g.now roots.now asked order.old kept.old bounds.old
         all.old arcs.old distances.old lasts.old (length buf.old) }
-    ensures { RootedAnswered asked (graph_of b.now classes.now) roots.now
+    ensures { RootedAnswered asked g.now roots.now
         order.old order.new kept.old kept.new bounds.old
         bounds.new all.old all.new arcs.old arcs.new
         distances.old distances.new lasts.old lasts.new buf.old
         buf.new result }
 {
-    let ready = prepare_rooted(
-        b, roots, order, kept, bounds, all, arcs, distances, lasts, classes,
-    );
-    answer_asked(
-        Kind::Rooted,
-        roots.len(),
-        b,
-        roots,
-        asked,
+    let ready = prepare_rooted(g, roots, order, kept, bounds, all, arcs, distances, lasts);
+    let prepared = with_roots(
         &order[..ready.edges],
         &kept[..ready.forest],
-        bounds,
-        arcs,
-        distances,
-        lasts,
-        &[],
-        &[],
-        buf,
-        classes,
-    )
+        roots,
+        Around { bounds, arcs },
+        Table { distances, lasts },
+    );
+    answer_asked(g, prepared, asked, buf)
 }
 
-// Lends arrays that a small graph and few crews fit in.
-fn ask_rooted_small(b: &[u8], roots: &[u16], asked: Asked, buf: &mut [u8], classes: &[u8]) -> Told
-    requires { RootedSmall (graph_of b.now classes.now) roots.now asked (length buf.old) }
-    ensures { Answered asked (graph_of b.now classes.now) (rooted roots.now)
+// Lends arrays that a small graph and few crews fit in. This and the next stay two functions, since one of both by const
+// parameters would take five bare lengths at each call.
+fn ask_rooted_small(g: &Graph, roots: &[u16], asked: Asked, buf: &mut [u8]) -> Told
+    requires { RootedSmall g.now roots.now asked (length buf.old) }
+    ensures { Answered asked g.now (rooted roots.now)
         buf.old buf.new result }
 {
     let mut order = [0u16; 512];
@@ -70,7 +61,7 @@ fn ask_rooted_small(b: &[u8], roots: &[u16], asked: Asked, buf: &mut [u8], class
     let mut distances = [0u32; 512];
     let mut lasts = [0u32; 512];
     ask_rooted_in(
-        b,
+        g,
         roots,
         asked,
         &mut order,
@@ -81,14 +72,13 @@ fn ask_rooted_small(b: &[u8], roots: &[u16], asked: Asked, buf: &mut [u8], class
         &mut distances,
         &mut lasts,
         buf,
-        classes,
     )
 }
 
 // Lends arrays that every graph and all crews fit in.
-fn ask_rooted_full(b: &[u8], roots: &[u16], asked: Asked, buf: &mut [u8], classes: &[u8]) -> Told
-    requires { RootedAsked (graph_of b.now classes.now) roots.now asked (length buf.old) }
-    ensures { Answered asked (graph_of b.now classes.now) (rooted roots.now)
+fn ask_rooted_full(g: &Graph, roots: &[u16], asked: Asked, buf: &mut [u8]) -> Told
+    requires { RootedAsked g.now roots.now asked (length buf.old) }
+    ensures { Answered asked g.now (rooted roots.now)
         buf.old buf.new result }
 {
     let mut order = [0u16; 2048];
@@ -99,7 +89,7 @@ fn ask_rooted_full(b: &[u8], roots: &[u16], asked: Asked, buf: &mut [u8], classe
     let mut distances = [0u32; 8192];
     let mut lasts = [0u32; 8192];
     ask_rooted_in(
-        b,
+        g,
         roots,
         asked,
         &mut order,
@@ -110,37 +100,30 @@ fn ask_rooted_full(b: &[u8], roots: &[u16], asked: Asked, buf: &mut [u8], classe
         &mut distances,
         &mut lasts,
         buf,
-        classes,
     )
 }
 
 // Whether the small arrays are enough.
-fn is_small(b: &[u8], k: usize, classes: &[u8]) -> bool
-    ensures { SizeTold (graph_of b.now classes.now) k result }
+fn is_small(g: &Graph, k: usize) -> bool
+    ensures { SizeTold g.now k result }
 {
-    if 64 < graph::vertex_count(b, classes) {
+    if 64 < g.vertex_count() {
         return false;
     }
-    if 512 < graph::edge_count(b, classes) {
+    if 512 < g.edge_count() {
         return false;
     }
     k <= 8
 }
 
 // The answer to a question by crews with roots. The roots are a list of vertices, one for each crew.
-pub(crate) fn ask_rooted(
-    b: &[u8],
-    roots: &[u16],
-    asked: Asked,
-    buf: &mut [u8],
-    classes: &[u8],
-) -> Told
-    requires { RootedAsked (graph_of b.now classes.now) roots.now asked (length buf.old) }
-    ensures { Answered asked (graph_of b.now classes.now) (rooted roots.now)
+pub(crate) fn ask_rooted(g: &Graph, roots: &[u16], asked: Asked, buf: &mut [u8]) -> Told
+    requires { RootedAsked g.now roots.now asked (length buf.old) }
+    ensures { Answered asked g.now (rooted roots.now)
         buf.old buf.new result }
 {
-    if is_small(b, roots.len(), classes) {
-        return ask_rooted_small(b, roots, asked, buf, classes);
+    if is_small(g, roots.len()) {
+        return ask_rooted_small(g, roots, asked, buf);
     }
-    ask_rooted_full(b, roots, asked, buf, classes)
+    ask_rooted_full(g, roots, asked, buf)
 }

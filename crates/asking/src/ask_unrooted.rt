@@ -1,89 +1,69 @@
 // A question by crews without roots: prepared in arrays, and answered. The arrays for the order are small where that is
 // enough.
 ghost use Rattle.std.specs.Prelude.{length};
-ghost use Rattle.graph.specs.Bytes.{graph_of};
 ghost use Rattle.rules.specs.Cover.{unrooted};
-ghost use Rattle.asking.specs.Asking.{Answered, UnrootedAsked, UnrootedLent, UnrootedAnswered, UnrootedSmall};
+ghost use Rattle.asking.specs.Asking.{Answered, UnrootedAsked, UnrootedLent, UnrootedAnswered, UnrootedFits};
 
 use crate::ask::{Asked, answer_asked};
-use admit::crews::Kind;
+use graph::Graph;
+use needs::history::Merges;
+use prepare::crews::without_roots;
 use prepare::prepare_unrooted;
 use replies::Told;
 
 // Prepares the question, with the edges put in order in the arrays that are lent, and answers it.
 fn ask_unrooted_in(
     k: usize,
-    b: &[u8],
+    g: &Graph,
     asked: Asked,
     keys: &mut [u64],
     spare: &mut [u64],
     order: &mut [u16],
     buf: &mut [u8],
-    classes: &[u8],
 ) -> Told
-    requires { UnrootedLent k (graph_of b.now classes.now) asked (length keys.old) (length spare.old)
+    requires { UnrootedLent k g.now asked (length keys.old) (length spare.old)
         (length order.old) (length buf.old) }
-    ensures { UnrootedAnswered asked k (graph_of b.now classes.now) keys.old
+    ensures { UnrootedAnswered asked k g.now keys.old
         keys.new spare.old spare.new order.old order.new
         buf.old buf.new result }
 {
     let mut kept = [0u16; 256];
     let mut total = [0u64; 256];
     let mut until = [0u16; 256];
-    let ready = prepare_unrooted(
-        b, keys, spare, order, &mut kept, &mut total, &mut until, classes,
-    );
-    answer_asked(
-        Kind::Unrooted,
-        k,
-        b,
-        &[],
-        asked,
-        &order[..ready.edges],
-        &kept[..ready.forest],
-        &[],
-        &[],
-        &[],
-        &[],
-        &total,
-        &until,
-        buf,
-        classes,
-    )
+    let ready = prepare_unrooted(g, keys, spare, order, &mut kept, &mut total, &mut until);
+    let merges = Merges {
+        total: &total,
+        until: &until,
+    };
+    let prepared = without_roots(&order[..ready.edges], &kept[..ready.forest], k, merges);
+    answer_asked(g, prepared, asked, buf)
 }
 
-// Lends arrays that 512 edges fit in.
-fn ask_unrooted_small(k: usize, b: &[u8], asked: Asked, buf: &mut [u8], classes: &[u8]) -> Told
-    requires { UnrootedSmall k (graph_of b.now classes.now) asked (length buf.old) }
-    ensures { Answered asked (graph_of b.now classes.now) (unrooted k) buf.old
+// Lends arrays of a length that the edges fit in.
+fn ask_unrooted_sized<const LENGTH: usize>(
+    k: usize,
+    g: &Graph,
+    asked: Asked,
+    buf: &mut [u8],
+) -> Told
+    requires { UnrootedFits k g.now asked LENGTH (length buf.old) }
+    ensures { Answered asked g.now (unrooted k) buf.old
         buf.new result }
 {
-    let mut keys = [0u64; 512];
-    let mut spare = [0u64; 512];
-    let mut order = [0u16; 512];
-    ask_unrooted_in(k, b, asked, &mut keys, &mut spare, &mut order, buf, classes)
-}
-
-// Lends arrays that the edges of every graph fit in.
-fn ask_unrooted_full(k: usize, b: &[u8], asked: Asked, buf: &mut [u8], classes: &[u8]) -> Told
-    requires { UnrootedAsked k (graph_of b.now classes.now) asked (length buf.old) }
-    ensures { Answered asked (graph_of b.now classes.now) (unrooted k) buf.old
-        buf.new result }
-{
-    let mut keys = [0u64; 2048];
-    let mut spare = [0u64; 2048];
-    let mut order = [0u16; 2048];
-    ask_unrooted_in(k, b, asked, &mut keys, &mut spare, &mut order, buf, classes)
+    let mut keys = [0u64; LENGTH];
+    let mut spare = [0u64; LENGTH];
+    let mut order = [0u16; LENGTH];
+    ask_unrooted_in(k, g, asked, &mut keys, &mut spare, &mut order, buf)
 }
 
 // The answer to a question by k crews without roots.
-pub(crate) fn ask_unrooted(k: usize, b: &[u8], asked: Asked, buf: &mut [u8], classes: &[u8]) -> Told
-    requires { UnrootedAsked k (graph_of b.now classes.now) asked (length buf.old) }
-    ensures { Answered asked (graph_of b.now classes.now) (unrooted k) buf.old
+pub(crate) fn ask_unrooted(k: usize, g: &Graph, asked: Asked, buf: &mut [u8]) -> Told
+    requires { UnrootedAsked k g.now asked (length buf.old) }
+    ensures { Answered asked g.now (unrooted k) buf.old
         buf.new result }
 {
-    if graph::edge_count(b, classes) <= 512 {
-        return ask_unrooted_small(k, b, asked, buf, classes);
+    if g.edge_count() <= 512 {
+        return ask_unrooted_sized::<512>(k, g, asked, buf);
     }
-    ask_unrooted_full(k, b, asked, buf, classes)
+    ask_unrooted_sized::<2048>(k, g, asked, buf)
 }

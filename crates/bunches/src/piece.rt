@@ -1,25 +1,8 @@
 // A piece, a part or what is left at a root, moves from the stack to the arrays that hold the pieces.
-ghost use Rattle.std.specs.Prelude.{◌+◌, ◌≤◌, length};
-ghost use Rattle.std.proofs.Math.Seq.{slice};
-ghost use Rattle.lists.specs.Put.{Put};
 ghost use Rattle.bunches.specs.Store.{store_of};
 ghost use Rattle.bunches.specs.PiecePut.{Puttable, PiecePut};
 
 use crate::Progress;
-
-// Copies the edges of the stack between two places behind the edges of the pieces.
-fn copy_edges(stack: &[u16], from: usize, to: usize, members: &mut [u16], used: usize)
-    requires { (from ≤ to) × (to ≤ length stack.now) × (used + to ≤ length members.old + from) }
-    ensures { Put used (slice from to stack.now) members.old members.new }
-{
-    let mut i = from;
-    let mut at = used;
-    while i < to {
-        members[at] = stack[i];
-        i += 1;
-        at += 1;
-    }
-}
 
 // What stands on the stack from a place on becomes a piece that starts at v; what is left on the stack weighs `weight`.
 pub fn put_piece(
@@ -41,7 +24,7 @@ pub fn put_piece(
     let used = s.used;
     let top = s.top;
     let next = used + (top - from);
-    copy_edges(stack, from, top, members, used);
+    members[used..next].copy_from_slice(&stack[from..top]);
     starts[pieces] = v as u16;
     cuts[pieces + 1] = next as u16;
     Progress {

@@ -9,6 +9,7 @@ use native.Mathlib.Omega.{arith}
 use borrow.Author.Tests.{ltb-true, lt-ltb, le-ltb}
 use lib.Dec.{ltb}
 use lib.ListN.{length}
+use Rattle.std.proofs.Common.{Result, Ok, Err}
 use Rattle.lists.specs.Member.{◌∈◌}
 use Rattle.lists.proofs.Below.{in_below}
 use Rattle.lists.proofs.Member.{in_map}
@@ -30,16 +31,14 @@ use Rattle.cover_laws.proofs.OnlyWalk.{closed_walk_exactly}
 use Rattle.admit.specs.declared.refusal.Refusal.{Refusal}
 use Rattle.admit.specs.declared.refusal.Refusal.TheVariants.{TreeNumber, WalkRoom}
 use Rattle.admit.specs.Refusals.{number_of}
-use Rattle.filed.specs.declared.check.Verdict.TheVariants as verdict
 use Rattle.filed.specs.Promise.{CheckPromise}
 use Rattle.replies.specs.Replies.{said}
 use Rattle.closed_walk.specs.declared.walk.Walked.{Walked}
-use Rattle.closed_walk.specs.declared.walk.Walked.TheVariants.{Refused}
 use Rattle.closed_walk.specs.Promise.{WalkReplied, WalksTree, WalkPromise}
 use Rattle.closed_walk.specs.Checked.{CheckedGiven, TreeAsked, TreeWalked, CheckedWalked}
 
 -- A refusal says its number and leaves the buffer as it is.
-refuses : {number : ℕ} (f : Refusal) (buffer : List ℕ) → number ≡ number_of f → WalkReplied (refused number) buffer buffer (Refused f)
+refuses : {number : ℕ} (f : Refusal) (buffer : List ℕ) → number ≡ number_of f → WalkReplied (refused number) buffer buffer (Err f)
 unfolding walk_after stop_bytes
 refuses f buffer q = record { same = ap (λ n. said n []) (sym q); buffer = refl }
 
@@ -51,12 +50,12 @@ tree_inside c j there = in_map (tree_in c) (in_below (trees_in c) there)
 -- 51 AND 52
 
 module _ (g : Graph) (c : List ℕ) (j : ℕ) (buffer : List ℕ) where
-  pub no_such_tree : trees_in c ≤ j → CheckedWalked g c j buffer buffer (Refused TreeNumber)
+  pub no_such_tree : trees_in c ≤ j → CheckedWalked g c j buffer buffer (Err TreeNumber)
   unfolding refused_or first_fault fault_unless
   no_such_tree h = rw (le-ltb j (trees_in c) h) (refuses TreeNumber buffer refl)
 
   module _ (there : j < trees_in c) where
-    pub little_room : length buffer < least_walk_room → CheckedWalked g c j buffer buffer (Refused WalkRoom)
+    pub little_room : length buffer < least_walk_room → CheckedWalked g c j buffer buffer (Err WalkRoom)
     unfolding refused_or first_fault fault_unless fault_if
     little_room h = rw (lt-ltb j (trees_in c) there, lt-ltb (length buffer) least_walk_room h) (refuses WalkRoom buffer refl)
 
@@ -64,7 +63,7 @@ module _ (g : Graph) (c : List ℕ) (j : ℕ) (buffer : List ℕ) where
       pub tree_asked : CheckedGiven g c → TreeAsked g c j (length buffer)
       tree_asked checked = record { cover = checked.cover; is_tree = checked.are_trees (tree_in c j) (tree_inside c j there); fits = room }
 
-      pub tree_answered : {after : List ℕ} {r : Walked} → TreeWalked g c j buffer after r → CheckedWalked g c j buffer after r
+      pub tree_answered : {after : List ℕ} {r : Result Walked Refusal} → TreeWalked g c j buffer after r → CheckedWalked g c j buffer after r
       unfolding refused_or first_fault fault_unless fault_if
       tree_answered w = rw (lt-ltb j (trees_in c) there, le-ltb (length buffer) least_walk_room room) w
 
@@ -86,12 +85,12 @@ module _ (q : Question) (c : List ℕ) where
   g = graph_in q
 
   -- Nothing is refused of a cover that passed the check,
-  passed : {h : ℕ} → CheckPromise q c (verdict.Yes h) → check_fault q c ≡ none
+  passed : {h : ℕ} → CheckPromise q c (Ok h) → check_fault q c ≡ none
   unfolding ask_check
   passed {h} p = (yes_says (check_fault q c) h _ (sym p.rule)).0
 
   -- and it is one.
-  pub checked_given : {h : ℕ} → CheckPromise q c (verdict.Yes h) → CheckedGiven g c
+  pub checked_given : {h : ℕ} → CheckPromise q c (Ok h) → CheckedGiven g c
   checked_given {h} p =
       let filed = (p.exactly h).0 refl in
       let a = admitted q filed.admitted in
@@ -102,12 +101,12 @@ module _ (q : Question) (c : List ℕ) where
         are_trees = λ t m. filed.cover.all_covered.are_trees t (subst (λ l. t ∈ l) read m);
       }
     where
-      quiet_cover : CheckPromise q c (verdict.Yes h) → cover_fault g (crews_in q) c ≡ none
+      quiet_cover : CheckPromise q c (Ok h) → cover_fault g (crews_in q) c ≡ none
       quiet_cover p = unfold check_fault in quiet_each (question_fault q ∷ cover_fault g (crews_in q) c ∷ []) (passed p) (Memᴰ.tail (Memᴰ.head refl))
 
   module _ (tree : ℕ) where
     -- The promise follows from the rule, and from what the check found out.
-    promised : {before after : List ℕ} {r : Walked} → WalkReplied (ask_walk q c tree (length before)) before after r
+    promised : {before after : List ℕ} {r : Result Walked Refusal} → WalkReplied (ask_walk q c tree (length before)) before after r
         → (walk_fault q c tree (length before) ≡ none → CheckedGiven g c × (tree < trees_in c)) → WalkPromise q c tree before after r
     unfolding ask_walk refused_or walk_after stop_bytes
     promised {before} {after} {r} rule given = record {
@@ -117,14 +116,14 @@ module _ (q : Question) (c : List ℕ) where
     }
 
     -- The check's refusal is the walk's.
-    pub check_refuses : {f : Refusal} (buffer : List ℕ) → CheckPromise q c (verdict.Refused f) → WalkPromise q c tree buffer buffer (Refused f)
+    pub check_refuses : {f : Refusal} (buffer : List ℕ) → CheckPromise q c (Err f) → WalkPromise q c tree buffer buffer (Err f)
     unfolding ask_check ask_walk walk_fault first_fault refused_or
     check_refuses {f} buffer p =
         let e : check_fault q c ≡ some (number_of f) = number_says (check_fault q c) (number_of f) _ (sym p.rule) in
         promised (rw e (refuses f buffer refl)) (rw e (λ n. let z : ◌≡◌ {A = ℕ} 0 1 = cc in absurd (omega arith)))
 
     -- Where the check passes, 51 and 52 decide.
-    pub check_passes : {h : ℕ} {before after : List ℕ} {r : Walked} → CheckPromise q c (verdict.Yes h) → CheckedWalked g c tree before after r
+    pub check_passes : {h : ℕ} {before after : List ℕ} {r : Result Walked Refusal} → CheckPromise q c (Ok h) → CheckedWalked g c tree before after r
         → WalkPromise q c tree before after r
     unfolding ask_walk walk_fault first_fault refused_or
     check_passes {before = before} p w =

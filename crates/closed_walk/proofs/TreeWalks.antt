@@ -5,6 +5,7 @@ use mathlib.Core.Path.{◌≡◌, sym, ap, ap₂, subst, ◌∙◌}
 use mathlib.Core.List.{List, [], ◌∷◌}
 use native.Mathlib.Omega.{arith}
 use lib.ListN.{length}
+use Rattle.std.proofs.Common.{Ok}
 use Rattle.lists.specs.Put.{PutTo}
 use Rattle.lists.proofs.Bounds.{sum_most}
 use Rattle.lists.proofs.PutPlaces.{put_at_front}
@@ -21,7 +22,6 @@ use Rattle.cover_laws.proofs.ClosedWalk.{closed_walk_length}
 use Rattle.cover.specs.Runs.{run_edges, RunOf}
 use Rattle.cover.proofs.TreeRuns.{tree_is_run}
 use Rattle.replies.specs.Replies.{said}
-use Rattle.closed_walk.specs.declared.walk.Walked.TheVariants.{Walk}
 use Rattle.closed_walk.specs.Run.{FirstOf}
 use Rattle.closed_walk.specs.Turn.{tree_of, WriteAsked, walk_stops}
 use Rattle.closed_walk.specs.Checked.{TreeAsked, TreeWalked}
@@ -57,7 +57,7 @@ module _ {g : Graph} {c : List ℕ} {j room : ℕ} (asked : TreeAsked g c j room
 
   -- Its stops were written: two bytes each.
   pub tree_walked : {before after : List ℕ} {written weight : ℕ} → PutTo 0 (u16_list (walk_stops g tree)) before after written → weight ≡ total_weight g (run_edges c from to)
-      → TreeWalked g c j before after (Walk (written / 2) (2 * weight))
+      → TreeWalked g c j before after (Ok (record { stops = written / 2; length = 2 * weight }))
   unfolding walk_after stop_bytes
   tree_walked {written = written} {weight = weight} put weighs =
       let count : written / 2 ≡ length (walk_stops g tree) = omega (arith, put.behind, fields_length (walk_stops g tree)) in

@@ -1,6 +1,6 @@
 -- What the question of the walk promises on every input, refused ones too (document 02, A.1).
 -- Assumes nothing.
-use Rattle.std.specs.Prelude.{ℕ, ◌+◌, ◌*◌, ◌≤◌, ◌≡◌, List, [], ◌∷◌, ◌↔◌, length}
+use Rattle.std.specs.Prelude.{ℕ, ◌+◌, ◌*◌, ◌≤◌, ◌≡◌, List, [], ◌∷◌, ◌↔◌, length, Result, Ok, Err}
 use Rattle.std.proofs.Math.Option.{some, none}
 use Rattle.lists.specs.Member.{◌∈◌}
 use Rattle.graph.specs.Graph.{Graph}
@@ -10,10 +10,10 @@ use Rattle.rules.specs.Questions.{Question, graph_in}
 use Rattle.rules.specs.ClosedWalk.{stops_of, length_of, closed_walk}
 use Rattle.rules.specs.WalkRule.{IsClosedWalk}
 use Rattle.rules.specs.WalkQuestion.{walk_fault, WalkReply, refused, walks, ask_walk, walk_after}
+use Rattle.admit.specs.declared.refusal.Refusal.{Refusal}
 use Rattle.admit.specs.Refusals.{number_of}
 use Rattle.replies.specs.Replies.{Said, said}
 use Rattle.closed_walk.specs.declared.walk.Walked.{Walked}
-use Rattle.closed_walk.specs.declared.walk.Walked.TheVariants.{Refused, Walk}
 
 -- What the rules' reply says, besides the stops that are written: a refusal its number, a walk 0, its count of stops and its length.
 abbrev pub said_of : WalkReply → Said
@@ -21,12 +21,12 @@ said_of (refused number) = said number []
 said_of (walks stops long) = said 0 (length stops ∷ long ∷ [])
 
 -- What the program's answer says.
-abbrev pub says : Walked → Said
-says (Refused f) = said (number_of f) []
-says (Walk stops long) = said 0 (stops ∷ long ∷ [])
+abbrev pub says : Result Walked Refusal → Said
+says (Err f) = said (number_of f) []
+says (Ok walk) = said 0 (walk.stops ∷ walk.length ∷ [])
 
 -- The answer says what the rules' reply does, and the buffer is what that reply makes of it.
-pub record WalkReplied (reply : WalkReply) (before after : List ℕ) (r : Walked) : Type 0 where
+pub record WalkReplied (reply : WalkReply) (before after : List ℕ) (r : Result Walked Refusal) : Type 0 where
   pub same : says r ≡ said_of reply
   pub buffer : after ≡ walk_after reply before
 
@@ -42,7 +42,7 @@ pub record WalksTree (g : Graph) (t : Tree) : Type 0 where
 
 -- The question of the walk. Refused exactly where documents 01 and 02 say so, with the number alone, and no lent byte changes. Otherwise the answer and
 -- the buffer are those of the walk along the tree, which is what document 02 says of it.
-pub record WalkPromise (q : Question) (c : List ℕ) (tree : ℕ) (before after : List ℕ) (r : Walked) : Type 0 where
+pub record WalkPromise (q : Question) (c : List ℕ) (tree : ℕ) (before after : List ℕ) (r : Result Walked Refusal) : Type 0 where
   pub refuses : (n : ℕ) → walk_fault q c tree (length before) ≡ some n → (says r ≡ said n []) × (after ≡ before)
   pub rule : WalkReplied (ask_walk q c tree (length before)) before after r
   pub means : walk_fault q c tree (length before) ≡ none → WalksTree (graph_in q) (tree_in c tree)

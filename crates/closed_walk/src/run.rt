@@ -11,14 +11,12 @@ pub fn run_begin(c: &[u8], j: usize) -> usize
     ensures { FirstOf c.now j result }
 {
     let q = entries_in(c);
-    let mut i = 0;
-    while i < q {
+    for i in 0..q {
         if j <= entry_tree(c, i) {
             return i;
         }
-        i += 1;
     }
-    i
+    q
 }
 
 // The edges of a run of entries, written to the front of the array. Says how many.
@@ -26,12 +24,8 @@ pub fn read_run(c: &[u8], from: usize, to: usize, out: &mut [u16]) -> usize
     requires { InEntries c.now from to × (to - from ≤ length out.old) }
     ensures { PutTo 0 (run_edges c.now from to) out.old out.new result }
 {
-    let mut r = 0;
-    let mut i = from;
-    while i < to {
-        out[r] = entry_edge(c, i) as u16;
-        r += 1;
-        i += 1;
+    for i in from..to {
+        out[i - from] = entry_edge(c, i) as u16;
     }
-    r
+    to - from
 }

@@ -4,6 +4,7 @@
 ghost use Rattle.closed_walk.specs.Turn.{PlaceAsked, NextPlace, ArcsHeld, ArcsOf, TurnAsked, TurnTaken};
 
 use edges::arc::{arc_edge, arc_head};
+use edges::around::Around;
 use edges::index::wide;
 
 // The place of the first of the arcs, from a place on, whose edge is not marked; their number where there is none.
@@ -11,14 +12,12 @@ fn next_place(around: &[u64], marks: &[u8], from: usize) -> usize
     requires { PlaceAsked around.now marks.now from }
     ensures { NextPlace around.now marks.now from result }
 {
-    let mut i = from;
-    while i < around.len() {
+    for i in from..around.len() {
         if marks[wide(arc_edge(around[i]))] != 1 {
             return i;
         }
-        i += 1;
     }
-    i
+    around.len()
 }
 
 // The arcs around a vertex.
@@ -33,19 +32,18 @@ fn arcs_at<'a>(bounds: &[u16], arcs: &'a [u64], v: usize) -> &'a [u64]
 
 // The turn: on by the lowest edge not yet walked; where none is left, back by one stop. Says how deep the walk is then.
 pub fn take_turn(
-    bounds: &[u16],
-    arcs: &[u64],
+    around: Around,
     places: &mut [u16],
     marks: &mut [u8],
     way: &mut [u16],
     depth: usize,
 ) -> usize
-    requires { TurnAsked bounds.now arcs.now places.old marks.old way.old depth }
-    ensures { TurnTaken bounds.now arcs.now places.old places.new
+    requires { TurnAsked around.bounds.now around.arcs.now places.old marks.old way.old depth }
+    ensures { TurnTaken around.entry.bounds.now around.entry.arcs.now places.old places.new
         marks.old marks.new way.old way.new depth result }
 {
     let stop = wide(way[depth]);
-    let around = arcs_at(bounds, arcs, stop);
+    let around = arcs_at(around.bounds, around.arcs, stop);
     let at = next_place(around, marks, wide(places[stop]));
     places[stop] = at as u16;
     if at < around.len() {

@@ -28,10 +28,10 @@ held_readable {bounds} {edges} held read = record { held = subst (λ c. IsHeld b
 pub held_edges : {bounds edges taken : List ℕ} {c n r : ℕ} → Reads c n r → EdgesOf bounds edges r taken → taken ≡ segment bounds edges c
 held_edges {bounds} {edges} read of = of.is ∙ ap (segment bounds edges) read.is
 
--- The number of a chosen tree, where it is read.
-pub chosen_readable : (bounds edges chosen : List ℕ) (j : ℕ) {r : ℕ} → AllHeld bounds edges chosen → j < length chosen
-    → Reads (get_or chosen j 0) (2 ^ 16) r → Readable bounds edges r
-chosen_readable bounds edges chosen j held h read = held_readable (held (get_or chosen j 0) (at_place 0 chosen j h)) read
+-- The number of a chosen tree.
+pub chosen_readable : {bounds edges : List ℕ} (chosen : List ℕ) (j : ℕ) → AllHeld bounds edges chosen → j < length chosen
+    → get_or chosen j 0 < 2 ^ 16 → Readable bounds edges (get_or chosen j 0)
+chosen_readable chosen j held h small = record { held = held (get_or chosen j 0) (at_place 0 chosen j h); small = omega arith }
 
 -- The tree numbers, tree by tree, and how many there are.
 module _ (bounds : List ℕ) where

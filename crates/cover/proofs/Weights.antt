@@ -32,10 +32,6 @@ module _ (g : Graph) where
   unfolding total_weight
   weight_more es e = sum_more (weight_of g) es e
 
-  -- So along a list.
-  pub list_weight_next : (es : List ℕ) (i : ℕ) → i < length es → total_weight g (take (i + 1) es) ≡ total_weight g (take i es) + weight_of g (get_or es i 0)
-  list_weight_next es i h = ap (total_weight g) (take_more 0 es i h) ∙ weight_more (take i es) (get_or es i 0)
-
   -- So along a run of entries.
   module _ (c : List ℕ) where
     pub run_weight_none : (from : ℕ) → 0 ≡ total_weight g (run_edges c from from)

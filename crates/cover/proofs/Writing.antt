@@ -1,25 +1,32 @@
 -- Fields of two bytes put one behind the other into a buffer, and the loops that put what each element of a list makes.
 -- Assumes nothing.
-use Prim.Native.Nat.{ℕ, ◌+◌, ◌*◌, ◌/◌, ◌%◌, ◌≤◌, ◌<◌}
-use mathlib.Core.Path.{◌≡◌, refl, sym}
+use Prim.Native.Nat.{ℕ, ◌+◌, ◌-◌, ◌*◌, ◌/◌, ◌%◌, ◌≤◌, ◌<◌}
+use mathlib.Core.Path.{◌≡◌, refl, sym, ap, ap₂, ◌∙◌}
 use mathlib.Core.List.{List, [], ◌∷◌, ◌++◌}
 use native.Mathlib.Omega.{arith}
-use lib.ListN.{length, take, get_or, set, replicate, replicate-append-replicate, length-set}
-use lib.Seq.{take_all}
+use lib.ListN.{length, take, drop, get_or, replicate, replicate-append-replicate}
+use lib.Seq.{take_all, drop-drop}
+use borrow.Rule.Slice.PartMut.{put_mid}
 use Rattle.lists.specs.Lists.{flat}
 use Rattle.lists.specs.Put.{PutTo}
 use Rattle.lists.proofs.EachPlace.{made_from, made_more, made_within}
-use Rattle.lists.proofs.Put.{put_length, put_behind, put_to_none, put_more}
+use Rattle.lists.proofs.Put.{put_length, put_behind, put_to_none}
 use Rattle.rules.specs.CoverBytes.{u16_bytes, u16_list}
 use Rattle.rules.proofs.Fields.{fields_length, fields_append}
 
--- Two stores, side by side, put a field.
-pub field_put : (b : List ℕ) (at x : ℕ) → at + 2 ≤ length b → PutTo at (u16_bytes x) b (set (set b at (x % 256)) (at + 1) (x / 256 % 256)) (at + 2)
+-- A list copied into the part of an array from one place up to another is put there.
+pub put_copied : {b ys : List ℕ} {at : ℕ} (xs : List ℕ) (end : ℕ) → end ≡ at + length xs → end ≤ length b → ys ≡ xs → PutTo at xs b (put_mid at (end - at) b ys) end
+put_copied {b} {ys} {at} xs end e h q =
+    let behind : at + (end - at) ≡ at + length xs = omega arith in
+    record {
+      put = record { room = omega arith; is = ap (λ l. put_mid at (end - at) b l) q ∙ ap (λ l. take at b ++ (xs ++ l)) (drop-drop (end - at) at b ∙ ap (λ n. drop n b) behind) };
+      behind = e;
+    }
+
+-- The two bytes of a number's last sixteen bits are its field.
+pub field_bytes : (x : ℕ) → x % 65536 % 256 ∷ x % 65536 / 256 % 256 ∷ [] ≡ u16_bytes x
 unfolding u16_bytes
-field_put b at x h =
-    let two : at + 1 + 1 ≡ at + 2 = omega arith in
-    rw two at
-    (put_more (x / 256 % 256) (put_more (x % 256) (put_to_none b at (omega arith)) (omega arith)) (rw length-set (omega arith)))
+field_bytes x = ap₂ (λ low high. low ∷ high ∷ []) (omega arith) (omega arith)
 
 -- A list of one field.
 one_field : (x : ℕ) → u16_bytes x ≡ u16_list (x ∷ [])

@@ -3,6 +3,14 @@ ghost use Rattle.std.specs.Prelude.{◌^◌, ◌<◌, get_or};
 ghost use Rattle.graph.specs.Bytes.{Reads};
 ghost use Rattle.cover.specs.Chosen.{size_at, Readable, EdgesOf};
 
+// Trees held by three arrays: tree c has the start starts[c] and the edges members[cuts[c] .. cuts[c + 1]].
+#[derive(Clone, Copy)]
+pub struct Pieces<'a> {
+    pub starts: &'a [u16],
+    pub cuts: &'a [u16],
+    pub members: &'a [u16],
+}
+
 // The number at a place; 0 past the last.
 pub fn number_at(xs: &[u16], i: usize) -> usize
     ensures { Reads (get_or xs.now i 0) (2 ^ 16) result }

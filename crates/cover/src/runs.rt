@@ -11,12 +11,10 @@ pub fn run_end(c: &[u8], j: usize, from: usize) -> usize
     ensures { RunOf c.now j from result }
 {
     let q = entries_in(c);
-    let mut i = from;
-    while i < q {
+    for i in from..q {
         if entry_tree(c, i) != j {
             return i;
         }
-        i += 1;
     }
-    i
+    q
 }

@@ -6,15 +6,15 @@ ghost use Rattle.rules.specs.CoverBytes.{u16_bytes, u16_list, encode};
 ghost use Rattle.rules.specs.Held.{trees_at};
 ghost use Rattle.cover.specs.Chosen.{starts_at, edges_at, entry_count, tree_numbers, Writable, EdgesWritable};
 
-use crate::index::{edges_at, number_at, size_at};
+use crate::index::{Pieces, edges_at, number_at, size_at};
 
 // A field of two bytes, at a place.
 pub fn put_u16(buf: &mut [u8], at: usize, x: usize) -> usize
     requires { at + 2 ≤ length buf.old }
     ensures { PutTo at (u16_bytes x) buf.old buf.new result }
 {
-    buf[at] = (x % 256) as u8;
-    buf[at + 1] = (x / 256 % 256) as u8;
+    let field = (x % 65536) as u16;
+    buf[at..at + 2].copy_from_slice(&field.to_le_bytes());
     at + 2
 }
 
@@ -24,10 +24,8 @@ fn put_list(buf: &mut [u8], at: usize, xs: &[u16]) -> usize
     ensures { PutTo at (u16_list xs.now) buf.old buf.new result }
 {
     let mut next = at;
-    let mut i = 0;
-    while i < xs.len() {
-        next = put_u16(buf, next, number_at(xs, i));
-        i += 1;
+    for x in xs {
+        next = put_u16(buf, next, *x as usize);
     }
     next
 }
@@ -38,10 +36,8 @@ fn put_same(buf: &mut [u8], at: usize, x: usize, count: usize) -> usize
     ensures { PutTo at (u16_list (replicate count x)) buf.old buf.new result }
 {
     let mut next = at;
-    let mut i = 0;
-    while i < count {
+    for _ in 0..count {
         next = put_u16(buf, next, x);
-        i += 1;
     }
     next
 }
@@ -52,10 +48,8 @@ fn entry_count(bounds: &[u16], chosen: &[u16]) -> usize
     ensures { result ≡ entry_count bounds.now chosen.now }
 {
     let mut sum = 0;
-    let mut j = 0;
-    while j < chosen.len() {
-        sum += size_at(bounds, number_at(chosen, j));
-        j += 1;
+    for c in chosen {
+        sum += size_at(bounds, *c as usize);
     }
     sum
 }
@@ -67,11 +61,8 @@ fn put_starts(buf: &mut [u8], at: usize, starts: &[u16], chosen: &[u16]) -> usiz
         buf.new result }
 {
     let mut next = at;
-    let mut j = 0;
-    while j < chosen.len() {
-        let c = number_at(chosen, j);
-        next = put_u16(buf, next, number_at(starts, c));
-        j += 1;
+    for c in chosen {
+        next = put_u16(buf, next, number_at(starts, *c as usize));
     }
     next
 }
@@ -83,11 +74,8 @@ fn put_tree_numbers(buf: &mut [u8], at: usize, bounds: &[u16], chosen: &[u16]) -
         buf.new result }
 {
     let mut next = at;
-    let mut j = 0;
-    while j < chosen.len() {
-        let c = number_at(chosen, j);
-        next = put_same(buf, next, j, size_at(bounds, c));
-        j += 1;
+    for (j, c) in chosen.iter().enumerate() {
+        next = put_same(buf, next, j, size_at(bounds, *c as usize));
     }
     next
 }
@@ -99,32 +87,23 @@ fn put_edges(buf: &mut [u8], at: usize, bounds: &[u16], edges: &[u16], chosen: &
         buf.old buf.new result }
 {
     let mut next = at;
-    let mut j = 0;
-    while j < chosen.len() {
-        let c = number_at(chosen, j);
-        next = put_list(buf, next, edges_at(bounds, edges, c));
-        j += 1;
+    for c in chosen {
+        next = put_list(buf, next, edges_at(bounds, edges, *c as usize));
     }
     next
 }
 
 // The bytes of the cover whose trees are the chosen ones of those that the arrays hold, in the order in which they are
 // chosen, as the buffer's first bytes. The answer is how many bytes.
-pub fn write_cover(
-    buf: &mut [u8],
-    starts: &[u16],
-    bounds: &[u16],
-    edges: &[u16],
-    chosen: &[u16],
-) -> usize
-    requires { Writable starts.now bounds.now edges.now chosen.now (length buf.old) }
-    ensures { PutTo 0 (encode (trees_at starts.now bounds.now edges.now
-        chosen.now)) buf.old buf.new result }
+pub fn write_cover(buf: &mut [u8], pieces: Pieces, chosen: &[u16]) -> usize
+    requires { Writable pieces.starts.now pieces.cuts.now pieces.members.now chosen.now (length buf.old) }
+    ensures { PutTo 0 (encode (trees_at pieces.entry.starts.now pieces.entry.cuts.now
+        pieces.entry.members.now chosen.now)) buf.old buf.new result }
 {
-    let entries = entry_count(bounds, chosen);
+    let entries = entry_count(pieces.cuts, chosen);
     let behind_trees = put_u16(buf, 0, chosen.len());
     let behind_counts = put_u16(buf, behind_trees, entries);
-    let behind_starts = put_starts(buf, behind_counts, starts, chosen);
-    let behind_numbers = put_tree_numbers(buf, behind_starts, bounds, chosen);
-    put_edges(buf, behind_numbers, bounds, edges, chosen)
+    let behind_starts = put_starts(buf, behind_counts, pieces.starts, chosen);
+    let behind_numbers = put_tree_numbers(buf, behind_starts, pieces.cuts, chosen);
+    put_edges(buf, behind_numbers, pieces.cuts, pieces.members, chosen)
 }

@@ -12,7 +12,7 @@ ghost use Rattle.cover.specs.Chosen.{starts_at};
 ghost use Rattle.rules.specs.RootedTrial.{by_smallest};
 ghost use Rattle.deficient.specs.TooLowParts.{LayGiven, EdgesLaid, KeysGiven, KeysTaken, ChosenGiven, SetGiven, SetWritten, SetReplied};
 
-use cover::index::{edges_at, number_at};
+use cover::index::{Pieces, edges_at, number_at};
 use cover::write::write_cover;
 use edges::index::wide;
 use pieces::chosen::sort_chosen;
@@ -33,10 +33,8 @@ fn take_starts(starts: &[u16], chosen: &[u16], laid: &mut [u16])
     ensures { PutTo 0 (starts_at starts.now chosen.now) laid.old
         laid.new (length chosen.now) }
 {
-    let mut i = 0;
-    while i < chosen.len() {
-        laid[i] = number_at(starts, wide(chosen[i])) as u16;
-        i += 1;
+    for (i, c) in chosen.iter().enumerate() {
+        laid[i] = number_at(starts, wide(*c)) as u16;
     }
 }
 
@@ -48,11 +46,9 @@ fn lay_edges(cuts: &[u16], members: &[u16], chosen: &[u16], bounds: &mut [u16], 
 {
     bounds[0] = 0;
     let mut at = 0;
-    let mut i = 0;
-    while i < chosen.len() {
-        at = put_risen(edges_at(cuts, members, wide(chosen[i])), edges, at);
-        i += 1;
-        bounds[i] = at as u16;
+    for (i, c) in chosen.iter().enumerate() {
+        at = put_risen(edges_at(cuts, members, wide(*c)), edges, at);
+        bounds[i + 1] = at as u16;
     }
 }
 
@@ -61,24 +57,16 @@ fn take_keys(bounds: &[u16], edges: &[u16], t: usize, keys: &mut [u32])
     requires { KeysGiven bounds.now edges.now t (length keys.old) }
     ensures { KeysTaken bounds.now edges.now t keys.old keys.new }
 {
-    let mut i = 0;
-    while i < t {
+    for i in 0..t {
         keys[i] = number_at(edges_at(bounds, edges, i), 0) as u32;
-        i += 1;
     }
 }
 
 // The bytes of the chosen pieces, ordered by smallest edge, as the buffer's first bytes. Says how many bytes.
-fn write_parts(
-    starts: &[u16],
-    cuts: &[u16],
-    members: &[u16],
-    chosen: &[u16],
-    buf: &mut [u8],
-) -> usize
-    requires { ChosenGiven cuts.now members.now chosen.now (length buf.old) }
-    ensures { PutTo 0 (encode (by_smallest (map risen (trees_at starts.now cuts.now
-        members.now chosen.now))))
+fn write_parts(pieces: Pieces, chosen: &[u16], buf: &mut [u8]) -> usize
+    requires { ChosenGiven pieces.cuts.now pieces.members.now chosen.now (length buf.old) }
+    ensures { PutTo 0 (encode (by_smallest (map risen (trees_at pieces.entry.starts.now pieces.entry.cuts.now
+        pieces.entry.members.now chosen.now))))
         buf.old buf.new result }
 {
     let mut laid = [0u16; 256];
@@ -87,19 +75,22 @@ fn write_parts(
     let mut keys = [0u32; 256];
     let mut numbers = [0u16; 256];
     let t = chosen.len();
-    take_starts(starts, chosen, &mut laid);
-    lay_edges(cuts, members, chosen, &mut bounds, &mut edges);
+    take_starts(pieces.starts, chosen, &mut laid);
+    lay_edges(pieces.cuts, pieces.members, chosen, &mut bounds, &mut edges);
     take_keys(&bounds, &edges, t, &mut keys);
     number_up(t, &mut numbers);
     sort_chosen(&keys, &mut numbers[..t]);
-    write_cover(buf, &laid, &bounds, &edges, &numbers[..t])
+    let pieces = Pieces {
+        starts: &laid,
+        cuts: &bounds,
+        members: &edges,
+    };
+    write_cover(buf, pieces, &numbers[..t])
 }
 
 // The parts of the set, written as the buffer's first bytes, with the numbers of the answer.
 fn write_deficient(
-    starts: &[u16],
-    cuts: &[u16],
-    members: &[u16],
+    pieces: Pieces,
     places: &[u16],
     parts: usize,
     rows: &[u8],
@@ -107,23 +98,21 @@ fn write_deficient(
     k: usize,
     buf: &mut [u8],
 ) -> Deficient
-    requires { SetGiven cuts.now members.now places.now parts rows.now marks.now k (length buf.old) }
-    ensures { SetWritten starts.now cuts.now members.now places.now
+    requires { SetGiven pieces.cuts.now pieces.members.now places.now parts rows.now marks.now k (length buf.old) }
+    ensures { SetWritten pieces.entry.starts.now pieces.entry.cuts.now pieces.entry.members.now places.now
         parts rows.now marks.now k
         buf.old buf.new result }
 {
     let mut chosen = [0u16; 256];
     let t = marked_places(&places[..parts], &marks[..parts], &mut chosen);
-    write_parts(starts, cuts, members, &chosen[..t], buf);
+    write_parts(pieces, &chosen[..t], buf);
     let d = count_allowed(rows, &marks[..parts], parts, k);
     Deficient { parts: t, roots: d }
 }
 
 // "Too low, parts T, yards D": the parts of the set are written.
 pub fn reply_deficient(
-    starts: &[u16],
-    cuts: &[u16],
-    members: &[u16],
+    pieces: Pieces,
     places: &[u16],
     parts: usize,
     rows: &[u8],
@@ -131,11 +120,11 @@ pub fn reply_deficient(
     k: usize,
     buf: &mut [u8],
 ) -> Reply
-    requires { SetGiven cuts.now members.now places.now parts rows.now marks.now k (length buf.old) }
-    ensures { SetReplied starts.now cuts.now members.now places.now
+    requires { SetGiven pieces.cuts.now pieces.members.now places.now parts rows.now marks.now k (length buf.old) }
+    ensures { SetReplied pieces.entry.starts.now pieces.entry.cuts.now pieces.entry.members.now places.now
         parts rows.now marks.now k
         buf.old buf.new result }
 {
-    let d = write_deficient(starts, cuts, members, places, parts, rows, marks, k, buf);
+    let d = write_deficient(pieces, places, parts, rows, marks, k, buf);
     Reply::Parts(d.parts, d.roots)
 }

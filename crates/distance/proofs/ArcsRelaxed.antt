@@ -83,8 +83,12 @@ module _ {arcs : List ℕ} {lo i u : ℕ} {d l e m : List ℕ} (r : Relaxed arcs
       lowest = new_or_old (λ a. get_or f (arc_head a) 0 ≤ get_or d u 0 + arc_weight a) (omega (arith, stored)) (λ a s. omega (arith, low (arc_head a), r.lowest a s));
     }
 
-  -- One arc more is relaxed.
-  pub relaxed_more : arc_head arc < length e → arc_head arc < length m → {x : ℕ} → x ≡ get_or d u 0 → {f k : List ℕ} {b : Bool} → ArcRelaxed arc u x e m f k b
+  relaxed_by : arc_head arc < length e → arc_head arc < length m → {x : ℕ} → x ≡ get_or d u 0 → {f k : List ℕ} {b : Bool} → ArcRelaxed arc u x e m f k b
       → Relaxed arcs lo (i + 1) u d l f k
-  relaxed_more in_dist in_last own (kept low p q t) = rw (p, q) (relaxed_kept (rw own at low))
-  relaxed_more in_dist in_last own (lowered less p q t) = rw (p, q, own) (relaxed_lowered in_dist in_last (rw own at less))
+  relaxed_by in_dist in_last own (kept low p q t) = rw (p, q) (relaxed_kept (rw own at low))
+  relaxed_by in_dist in_last own (lowered less p q t) = rw (p, q, own) (relaxed_lowered in_dist in_last (rw own at less))
+
+  -- One arc more is relaxed.
+  pub relaxed_more : {a : ℕ} → a ≡ arc → arc_head a < length e → arc_head a < length m → {x : ℕ} → x ≡ get_or d u 0 → {f k : List ℕ} {b : Bool}
+      → ArcRelaxed a u x e m f k b → Relaxed arcs lo (i + 1) u d l f k
+  relaxed_more is in_dist in_last own r = relaxed_by (rw is at in_dist) (rw is at in_last) own (rw is at r)

@@ -1,35 +1,33 @@
--- The start of a search, vertex by vertex.
+-- The start of a search.
 -- Assumes nothing.
-use Prim.Native.Nat.{ℕ, ◌+◌, ◌<◌}
-use mathlib.Core.Path.{◌≡◌, refl, ◌∙◌}
-use mathlib.Core.List.{List}
+use Prim.Native.Nat.{ℕ, ◌<◌}
+use mathlib.Core.Path.{◌≡◌, ap, ◌∙◌}
+use mathlib.Core.List.{List, ◌++◌}
 use native.Mathlib.Omega.{arith}
-use lib.ListN.{length, get_or, set}
-use lib.Seq.{get_or-set_same, get_or-set_other}
-use Rattle.lists.specs.Put.{OnlyFirst}
-use Rattle.lists.proofs.AfterStore.{after_store}
-use Rattle.lists.proofs.OnlyFirst.{only_first_none, only_first_store}
+use lib.ListN.{length, get_or, set, take, drop, replicate, length-append, length-replicate, get_or-append, get_or-replicate}
+use lib.Seq.{get_or-set_same, get_or-set_other, length-take-le}
+use Rattle.lists.proofs.OnlyFirst.{only_first_store, only_front}
 use Rattle.distance.specs.Shortest.{unreached}
-use Rattle.distance.specs.Start.{Started}
+use Rattle.distance.specs.Start.{Startable, Started}
 
--- The vertices below v are not reached.
-pub record Starting (n v : ℕ) (dist₀ dist : List ℕ) : Type 0 where
-  pub far : (x : ℕ) → x < v → get_or dist x 0 ≡ unreached
-  pub rest : OnlyFirst n dist₀ dist
+-- The first n vertices are not reached, then the root is.
+module _ {n root : ℕ} {dist : List ℕ} (s : Startable n root dist) {first : List ℕ} (is : first ≡ replicate (length (take n dist)) unreached) where
+  count : length (take n dist) ≡ n
+  count = length-take-le n dist s.dist_room
 
-pub starting_none : {n : ℕ} {dist : List ℕ} → Starting n 0 dist dist
-starting_none {n} {dist} = record { far = λ x h. absurd (omega arith); rest = only_first_none n dist }
+  size : length first ≡ n
+  size = ap length is ∙ length-replicate (length (take n dist)) unreached ∙ count
 
-module _ {n v : ℕ} {dist₀ dist : List ℕ} (s : Starting n v dist₀ dist) where
-  pub starting_more : v < n → v < length dist → Starting n (v + 1) dist₀ (set dist v unreached)
-  starting_more h in_dist = record {
-    far = λ x l. after_store (λ j y. y ≡ unreached) dist v unreached x in_dist refl (λ away. s.far x (omega arith));
-    rest = only_first_store s.rest v unreached h;
-  }
+  far : (x : ℕ) → x < n → get_or (first ++ drop n dist) x 0 ≡ unreached
+  far x h =
+      get_or-append first (drop n dist) 0 x (omega (arith, size))
+      ∙ ap (λ (l : List ℕ). get_or l x 0) is
+      ∙ get_or-replicate (length (take n dist)) x unreached 0 (omega (arith, count))
 
-  pub starting_all : {root : ℕ} → v ≡ n → root < n → root < length dist → Started n root dist₀ (set dist root 0)
-  starting_all {root} q inside in_dist = record {
-    root_zero = get_or-set_same dist root 0 0 in_dist;
-    others = λ x h away. get_or-set_other dist root x 0 0 away ∙ s.far x (omega arith);
-    rest = only_first_store s.rest root 0 inside;
-  }
+  pub started : Started n root dist (set (first ++ drop n dist) root 0)
+  started =
+      record {
+        root_zero = get_or-set_same (first ++ drop n dist) root 0 0 (omega (arith, length-append first (drop n dist), size, s.root_inside));
+        others = λ x h away. get_or-set_other (first ++ drop n dist) root x 0 0 away ∙ far x h;
+        rest = only_first_store (only_front n first dist size s.dist_room) root 0 s.root_inside;
+      }

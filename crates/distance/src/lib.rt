@@ -14,6 +14,7 @@ ghost use Rattle.distance.specs.Shortest.{Searchable, Searched};
 
 use crate::relax::relax_arcs;
 use crate::start::start;
+use edges::around::Around;
 use waiting::last::{last_edge, vertex_before};
 use waiting::wait::{NOBODY, key_of, least_from, put_key, take_key, vertex_of};
 
@@ -22,16 +23,9 @@ pub(crate) const UNREACHED: u32 = 4294967295;
 
 // The distance of each of n vertices from the root, and the last edge of a shortest path to each that is reached, with
 // the vertex before it.
-pub fn distances_from(
-    n: usize,
-    bounds: &[u16],
-    arcs: &[u64],
-    root: usize,
-    dist: &mut [u32],
-    last: &mut [u32],
-)
-    requires { Searchable n bounds.now arcs.now root dist.old last.old }
-    ensures { Searched n bounds.now arcs.now root dist.old last.old
+pub fn distances_from(n: usize, around: Around, root: usize, dist: &mut [u32], last: &mut [u32])
+    requires { Searchable n around.bounds.now around.arcs.now root dist.old last.old }
+    ensures { Searched n around.entry.bounds.now around.entry.arcs.now root dist.old last.old
         dist.new last.new }
 {
     let mut wait = [NOBODY; 256];
@@ -42,7 +36,7 @@ pub fn distances_from(
     while least != NOBODY {
         let u = vertex_of(least);
         take_key(u, &mut wait, &mut low);
-        relax_arcs(bounds, arcs, u, dist, last, &mut wait, &mut low);
+        relax_arcs(around, u, dist, last, &mut wait, &mut low);
         least = least_from(&low, 0);
     }
 }

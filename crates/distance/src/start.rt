@@ -8,10 +8,6 @@ pub(crate) fn start(n: usize, root: usize, dist: &mut [u32])
     requires { Startable n root dist.old }
     ensures { Started n root dist.old dist.new }
 {
-    let mut v = 0;
-    while v < n {
-        dist[v] = UNREACHED;
-        v += 1;
-    }
+    dist[..n].fill(UNREACHED);
     dist[root] = 0;
 }

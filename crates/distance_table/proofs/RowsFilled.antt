@@ -1,15 +1,14 @@
 -- The rows of the distances from all roots and of their last edges, filled one root after the other.
 -- Assumes nothing.
 use Prim.Native.Nat.{ℕ, ◌+◌, ◌*◌, ◌≤◌, ◌<◌}
-use mathlib.Core.Path.{◌≡◌, refl, sym, subst, ◌∙◌}
+use mathlib.Core.Path.{◌≡◌, sym, subst, ◌∙◌}
 use mathlib.Core.List.{List, ◌++◌}
 use mathlib.Core.Option.{none}
 use native.Mathlib.Omega.{arith}
-use borrow.Author.Count.{below_none, below_more}
+use borrow.Author.Count.{below_more}
 use lib.ListN.{length, get_or, take, drop}
 use Rattle.lists.specs.Count.{below}
 use Rattle.lists.specs.Put.{Put, OnlyFirst}
-use Rattle.lists.proofs.OnlyFirst.{only_first_none}
 use Rattle.lists.proofs.Put.{put_length, only_first_length}
 use Rattle.graph.specs.Graph.{Graph, edge_count}
 use Rattle.rules.specs.Distance.{distances as distances_from}
@@ -34,17 +33,6 @@ pub record TableUnderway (n : ℕ) (bounds arcs roots : List ℕ) (j : ℕ) (dis
   pub each : (i : ℕ) → i < j → RootSearched n bounds arcs (get_or roots i 0) (row_of n distances_now i) (row_of n Lasts-now i)
 
 module _ (n : ℕ) (bounds arcs roots : List ℕ) where
-  pub table_none : (distances lasts : List ℕ) → TableUnderway n bounds arcs roots 0 distances distances lasts lasts
-  table_none distances lasts =
-      record {
-        within = omega arith;
-        table_size = refl;
-        lasts_size = refl;
-        table_only = only_first_none (0 * n) distances;
-        lasts_only = only_first_none (0 * n) lasts;
-        each = below_none _;
-      }
-
   module _ {j : ℕ} {distances distances_now lasts Lasts-now : List ℕ} (m : TableUnderway n bounds arcs roots j distances distances_now lasts Lasts-now) where
     -- One root more, whose rows were put into their places.
     row_more : {dist last distances_next lasts_next : List ℕ} → j < length roots → length dist ≡ n → length last ≡ n

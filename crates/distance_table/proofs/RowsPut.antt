@@ -2,10 +2,11 @@
 -- Assumes nothing.
 use Prim.Native.Nat.{ℕ, ◌+◌, ◌*◌, ◌-◌, ◌≤◌, ◌<◌}
 use mathlib.Core.Path.{◌≡◌, sym, ap, ◌∙◌}
-use mathlib.Core.List.{List, ◌++◌}
+use mathlib.Core.List.{List, ◌++◌, append_assoc}
 use native.Mathlib.Omega.{arith}
 use lib.ListN.{length, take, drop}
 use lib.Seq.{slice, drop-drop}
+use Rattle.std.specs.List.{copy_within}
 use Rattle.lists.specs.Put.{Put, OnlyFirst}
 use Rattle.lists.proofs.OnlyFirst.{only_first_then, only_first_put}
 use Rattle.lists.proofs.Put.{put_length}
@@ -13,7 +14,7 @@ use Rattle.lists.proofs.PutPlaces.{put_part_before}
 use Rattle.lists.proofs.PutSlice.{put_slice}
 use Rattle.lists.proofs.SegmentSizes.{slice_taken}
 use Rattle.distance_table.specs.Tabled.{row_of}
-use Rattle.distance_table.proofs.RowPlaces.{row_before, row_behind}
+use Rattle.distance_table.proofs.RowPlaces.{row_before, row_behind, row_length}
 
 -- What stood there was replaced by a list as long, as code that was lent it leaves the array.
 pub row_put : (rows row : List ℕ) (at n : ℕ) {s : ℕ} → at + n ≤ length rows → s ≡ n → length row ≡ n
@@ -21,6 +22,17 @@ pub row_put : (rows row : List ℕ) (at n : ℕ) {s : ℕ} → at + n ≤ length
 row_put rows row at n {s} fits same size =
     let behind : at + s ≡ at + length row = omega arith in
     record { room = omega arith; is = ap (λ l. take at rows ++ (row ++ l)) (drop-drop s at rows ∙ ap (λ k. drop k rows) behind) }
+
+-- A row is copied to a place further on.
+pub row_copied : (rows : List ℕ) (from to n : ℕ) → from + n ≤ to → to + n ≤ length rows → Put to (take n (drop from rows)) rows (copy_within rows from (from + n) to)
+row_copied rows from to n apart fits =
+    let row = take n (drop from rows) in
+    let count : from + n - from ≡ n = omega arith in
+    let size : length row ≡ n = row_length rows from n (omega arith) in
+    record {
+      room = omega arith;
+      is = rw count (append_assoc (take to rows) row (drop (to + n) rows) ∙ ap (λ k. take to rows ++ (row ++ drop (to + k) rows)) (sym size));
+    }
 
 -- A row is a part of the array.
 row_part : (rows : List ℕ) (i n : ℕ) → i * n + n ≤ length rows → slice (i * n) (i * n + n) rows ≡ row_of n rows i

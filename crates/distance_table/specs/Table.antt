@@ -1,6 +1,6 @@
 -- The rows of the distances from all roots, and of their last edges, filled (document 01, step 5).
 -- Assumes nothing.
-use Rattle.std.specs.Prelude.{ℕ, ◌+◌, ◌*◌, ◌≤◌, ◌<◌, ◌≡◌, List, length, get_or}
+use Rattle.std.specs.Prelude.{ℕ, ◌*◌, ◌≤◌, ◌<◌, ◌≡◌, List, length, get_or}
 use Rattle.lists.specs.Count.{below}
 use Rattle.lists.specs.Put.{OnlyFirst}
 use Rattle.graph.specs.Graph.{Graph, edge_count}
@@ -12,11 +12,6 @@ pub record FirstAt (roots : List ℕ) (j r : ℕ) : Type 0 where
   pub within : r ≤ j
   pub same : get_or roots r 0 ≡ get_or roots j 0
   pub first : (i : ℕ) → i < r → get_or roots i 0 ≡ get_or roots j 0 → ⊥
-
--- What copying n elements further on asks: those from the one place end where those from the other begin, or earlier, and these are within the array.
-pub record CopyAsked (from to n size : ℕ) : Type 0 where
-  pub apart : from + n ≤ to
-  pub room : to + n ≤ size
 
 -- What filling the table asks: arcs of n vertices, the roots among them, and room for n distances and last edges for each.
 pub record TableAsked (n : ℕ) (bounds arcs roots : List ℕ) (distances lasts : ℕ) : Type 0 where

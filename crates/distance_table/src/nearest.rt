@@ -6,6 +6,7 @@ ghost use Rattle.pieces.specs.Pieces.{tree_of};
 ghost use Rattle.distance_table.specs.Nearest.{LookGiven, NearestGiven, Nearest};
 
 use edges::index::wide;
+use graph::Graph;
 
 // The nearer of two vertices: u, unless v is nearer.
 fn nearer(dist: &[u32], u: usize, v: usize) -> usize
@@ -19,20 +20,18 @@ fn nearer(dist: &[u32], u: usize, v: usize) -> usize
 }
 
 // A vertex of the part with this start and these edges that is nearest: the start, unless an end of an edge is nearer.
-pub fn nearest_vertex(b: &[u8], dist: &[u32], start: usize, edges: &[u16], classes: &[u8]) -> usize
-    requires { NearestGiven (graph_of b.now classes.now) dist.now start }
-    ensures { Nearest (graph_of b.now classes.now) dist.now (tree_of start
+pub fn nearest_vertex(g: &Graph, dist: &[u32], start: usize, edges: &[u16]) -> usize
+    requires { NearestGiven g.now dist.now start }
+    ensures { Nearest g.now dist.now (tree_of start
         edges.now) result }
 {
     let mut v = start;
-    let mut i = 0;
-    while i < edges.len() {
-        let e = wide(edges[i]);
-        let one = graph::one_end(b, e, classes);
-        let other = graph::other_end(b, e, classes);
+    for edge in edges {
+        let e = wide(*edge);
+        let one = g.one_end(e);
+        let other = g.other_end(e);
         v = nearer(dist, v, one);
         v = nearer(dist, v, other);
-        i += 1;
     }
     v
 }

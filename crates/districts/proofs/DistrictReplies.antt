@@ -5,13 +5,12 @@ use mathlib.Core.Path.{◌≡◌, sym, subst}
 use mathlib.Core.Bool.{Bool, true, false}
 use mathlib.Core.List.{List, [], ◌∷◌}
 use lib.ListN.{length}
+use Rattle.std.proofs.Common.{Result, Ok, Err}
 use Rattle.lists.specs.Put.{PutTo}
 use Rattle.graph.specs.Bytes.{graph_of}
 use Rattle.rules.specs.Questions.{Question, graph_in}
 use Rattle.admit.specs.declared.refusal.Refusal.{Refusal}
 use Rattle.admit.specs.Refusals.{number_of}
-use Rattle.filed.specs.declared.check.Verdict.{Verdict}
-use Rattle.filed.specs.declared.check.Verdict.TheVariants.{Yes, Refused}
 use Rattle.filed.specs.Promise.{says}
 use Rattle.replies.specs.declared.Reply.{Reply}
 use Rattle.reply_text.specs.Lines.{line}
@@ -34,11 +33,11 @@ district_fits true a w = text_fits a w.text
 district_fits false {reply = reply} a w = fixed_fits reply a w.text
 
 -- The check's answer: yes, or a number.
-module _ (v : Verdict) {before after : List ℕ} {r : ℕ} where
-  pub yes_put : {heaviest : ℕ} → v ≡ Yes heaviest → PutTo 0 (line "yes" (heaviest ∷ [])) before after r → PutTo 0 (verdict_text (says v)) before after r
+module _ (v : Result ℕ Refusal) {before after : List ℕ} {r : ℕ} where
+  pub yes_put : {heaviest : ℕ} → v ≡ Ok heaviest → PutTo 0 (line "yes" (heaviest ∷ [])) before after r → PutTo 0 (verdict_text (says v)) before after r
   unfolding verdict_text
   yes_put q p = subst (λ x. PutTo 0 (verdict_text (says x)) before after r) (sym q) p
 
-  pub number_put : {f : Refusal} → v ≡ Refused f → RefusalWritten (number_of f) before after r → PutTo 0 (verdict_text (says v)) before after r
+  pub number_put : {f : Refusal} → v ≡ Err f → RefusalWritten (number_of f) before after r → PutTo 0 (verdict_text (says v)) before after r
   unfolding verdict_text text_of
   number_put q p = subst (λ x. PutTo 0 (verdict_text (says x)) before after r) (sym q) (p.text (graph_of [] []))

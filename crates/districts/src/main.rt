@@ -14,11 +14,10 @@ mod text;
 
 ghost use Rattle.std.specs.Prelude.{◌^◌, ◌≤◌, ◌<◌, length};
 ghost use Rattle.rules.specs.Questions.{graph_in};
-ghost use Rattle.admit.specs.Crews.{asks_with};
 ghost use Rattle.reply_text.specs.Replies.{TextAsked};
 
-use admit::brought::Lists;
 use admit::crews::Kind;
+use admit::question::Question;
 use admit::refusal::MOST_TRIALS;
 use asking::ask::Asked;
 use gate_replies::full::{filled, room, write_full};
@@ -28,24 +27,11 @@ use std::io::Print;
 use text::{write_known, write_text, write_verdict};
 
 // Prints a reply: all of it, or what the rules fix.
-fn print_reply(
-    rt: &HostRuntime,
-    whole: bool,
-    kind: Kind,
-    k: usize,
-    b: &[u8],
-    reply: Reply,
-    buf: &[u8],
-    lists: Lists,
-    classes: &[u8],
-    vans: &[u8],
-)
-    requires { TextAsked (graph_in (asks_with kind k b.now lists classes.now vans.now)) reply buf.now 65536 }
+fn print_reply(rt: &HostRuntime, whole: bool, question: &Question, reply: Reply, buf: &[u8])
+    requires { TextAsked (graph_in question.now) reply buf.now 65536 }
 {
     let mut out = room();
-    let end = write_text(
-        whole, kind, k, b, reply, buf, &mut out, lists, classes, vans,
-    );
+    let end = write_text(whole, question, reply, buf, &mut out);
     let _ = rt.stdout().write_all(&out[..end]);
 }
 
@@ -66,20 +52,10 @@ fn print_known(rt: &HostRuntime, known: Known) {
 }
 
 // What the planner tells of a trial, or of the search for the best limit. Its reply can be printed.
-fn told_to(
-    asked: Asked,
-    kind: Kind,
-    k: usize,
-    b: &[u8],
-    buf: &mut [u8],
-    lists: Lists,
-    classes: &[u8],
-    vans: &[u8],
-) -> Told
-    ensures { TextAsked (graph_in (asks_with kind k b.now lists classes.now vans.now)) result.reply
-        buf.new 65536 }
+fn told_to(asked: Asked, question: &Question, buf: &mut [u8]) -> Told
+    ensures { TextAsked (graph_in question.now) result.reply buf.new 65536 }
 {
-    planner::question::ask(asked, kind, k, b, buf, lists, classes, vans)
+    planner::question::ask(asked, question, buf)
 }
 
 // Asks the planner, and prints and files the reply; prints what is known besides, where that is asked for.
@@ -88,19 +64,14 @@ fn answer(
     asked: Asked,
     besides: bool,
     whole: bool,
-    kind: Kind,
-    k: usize,
-    b: &[u8],
+    question: &Question,
     buf: &mut [u8],
-    lists: Lists,
-    classes: &[u8],
-    vans: &[u8],
 )
     requires { length buf.old ≤ 65536 }
 {
-    let told = told_to(asked, kind, k, b, buf, lists, classes, vans);
+    let told = told_to(asked, question, buf);
     let reply = told.reply;
-    print_reply(rt, whole, kind, k, b, reply, buf, lists, classes, vans);
+    print_reply(rt, whole, question, reply, buf);
     file_reply(rt, reply, buf);
     if besides {
         let known = told.known;
@@ -109,89 +80,47 @@ fn answer(
 }
 
 // Has the planner asked with a filled buffer of the length that the record names.
-fn ask(
-    rt: &HostRuntime,
-    asked: Asked,
-    besides: bool,
-    whole: bool,
-    lent: usize,
-    kind: Kind,
-    k: usize,
-    b: &[u8],
-    lists: Lists,
-    classes: &[u8],
-    vans: &[u8],
-)
+fn ask(rt: &HostRuntime, asked: Asked, besides: bool, whole: bool, lent: usize, question: &Question)
     requires { lent < 2 ^ 16 }
 {
     let mut buf = filled();
-    answer(
-        rt,
-        asked,
-        besides,
-        whole,
-        kind,
-        k,
-        b,
-        &mut buf[..lent],
-        lists,
-        classes,
-        vans,
-    );
+    answer(rt, asked, besides, whole, question, &mut buf[..lent]);
 }
 
 // Asks the check, and prints its answer.
-fn check(
-    rt: &HostRuntime,
-    kind: Kind,
-    k: usize,
-    b: &[u8],
-    filed: &[u8],
-    lists: Lists,
-    classes: &[u8],
-    vans: &[u8],
-) {
+fn check(rt: &HostRuntime, question: &Question, filed: &[u8]) {
     let mut out = room();
-    let verdict = filed::check::check(kind, k, b, filed, lists, classes, vans);
+    let verdict = filed::check::check(question, filed);
     let end = write_verdict(verdict, &mut out);
     let _ = rt.stdout().write_all(&out[..end]);
 }
 
-// Answers a record by its question.
+// Answers a record by what it asks.
 fn answer_record(
     rt: &HostRuntime,
-    question: usize,
-    k: usize,
+    asked: usize,
     limit: u64,
     lent: usize,
     whole: bool,
-    b: &[u8],
+    question: &Question,
     filed: &[u8],
-    lists: Lists,
-    classes: &[u8],
-    vans: &[u8],
 )
-    requires { (lent < 2 ^ 16) × (question < 2 ^ 16) }
+    requires { (lent < 2 ^ 16) × (asked < 2 ^ 16) }
 {
-    let kind = kind_of(question);
     let at = Asked::At(limit);
     let best = Asked::Within(MOST_TRIALS);
     let within = Asked::Within(limit as usize);
-    match (question + 1) / 2 {
-        1 => ask(rt, at, false, whole, lent, kind, k, b, lists, classes, vans),
-        2 => ask(
-            rt, best, false, whole, lent, kind, k, b, lists, classes, vans,
-        ),
-        3 => check(rt, kind, k, b, filed, lists, classes, vans),
-        _ => ask(
-            rt, within, true, whole, lent, kind, k, b, lists, classes, vans,
-        ),
+    match (asked + 1) / 2 {
+        1 => ask(rt, at, false, whole, lent, question),
+        2 => ask(rt, best, false, whole, lent, question),
+        3 => check(rt, question, filed),
+        _ => ask(rt, within, true, whole, lent, question),
     }
 }
 
 // The kind of a question by its number: odd ones are rooted.
-fn kind_of(question: usize) -> Kind {
-    match question % 2 {
+fn kind_of(asked: usize) -> Kind {
+    match asked % 2 {
         1 => Kind::Rooted,
         _ => Kind::Unrooted,
     }
@@ -212,12 +141,19 @@ fn read_bytes(
     let _ = read_full(&mut stdin, vans);
 }
 
-// The lists that a number names.
-fn lists_of(brought: usize) -> Lists {
-    Lists {
-        classes: brought % 2 == 1,
-        vans: brought / 2 % 2 == 1,
-    }
+// The question of a record, of which the head names the lists that are brought.
+fn question_of<'a>(
+    head: &[u8],
+    sheet: &'a [u8],
+    classes: &'a [u8],
+    vans: &'a [u8],
+) -> Question<'a> {
+    let kind = kind_of(graph::u16_at(head, 0));
+    let brought = graph::u16_at(head, 16);
+    let plain = Question::new(kind, graph::u16_at(head, 2), sheet);
+    let surfaces = (brought % 2 == 1).then_some(classes);
+    let starts = (brought / 2 % 2 == 1).then_some(vans);
+    plain.with_lists(surfaces, starts)
 }
 
 // Reads the rest of a record, of which the head was read, and answers it.
@@ -230,18 +166,15 @@ fn read_rest(
     vans: &mut [u8],
 ) {
     read_bytes(rt, sheet, filed, classes, vans);
+    let question = question_of(head, sheet, classes, vans);
     answer_record(
         rt,
         graph::u16_at(head, 0),
-        graph::u16_at(head, 2),
         graph::u32_at(head, 4),
         graph::u16_at(head, 8),
         graph::u16_at(head, 10) == 1,
-        sheet,
+        &question,
         filed,
-        lists_of(graph::u16_at(head, 16)),
-        classes,
-        vans,
     );
 }
 

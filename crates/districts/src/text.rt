@@ -2,14 +2,12 @@
 ghost use Rattle.std.specs.Prelude.{◌≤◌, length};
 ghost use Rattle.lists.specs.Put.{PutTo};
 ghost use Rattle.rules.specs.Questions.{graph_in};
-ghost use Rattle.admit.specs.Crews.{asks_with};
 ghost use Rattle.filed.specs.Promise.{says};
 ghost use Rattle.reply_text.specs.Replies.{TextAsked};
 ghost use Rattle.districts.specs.Text.{DistrictWritten, known_text, verdict_text};
 
-use admit::brought::{Lists, read_list};
-use admit::crews::Kind;
-use filed::check::Verdict;
+use admit::question::Question;
+use admit::refusal::Refusal;
 use gate_replies::fixed::write_fixed;
 use replies::{Reply, bit};
 use reply_text::lines::{put_last, put_line, put_spaced, put_word};
@@ -18,24 +16,18 @@ use reply_text::reply::{write_refused, write_reply};
 // The whole text of a reply, or what the rules fix of it, as the first bytes of `out`. Says how many.
 pub(crate) fn write_text(
     whole: bool,
-    kind: Kind,
-    k: usize,
-    b: &[u8],
+    question: &Question,
     reply: Reply,
     buf: &[u8],
     out: &mut [u8],
-    lists: Lists,
-    classes: &[u8],
-    vans: &[u8],
 ) -> usize
-    requires { TextAsked (graph_in (asks_with kind k b.now lists classes.now vans.now)) reply buf.now (length out.old) }
-    ensures { DistrictWritten whole (asks_with kind k b.now lists classes.now vans.now) reply
-        buf.now out.old out.new result }
+    requires { TextAsked (graph_in question.now) reply buf.now (length out.old) }
+    ensures { DistrictWritten whole question.now reply buf.now out.old out.new result }
 {
     if whole {
-        return write_reply(b, reply, buf, out, read_list(lists.classes, classes));
+        return write_reply(&question.graph(), reply, buf, out);
     }
-    write_fixed(kind, k, b, reply, buf, out, lists, classes, vans)
+    write_fixed(question, reply, buf, out)
 }
 
 // `known` trials floor, and 1 where they are spent, 0 where not, as the first bytes of `out`. Says how many.
@@ -50,16 +42,12 @@ pub(crate) fn write_known(trials: u64, floor: u64, spent: bool, out: &mut [u8]) 
 }
 
 // The check's answer, as the first bytes of `out`. Says how many.
-pub(crate) fn write_verdict(verdict: Verdict, out: &mut [u8]) -> usize
+pub(crate) fn write_verdict(verdict: Result<u64, Refusal>, out: &mut [u8]) -> usize
     requires { 29 ≤ length out.old }
     ensures { PutTo 0 (verdict_text (says verdict)) out.old out.new result }
 {
     match verdict {
-        Verdict::Yes(heaviest) => {
-            return put_line(b"yes", heaviest, out, 0);
-        }
-        Verdict::Refused(f) => {
-            return write_refused(admit::refusal::number(f) as u64, out);
-        }
+        Ok(heaviest) => put_line(b"yes", heaviest, out, 0),
+        Err(f) => write_refused(admit::refusal::number(f) as u64, out),
     }
 }

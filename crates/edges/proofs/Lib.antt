@@ -7,6 +7,8 @@ pub mod EdgeMarks
 pub mod SweptEdges
 -- what an arc holds is read from it again
 pub mod Arcs
+-- a loop over a list from its end
+pub mod Backwards
 -- the arcs of edges as items
 pub mod ArcItems
 -- buckets filled with them hold the edges around each vertex

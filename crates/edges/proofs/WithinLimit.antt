@@ -1,12 +1,14 @@
--- The edges within a limit: of edges that stand by weight they are the first, and halving finds how many they are.
+-- The edges within a limit: of edges that stand by weight they are the first, so that the place where they end is how many they are.
 -- Assumes nothing.
-use Prim.Native.Nat.{ℕ, ◌+◌, ◌≤◌, ◌<◌}
-use mathlib.Core.Path.{sym}
+use Prim.Native.Nat.{ℕ, ◌≤◌, ◌<◌}
+use mathlib.Core.Path.{◌≡◌, sym}
+use mathlib.Core.Bool.{true, false}
 use mathlib.Core.List.{List}
 use native.Mathlib.Omega.{arith}
 use lib.ListN.{length, get_or}
 use lib.Dec.{leb}
-use borrow.Author.Tests.{le-leb, lt-leb}
+use Rattle.std.specs.List.Sorted.{IsPartitionedBy, IsPartitionPoint}
+use Rattle.std.proofs.lemmas.List.Sorted.{IsNonDecreasingBy-from_default, IsPartitionedBy-leb}
 use Rattle.lists.proofs.AfterStore.{at_or_not}
 use Rattle.lists.proofs.FilteredFront.{filter_front}
 use Rattle.lists.proofs.Places.{places_in_order}
@@ -14,49 +16,22 @@ use Rattle.graph.specs.Graph.{Graph, weight_of}
 use Rattle.rules.specs.Order.{ByWeight}
 use Rattle.edges.specs.Light.{LightFront}
 
--- The edges before low are within the limit, and those from high on are not.
-pub record Halving (g : Graph) (limit : ℕ) (edges : List ℕ) (low high : ℕ) : Type 0 where
-  pub between : low ≤ high
-  pub inside : high ≤ length edges
-  pub light : (i : ℕ) → i < low → weight_of g (get_or edges i 0) ≤ limit
-  pub heavy : (i : ℕ) → high ≤ i → i < length edges → limit < weight_of g (get_or edges i 0)
+module _ (g : Graph) (limit : ℕ) (edges : List ℕ) where
+  -- No edge within the limit stands behind one that is not,
+  pub light_before_heavy : ByWeight g edges → IsPartitionedBy (λ e. leb (weight_of g e) limit) edges
+  light_before_heavy sorted = IsPartitionedBy-leb (weight_of g) edges limit (IsNonDecreasingBy-from_default (weight_of g) edges 0 no_heavier)
+    where
+      -- an edge weighs no more than the same or a later one
+      no_heavier : (i j : ℕ) → i ≤ j → j < length edges → weight_of g (get_or edges i 0) ≤ weight_of g (get_or edges j 0)
+      no_heavier i j h l =
+          at_or_not (λ k. weight_of g (get_or edges k 0) ≤ weight_of g (get_or edges j 0)) j i (omega arith)
+          (λ away. places_in_order 0 sorted i j (omega arith) l)
 
-module _ (g : Graph) {edges : List ℕ} (sorted : ByWeight g edges) where
-  -- an edge weighs no more than the same or a later one
-  no_heavier : (i j : ℕ) → i ≤ j → j < length edges → weight_of g (get_or edges i 0) ≤ weight_of g (get_or edges j 0)
-  no_heavier i j h l =
-      at_or_not (λ k. weight_of g (get_or edges k 0) ≤ weight_of g (get_or edges j 0)) j i (omega arith)
-      (λ away. places_in_order 0 sorted i j (omega arith) l)
-
-  pub halving_all : (limit : ℕ) → Halving g limit edges 0 (length edges)
-  halving_all limit =
-      record { between = omega arith; inside = omega arith; light = λ i h. absurd (omega arith); heavy = λ i h l. absurd (omega arith) }
-
-  module _ {limit low high : ℕ} (c : Halving g limit edges low high) (middle : ℕ) where
-    pub halving_light : low ≤ middle → middle < high → weight_of g (get_or edges middle 0) ≤ limit → Halving g limit edges (middle + 1) high
-    halving_light from to within =
-        record {
-          between = omega arith;
-          inside = c.inside;
-          light = λ i h. omega (arith, no_heavier i middle (omega arith) (omega (arith, c.inside)));
-          heavy = c.heavy;
-        }
-
-    pub halving_heavy : low ≤ middle → middle < high → limit < weight_of g (get_or edges middle 0) → Halving g limit edges low middle
-    halving_heavy from to past =
-        record {
-          between = from;
-          inside = omega (arith, c.inside);
-          light = c.light;
-          heavy = λ i h l. omega (arith, no_heavier middle i h l);
-        }
-
--- Where nothing is left between the two, the edges before low are those within the limit.
-pub halving_none : {g : Graph} {limit : ℕ} {edges : List ℕ} {low high : ℕ} → Halving g limit edges low high → high ≤ low → LightFront g limit edges low
-halving_none {g} {limit} {edges} {low} c h =
-    record {
-      few = omega (arith, c.between, c.inside);
-      front =
-          sym (filter_front 0 (λ e. leb (weight_of g e) limit) edges low (λ i l. le-leb (weight_of g (get_or edges i 0)) limit (c.light i l))
-          (λ i l w. lt-leb (weight_of g (get_or edges i 0)) limit (c.heavy i (omega arith) w)));
-    }
+  -- and where those within the limit end, they are all that are.
+  pub light_front : {r : ℕ} → r ≤ length edges → IsPartitionPoint (λ e. leb (weight_of g e) limit ≡ true) (λ e. leb (weight_of g e) limit ≡ false) edges r
+      → LightFront g limit edges r
+  light_front {r} few (light, heavy) =
+      record {
+        few = few;
+        front = sym (filter_front 0 (λ e. leb (weight_of g e) limit) edges r (λ i h. light i 0 (omega arith) h) (λ i h l. heavy i 0 h l));
+      }

@@ -3,6 +3,8 @@ ghost use Rattle.std.specs.Prelude.{◌^◌};
 ghost use Rattle.graph.specs.Graph.{weight_of};
 ghost use Rattle.graph.specs.Bytes.{graph_of, Reads};
 
+use graph::Graph;
+
 // An element as an index.
 pub fn wide(x: u16) -> usize
     ensures { Reads x (2 ^ 16) result }
@@ -11,8 +13,8 @@ pub fn wide(x: u16) -> usize
 }
 
 // The weight of an edge; 0 past the last edge.
-pub fn weight_of(b: &[u8], e: u16, classes: &[u8]) -> u64
-    ensures { Reads (weight_of (graph_of b.now classes.now) e) (2 ^ 33) result }
+pub fn weight_of(g: &Graph, e: u16) -> u64
+    ensures { Reads (weight_of g.now e) (2 ^ 33) result }
 {
-    graph::weight(b, wide(e), classes)
+    g.weight(wide(e))
 }

@@ -8,6 +8,7 @@ use mathlib.Core.Option.{some, none}
 use native.Mathlib.Omega.{arith}
 use lib.ListN.{length}
 use borrow.Author.Tests.{le-leb, lt-leb, eq-eqb, ne_eqb}
+use Rattle.std.proofs.Common.{Result, Ok, Err}
 use Rattle.graph.specs.Graph.{Graph, edge_count}
 use Rattle.graph.proofs.Faults.{one_fault}
 use Rattle.graph.specs.Fault.{fault_unless, first_fault, refused_or}
@@ -18,8 +19,7 @@ use Rattle.rules.specs.Reply as reply
 use Rattle.rules.specs.Questions.{Question, graph_in, crews_in, question_fault, check_fault, ask_check}
 use Rattle.rules.proofs.Fields.{Bytes}
 use Rattle.cover_laws.proofs.CheckQuestion.{yes_exactly_covers}
-use Rattle.filed.specs.declared.check.Verdict.{Verdict}
-use Rattle.filed.specs.declared.check.Verdict.TheVariants as verdict
+use Rattle.admit.specs.declared.refusal.Refusal.{Refusal}
 use Rattle.filed.specs.Promise.{says, answer, trees_fault, CheckPromise}
 
 -- The cover's bytes, for a graph and crews.
@@ -93,12 +93,12 @@ not_number : {h k : ℕ} → reply.yes h ≡ reply.number k → ⊥
 not_number q = let z : ◌≡◌ {A = ℕ} 0 1 = cc in omega arith
 
 -- Only one answer says yes.
-says_yes : (r : Verdict) (h : ℕ) → says r ≡ reply.yes h → r ≡ verdict.Yes h
-says_yes (verdict.Yes k) h q = cc
-says_yes (verdict.Refused f) h q = absurd (not_number (sym q))
+says_yes : (r : Result ℕ Refusal) (h : ℕ) → says r ≡ reply.yes h → r ≡ Ok h
+says_yes (Ok k) h q = cc
+says_yes (Err f) h q = absurd (not_number (sym q))
 
 -- An answer by the rules is yes exactly to covers.
-pub promised : (q : Question) (c : List ℕ) (r : Verdict) → Bytes c → says r ≡ ask_check q c → CheckPromise q c r
+pub promised : (q : Question) (c : List ℕ) (r : Result ℕ Refusal) → Bytes c → says r ≡ ask_check q c → CheckPromise q c r
 promised q c r bytes e =
     let exactly = yes_exactly_covers q c bytes in
     record {

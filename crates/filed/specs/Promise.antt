@@ -1,6 +1,6 @@
 -- What the check of a filed cover promises on every input.
 -- Assumes nothing.
-use Rattle.std.specs.Prelude.{ℕ, ◌≡◌, ◌↔◌, List, [], ◌∷◌}
+use Rattle.std.specs.Prelude.{ℕ, ◌≡◌, ◌↔◌, List, [], ◌∷◌, Result, Ok, Err}
 use Rattle.graph.specs.Graph.{Graph}
 use Rattle.graph.specs.Fault.{Fault, fault_unless, first_fault, refused_or}
 use Rattle.rules.specs.Cover as cover
@@ -9,14 +9,13 @@ use Rattle.rules.specs.CheckCover.{trees_right, vertices_covered}
 use Rattle.rules.specs.Reply as reply
 use Rattle.rules.specs.Questions.{Question, ask_check}
 use Rattle.rules.specs.Filed.{Filed}
+use Rattle.admit.specs.declared.refusal.Refusal.{Refusal}
 use Rattle.admit.specs.Refusals.{number_of}
-use Rattle.filed.specs.declared.check.Verdict.{Verdict}
-use Rattle.filed.specs.declared.check.Verdict.TheVariants.{Yes, Refused}
 
 -- Document 01's value or number of each answer.
-abbrev pub says : Verdict → reply.Verdict
-says (Yes h) = reply.yes h
-says (Refused f) = reply.number (number_of f)
+abbrev pub says : Result ℕ Refusal → reply.Verdict
+says (Ok h) = reply.yes h
+says (Err f) = reply.number (number_of f)
 
 -- The number of a verdict, 0 where it is yes.
 abbrev pub number_or0 : reply.Verdict → ℕ
@@ -34,6 +33,6 @@ trees_fault g c =
     first_fault (fault_unless (trees_right g trees) 34 ∷ fault_unless (vertices_covered g trees) 35 ∷ [])
 
 -- The answer is that of document 01's rules, and it is yes exactly where the bytes are those of a cover by the crews, with its heaviest weight.
-pub record CheckPromise (q : Question) (c : List ℕ) (r : Verdict) : Type 0 where
+pub record CheckPromise (q : Question) (c : List ℕ) (r : Result ℕ Refusal) : Type 0 where
   pub rule : says r ≡ ask_check q c
-  pub exactly : (h : ℕ) → (r ≡ Yes h) ↔ Filed q c h
+  pub exactly : (h : ℕ) → (r ≡ Ok h) ↔ Filed q c h

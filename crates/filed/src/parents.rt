@@ -4,6 +4,8 @@ ghost use Rattle.std.specs.Prelude.{◌≡◌, ◌<◌, length, get_or};
 ghost use Rattle.graph.specs.Bytes.{graph_of, Reads};
 ghost use Rattle.filed.specs.Parents.{AllStand, Parents, Found, Joinable, EndsJoined};
 
+use graph::Graph;
+
 // The parent of v.
 fn parent(parents: &[u8], v: usize) -> usize
     requires { v < length parents.now }
@@ -17,10 +19,8 @@ pub fn set_apart(parents: &mut [u8])
     requires { length parents.old ≡ 256 }
     ensures { AllStand parents.new }
 {
-    let mut v = 0;
-    while v < 256 {
-        parents[v] = v as u8;
-        v += 1;
+    for (v, up) in parents.iter_mut().enumerate() {
+        *up = v as u8;
     }
 }
 
@@ -42,13 +42,13 @@ pub fn stands_for(parents: &mut [u8], v: usize) -> usize
 
 // Joins the ends of edge e, and says whether they were not yet joined: the higher of the two that stand for them takes
 // the lower for its parent.
-pub fn join_ends(b: &[u8], e: usize, parents: &mut [u8], classes: &[u8]) -> bool
-    requires { Joinable (graph_of b.now classes.now) parents.old }
-    ensures { EndsJoined (graph_of b.now classes.now) e parents.old
+pub fn join_ends(g: &Graph, e: usize, parents: &mut [u8]) -> bool
+    requires { Joinable g.now parents.old }
+    ensures { EndsJoined g.now e parents.old
         parents.new result }
 {
-    let u = stands_for(parents, graph::one_end(b, e, classes));
-    let v = stands_for(parents, graph::other_end(b, e, classes));
+    let u = stands_for(parents, g.one_end(e));
+    let v = stands_for(parents, g.other_end(e));
     if u == v {
         return false;
     }

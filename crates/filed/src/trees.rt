@@ -10,70 +10,44 @@ ghost use Rattle.filed.specs.Trees.{RunTaken, RunJoined, TreeGiven, TreeTold, Tr
 use crate::parents::{join_ends, set_apart, stands_for};
 use cover::read::{entry_edge, start_in, trees_in};
 use cover::runs::run_end;
+use graph::Graph;
 
 // Joins the ends of the edges of a run of entries, one edge after the other, as long as they are not yet joined. Says
 // whether none were.
-fn run_loop_free(
-    b: &[u8],
-    c: &[u8],
-    from: usize,
-    to: usize,
-    parents: &mut [u8],
-    classes: &[u8],
-) -> bool
-    requires { (from ≤ to) × Joinable (graph_of b.now classes.now) parents.old }
-    ensures { RunTaken (graph_of b.now classes.now) c.now from to
+fn run_loop_free(g: &Graph, c: &[u8], from: usize, to: usize, parents: &mut [u8]) -> bool
+    requires { (from ≤ to) × Joinable g.now parents.old }
+    ensures { RunTaken g.now c.now from to
         parents.old parents.new result }
 {
-    let mut i = from;
-    while i < to {
-        if !join_ends(b, entry_edge(c, i), parents, classes) {
+    for i in from..to {
+        if !join_ends(g, entry_edge(c, i), parents) {
             return false;
         }
-        i += 1;
     }
     true
 }
 
 // Says whether each edge of a run of entries is joined to the start.
-fn run_joined(
-    b: &[u8],
-    c: &[u8],
-    from: usize,
-    to: usize,
-    start: usize,
-    parents: &mut [u8],
-    classes: &[u8],
-) -> bool
-    requires { (start < (graph_of b.now classes.now).vertices) × Joinable (graph_of b.now classes.now)
+fn run_joined(g: &Graph, c: &[u8], from: usize, to: usize, start: usize, parents: &mut [u8]) -> bool
+    requires { (start < g.now.vertices) × Joinable g.now
         parents.old }
-    ensures { RunJoined (graph_of b.now classes.now) c.now from to start
+    ensures { RunJoined g.now c.now from to start
         parents.old parents.new result }
 {
     let home = stands_for(parents, start);
-    let mut i = from;
-    while i < to {
-        let u = graph::one_end(b, entry_edge(c, i), classes);
+    for i in from..to {
+        let u = g.one_end(entry_edge(c, i));
         if stands_for(parents, u) != home {
             return false;
         }
-        i += 1;
     }
     true
 }
 
 // Says whether tree j, whose entries are the run, has no loop and no edge that is not joined to its start.
-fn tree_right(
-    b: &[u8],
-    c: &[u8],
-    j: usize,
-    from: usize,
-    to: usize,
-    parents: &mut [u8],
-    classes: &[u8],
-) -> bool
-    requires { TreeGiven (graph_of b.now classes.now) c.now j from to parents.old }
-    ensures { TreeTold (graph_of b.now classes.now) (record {
+fn tree_right(g: &Graph, c: &[u8], j: usize, from: usize, to: usize, parents: &mut [u8]) -> bool
+    requires { TreeGiven g.now c.now j from to parents.old }
+    ensures { TreeTold g.now (record {
       start = start_in c.now j;
       edges = run_edges
           c.now from to;
@@ -81,28 +55,26 @@ fn tree_right(
         parents.old parents.new result }
 {
     set_apart(parents);
-    if !run_loop_free(b, c, from, to, parents, classes) {
+    if !run_loop_free(g, c, from, to, parents) {
         return false;
     }
-    run_joined(b, c, from, to, start_in(c, j), parents, classes)
+    run_joined(g, c, from, to, start_in(c, j), parents)
 }
 
 // Says whether every tree is so. The parents are scratch.
-pub fn trees_right(b: &[u8], c: &[u8], parents: &mut [u8], classes: &[u8]) -> bool
-    requires { TreesGiven (graph_of b.now classes.now) c.now parents.old }
-    ensures { TreesTold (graph_of b.now classes.now) (decode c.now)
+pub fn trees_right(g: &Graph, c: &[u8], parents: &mut [u8]) -> bool
+    requires { TreesGiven g.now c.now parents.old }
+    ensures { TreesTold g.now (decode c.now)
         parents.old parents.new result }
 {
     let t = trees_in(c);
     let mut from = 0;
-    let mut j = 0;
-    while j < t {
+    for j in 0..t {
         let to = run_end(c, j, from);
-        if !tree_right(b, c, j, from, to, parents, classes) {
+        if !tree_right(g, c, j, from, to, parents) {
             return false;
         }
         from = to;
-        j += 1;
     }
     true
 }

@@ -7,9 +7,8 @@ use mathlib.Core.List.{List}
 use native.Mathlib.Omega.{arith}
 use lib.Dec.{eqb, ltb}
 use borrow.Author.Tests.{lt-ltb, le-ltb, eq-eqb, ne_eqb}
-use Rattle.lists.proofs.AllBelow.{all_below, not_below}
-use Rattle.rules.specs.CoverBytes.{trees_in, entries_in, entry_tree, entry_edge}
-use Rattle.rules.specs.CheckCover.{entry_rises, entry_right, entries_right}
+use Rattle.rules.specs.CoverBytes.{trees_in, entry_tree, entry_edge}
+use Rattle.rules.specs.CheckCover.{entry_rises, entry_right}
 
 module _ (b : List ℕ) (i : ℕ) where
   pub first_rises : i ≡ 0 → entry_rises b i ≡ true
@@ -43,13 +42,3 @@ module _ (b : List ℕ) (i : ℕ) where
       pub rise_decides : entry_edge b i < m → entry_right m b i ≡ entry_rises b i
       unfolding entry_right
       rise_decides h = rw (lt-ltb (entry_tree b i) (trees_in b) named, lt-ltb (entry_edge b i) m h)
-
--- All entries: one that is not right, or each right.
-module _ (b : List ℕ) (m : ℕ) where
-  pub entry_wrong : (i : ℕ) → i < entries_in b → entry_right m b i ≡ false → entries_right m b ≡ false
-  unfolding entries_right
-  entry_wrong i h q = not_below (entry_right m b) (entries_in b) i h q
-
-  pub all_entries : ((i : ℕ) → i < entries_in b → entry_right m b i ≡ true) → entries_right m b ≡ true
-  unfolding entries_right
-  all_entries h = all_below (entry_right m b) (entries_in b) h

@@ -1,6 +1,6 @@
 -- Marks of the vertices, set one after the other: the starts of the trees, and the ends of the entries' edges.
 -- Assumes nothing.
-use Prim.Native.Nat.{ℕ, ◌+◌, ◌≤◌, ◌<◌}
+use Prim.Native.Nat.{ℕ, ◌+◌, ◌<◌}
 use mathlib.Core.Path.{◌≡◌, refl, sym, ap₂, subst, ◌∙◌}
 use mathlib.Core.Bool.{Bool, true}
 use mathlib.Core.List.{List}
@@ -9,7 +9,7 @@ use native.Mathlib.Omega.{arith}
 use lib.ListN.{length, get_or, set, length-set}
 use lib.Seq.{get_or-set_same, get_or-set_other}
 use lib.Dec.{eqb}
-use borrow.Author.Count.{below_none, below_more}
+use borrow.Author.Count.{below_more}
 use borrow.Author.Tests.{eq-eqb}
 use Rattle.lists.specs.Count.{below}
 use Rattle.lists.specs.Lists.{filter}
@@ -87,9 +87,6 @@ module _ (g : Graph) (c : List ℕ) where
         (tree_in c (entry_tree c i), in_map (tree_in c) (in_below (trees_in c) named), at_other_end (entry_edge c i) (entry_in_tree i h) refl)
 
 -- Starts, one after the other.
-pub starts_none : (c before : List ℕ) → StartsMarked c 0 before before
-starts_none c before = record { starts = below_none _; only = λ g only. only; rest = λ v n. refl }
-
 module _ {c : List ℕ} {j : ℕ} {before after : List ℕ} (s : StartsMarked c j before after) where
   pub starts_more : length after ≡ length before → j < trees_in c → start_in c j < length before → StartsMarked c (j + 1) before (set after (start_in c j) 1)
   starts_more long h l =
@@ -101,13 +98,7 @@ module _ {c : List ℕ} {j : ℕ} {before after : List ℕ} (s : StartsMarked c 
         rest = λ v n. mark_rest after x inside v n ∙ s.rest v (λ p. n (mark_kept after x inside v p));
       }
 
-  pub starts_all : trees_in c ≤ j → StartsMarked c (trees_in c) before after
-  starts_all h = record { starts = λ k l. s.starts k (omega arith); only = s.only; rest = s.rest }
-
 -- Ends, entry by entry.
-pub ends_none : (g : Graph) (c before : List ℕ) → EndsMarked g c 0 before before
-ends_none g c before = record { ends = below_none _; only = λ n only. only; kept = λ v p. p; rest = λ v n. refl }
-
 module _ {g : Graph} {c : List ℕ} {i : ℕ} {before after : List ℕ} (s : EndsMarked g c i before after) where
   ends_more : length after ≡ length before → i < entries_in c → one_end g (entry_edge c i) < length before → other_end g (entry_edge c i) < length before
       → EndsMarked g c (i + 1) before (set (set after (one_end g (entry_edge c i)) 1) (other_end g (entry_edge c i)) 1)
@@ -141,9 +132,6 @@ module _ {g : Graph} {c : List ℕ} {i : ℕ} {before after : List ℕ} (s : End
       let y = other_end g (entry_edge c i) in
       let more : EndsMarked g c (i + 1) before (set (set after x 1) y 1) = ends_more long h (omega (arith, p)) (omega (arith, q)) in
       subst (λ (w : List ℕ). EndsMarked g c (i + 1) before w) (ap₂ (λ k l. set (set after k 1) l 1) (sym p) (sym q)) more
-
-  pub ends_all : entries_in c ≤ i → EndsMarked g c (entries_in c) before after
-  ends_all h = record { ends = λ k l. s.ends k (omega arith); only = s.only; kept = s.kept; rest = s.rest }
 
 -- Where all starts and all ends are marked, every vertex that is covered is.
 module _ (g : Graph) (c marks : List ℕ) (starts : (j : ℕ) → j < trees_in c → VertexMarked marks (start_in c j))

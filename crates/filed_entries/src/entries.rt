@@ -42,13 +42,5 @@ fn entry_right(c: &[u8], m: usize, i: usize) -> bool
 pub fn entries_right(c: &[u8], m: usize) -> bool
     ensures { result ≡ entries_right m c.now }
 {
-    let q = entries_in(c);
-    let mut i = 0;
-    while i < q {
-        if !entry_right(c, m, i) {
-            return false;
-        }
-        i += 1;
-    }
-    true
+    (0..entries_in(c)).all(|i| entry_right(c, m, i))
 }

@@ -3,27 +3,20 @@ ghost use Rattle.std.specs.Prelude.{◌≡◌};
 ghost use Rattle.rules.specs.Cover.{rooted, unrooted};
 ghost use Rattle.rules.specs.CheckCover.{starts_right, starts_below};
 ghost use Rattle.rules.specs.Questions.{roots_by};
-ghost use Rattle.admit.specs.Brought.{brought};
+ghost use Rattle.admit.specs.Brought.{lent};
 
 use admit::vans::root_at;
 use cover::read::{start_in, trees_in};
 
-// There are k trees, and tree j starts at its root, by the list of vans where one is given.
-pub fn starts_at_roots(c: &[u8], k: usize, given: bool, vans: &[u8]) -> bool
-    ensures { result ≡ starts_right (rooted (roots_by k (brought given vans.now))) c.now }
+// There are k trees, and tree j starts at its root, by the list of vans where one is brought.
+pub fn starts_at_roots(c: &[u8], k: usize, vans: Option<&[u8]>) -> bool
+    ensures { result ≡ starts_right (rooted (roots_by k (lent vans.entry))) c.now }
 {
     let t = trees_in(c);
     if t != k {
         return false;
     }
-    let mut j = 0;
-    while j < t {
-        if start_in(c, j) != root_at(given, vans, j) {
-            return false;
-        }
-        j += 1;
-    }
-    true
+    (0..t).all(|j| start_in(c, j) == root_at(vans, j))
 }
 
 // There are 1 to k trees.
@@ -41,13 +34,5 @@ pub fn starts_at_most(c: &[u8], k: usize) -> bool
 pub fn starts_below(c: &[u8], n: usize) -> bool
     ensures { result ≡ starts_below n c.now }
 {
-    let t = trees_in(c);
-    let mut j = 0;
-    while j < t {
-        if n <= start_in(c, j) {
-            return false;
-        }
-        j += 1;
-    }
-    true
+    (0..trees_in(c)).all(|j| start_in(c, j) < n)
 }

@@ -2,18 +2,20 @@
 -- labels that are vertices.
 -- Assumes nothing.
 use Prim.Native.Nat.{ℕ, ◌+◌, ◌≤◌, ◌<◌}
-use mathlib.Core.Path.{◌≡◌, refl, sym, ◌∙◌}
-use mathlib.Core.Bool.{true, false, cond, false≢true}
-use mathlib.Core.List.{List, [], ◌∷◌, head_d}
+use mathlib.Core.Path.{◌≡◌, refl, sym, ap, ap₂, ◌∙◌}
+use mathlib.Core.Bool.{true, false, cond, false≢true, ◌||◌}
+use mathlib.Core.Logic.{dite}
+use mathlib.Core.List.{List, [], ◌∷◌, ◌++◌, head_d}
+use native.Mathlib.Decide.{ℕ_discrete}
 use native.Mathlib.Omega.{arith}
-use lib.ListN.{length, get_or, set, length-set}
-use lib.Seq.{get_or-set_other}
+use lib.ListN.{length, get_or, take, drop, set, get_or-append}
+use lib.Seq.{get_or-set_other, get_or-take}
 use lib.Dec.{eqb}
 use borrow.Author.Count.{below_none}
 use borrow.Author.Tests.{eq-eqb, ne_eqb}
 use Rattle.lists.specs.Lists.{any, member}
-use Rattle.lists.specs.Put.{OnlyFirst}
-use Rattle.lists.proofs.OnlyFirst.{only_first_none, only_first_store}
+use Rattle.std.specs.List.{list_any}
+use Rattle.lists.proofs.OnlyFirst.{only_front}
 use Rattle.lists.proofs.SetUpTo.{stored_more}
 use Rattle.graph.specs.Graph.{Graph}
 use Rattle.graph.specs.Valid.{Valid}
@@ -23,12 +25,16 @@ use Rattle.forest_laws.proofs.VertexLabels.{VertexLabels, apart_vertices, merged
 use Rattle.forest.specs.Arrays.{Agrees}
 use Rattle.forest.specs.Labelled.{Started, Merged}
 
--- The label of a root at the start is the first root, and that of another vertex its own.
-pub root_some : (v : ℕ) (roots : List ℕ) → member v roots ≡ true → 0 < length roots
-unfolding member any
-root_some v [] t = absurd (false≢true t)
-root_some v (r ∷ roots) t = omega arith
+-- Whether v stands among the roots, as the list says it and as the definition does.
+same_tests : (r v : ℕ) → eqb r v ≡ eqb v r
+same_tests r v = dite (ℕ_discrete r v) (λ q. ap (λ k. eqb k v) q ∙ ap (eqb v) (sym q)) (λ d. ne_eqb r v d ∙ sym (ne_eqb v r (λ q. d (sym q))))
 
+pub contained : (v : ℕ) (roots : List ℕ) → list_any (λ r. eqb r v) roots ≡ member v roots
+unfolding member any
+contained v [] = refl
+contained v (r ∷ roots) = ap₂ ◌||◌ (same_tests r v) (contained v roots)
+
+-- The label of a root at the start is the first root, and that of another vertex its own.
 pub root_label : (v : ℕ) (roots : List ℕ) → member v roots ≡ true → get_or roots 0 0 ≡ together roots v
 unfolding together member any head_d
 root_label v [] t = absurd (false≢true t)
@@ -55,58 +61,42 @@ labels_below {g} valid edges array agrees v h =
     let made : VertexLabels g.vertices (merge_all g (together []) edges) = rw together_none (merged_vertices valid (apart_vertices g.vertices) edges) in
     rw (agrees v h) (made.below v h)
 
--- Below x the labels of the start are stored, and only labels of the n vertices changed.
-pub record Starting (roots : List ℕ) (n x : ℕ) (before after : List ℕ) : Type 0 where
-  pub labels : Agrees x after (together roots)
-  pub rest : OnlyFirst n before after
-  pub same : length after ≡ length before
-
-module _ {roots : List ℕ} {n : ℕ} where
-  pub starting_none : (before : List ℕ) → Starting roots n 0 before before
-  starting_none before = record { labels = below_none _; rest = only_first_none n before; same = refl }
-
-  module _ {x : ℕ} {before after : List ℕ} (s : Starting roots n x before after) where
-    pub starting_more : {y : ℕ} → x < n → n ≤ length before → y ≡ together roots x → Starting roots n (x + 1) before (set after x y)
-    starting_more {y} h room q =
-        record {
-          labels = stored_more (together roots) after x y (omega arith) s.labels q;
-          rest = only_first_store s.rest x y h;
-          same = length-set after x y ∙ s.same;
-        }
-
-    pub starting_all : n ≤ x → Started roots n before after
-    starting_all h = record { labels = λ v l. s.labels v (omega arith); rest = s.rest }
+-- What stands for the first n labels has the labels of the start, and the others are as they came.
+pub started : {roots : List ℕ} {n : ℕ} (front before : List ℕ) → length front ≡ n → n ≤ length before → Agrees n front (together roots)
+    → Started roots n before (front ++ drop n before)
+started {n = n} front before size room labels =
+    record {
+      labels = λ v l. get_or-append front (drop n before) 0 v (omega arith) ∙ labels v l;
+      rest = only_front n front before size room;
+    }
 
 -- Below x the labels are merged, and from x on they are as they were.
 pub record Merging (n u v x : ℕ) (before after : List ℕ) : Type 0 where
   pub labels : (label : Labels) → Agrees n before label → Agrees x after (merge label u v)
-  pub ahead : (k : ℕ) → x ≤ k → get_or after k 0 ≡ get_or before k 0
-  pub rest : OnlyFirst n before after
-  pub same : length after ≡ length before
+  pub ahead : (k : ℕ) → x ≤ k → k < n → get_or after k 0 ≡ get_or before k 0
 
 module _ {n u v : ℕ} where
-  pub merging_none : (before : List ℕ) → Merging n u v 0 before before
-  merging_none before = record { labels = λ label a. below_none _; ahead = λ k l. refl; rest = only_first_none n before; same = refl }
+  pub merging_none : (before : List ℕ) → Merging n u v 0 before (take n before)
+  merging_none before = record { labels = λ label a. below_none _; ahead = λ k l h. get_or-take n before k 0 h }
 
   module _ {x : ℕ} {before after : List ℕ} (m : Merging n u v x before after) where
     merged_label : (label : Labels) → u < n → v < n → x < n → Agrees n before label
         → cond (eqb (get_or after x 0) (get_or before v 0)) (get_or before u 0) (get_or after x 0) ≡ merge label u v x
     unfolding merge
-    merged_label label hu hv hx a = rw (m.ahead x (omega arith), a x hx, a u hu, a v hv)
+    merged_label label hu hv hx a = rw (m.ahead x (omega arith) hx, a x hx, a u hu, a v hv)
 
-    pub merging_more : {y : ℕ} → u < n → v < n → n ≤ length before → x < n
+    pub merging_more : {y : ℕ} → u < n → v < n → x < n → x < length after
         → y ≡ cond (eqb (get_or after x 0) (get_or before v 0)) (get_or before u 0) (get_or after x 0)
         → Merging n u v (x + 1) before (set after x y)
-    merging_more {y} hu hv room hx q =
+    merging_more {y} hu hv hx room q =
         record {
-          labels =
-              λ label a.
-              stored_more (merge label u v) after x y (omega arith) (m.labels label a)
-              (q ∙ merged_label label hu hv hx a);
-          ahead = λ k l. get_or-set_other after x k y 0 (omega arith) ∙ m.ahead k (omega arith);
-          rest = only_first_store m.rest x y hx;
-          same = length-set after x y ∙ m.same;
+          labels = λ label a. stored_more (merge label u v) after x y room (m.labels label a) (q ∙ merged_label label hu hv hx a);
+          ahead = λ k l h. get_or-set_other after x k y 0 (omega arith) ∙ m.ahead k (omega arith) h;
         }
 
-    pub merging_all : n ≤ x → Merged n u v before after
-    merging_all h = record { labels = λ label a k l. m.labels label a k (omega arith); rest = m.rest }
+    pub merging_all : n ≤ x → length after ≡ n → n ≤ length before → Merged n u v before (after ++ drop n before)
+    merging_all h size room =
+        record {
+          labels = λ label a k l. get_or-append after (drop n before) 0 k (omega arith) ∙ m.labels label a k (omega arith);
+          rest = only_front n after before size room;
+        }

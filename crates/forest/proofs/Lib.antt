@@ -5,5 +5,5 @@ pub mod Labelling
 pub mod KeptOneByOne
 -- the lowest vertices, as loops over the vertices find them
 pub mod LowestVertices
--- eight marks as one word
+-- eight marks as one word, and marks passed eight at a time
 pub mod EightMarks

@@ -1,23 +1,21 @@
 -- The lowest vertices, as the code answers them, and the definitions that the answers equal.
 -- Assumes nothing.
-use Rattle.std.specs.Prelude.{ℕ, ◌≤◌, ◌<◌, ◌≡◌, length, get_or}
+use Rattle.std.specs.Prelude.{ℕ, ◌≤◌, ◌<◌, ◌≡◌, Option, Some, None, length, get_or}
 use mathlib.Core.List.{List, head_d}
-use Rattle.std.proofs.Math.Option.{Option, some, none}
+use Rattle.std.proofs.Math.Option as math
 use Rattle.lists.specs.Put.{PutTo}
 use Rattle.graph.specs.Graph.{Graph}
 use Rattle.rules.specs.Labels.{Labels}
 use Rattle.rules.specs.Forest.{unjoined, lowest}
 use Rattle.forest.specs.Arrays.{Agrees}
-use Rattle.forest.specs.declared.lowest.Found.{Found}
-use Rattle.forest.specs.declared.lowest.Found.TheVariants.{At, Nothing}
 
 -- What the code's answer says: a vertex, or none.
-abbrev pub vertex_in : Found → Option ℕ
-vertex_in (At v) = some v
-vertex_in Nothing = none
+abbrev pub vertex_in : Option ℕ → math.Option ℕ
+vertex_in (Some v) = math.some v
+vertex_in None = math.none
 
 -- The answer is "stop v", the lowest vertex joined to no root, in every graph of n vertices whose first root is this one.
-pub record Unjoined (array : List ℕ) (n root : ℕ) (r : Found) : Type 0 where
+pub record Unjoined (array : List ℕ) (n root : ℕ) (r : Option ℕ) : Type 0 where
   pub is : (g : Graph) (roots : List ℕ) (label : Labels) → g.vertices ≡ n → head_d roots 0 ≡ root → Agrees n array label
       → vertex_in r ≡ unjoined g roots label
 

@@ -1,34 +1,18 @@
 // Labels of the vertices, in a lent array: two vertices are joined where their labels are equal.
 ghost use Rattle.std.specs.Prelude.{◌≡◌, cond, ◌≤◌, ◌<◌, length, eqb};
-ghost use Rattle.lists.specs.Lists.{member};
 ghost use Rattle.rules.specs.Labels.{together};
 ghost use Rattle.forest.specs.Labelled.{Started, Merged};
-
-use edges::index::wide;
-
-// Whether v stands in the list.
-fn stands_in(list: &[u16], v: usize) -> bool
-    ensures { result ≡ member v list.now }
-{
-    let mut i = 0;
-    while i < list.len() {
-        if wide(list[i]) == v {
-            return true;
-        }
-        i += 1;
-    }
-    false
-}
 
 // The label of v at the start: the first root's where v is a root, and its own otherwise.
 fn first_label(roots: &[u16], v: usize) -> u16
     requires { v < 65536 }
     ensures { result ≡ together roots.now v }
 {
-    if stands_in(roots, v) {
+    let own = v as u16;
+    if roots.contains(&own) {
         return roots[0];
     }
-    v as u16
+    own
 }
 
 // The labels at the start: all roots ("yards") are joined, and every other vertex is apart. With no roots all are
@@ -37,10 +21,8 @@ pub fn start_labels(roots: &[u16], n: usize, label: &mut [u16])
     requires { (n ≤ 65536) × (n ≤ length label.old) }
     ensures { Started roots.now n label.old label.new }
 {
-    let mut v = 0;
-    while v < n {
-        label[v] = first_label(roots, v);
-        v += 1;
+    for (v, x) in label[..n].iter_mut().enumerate() {
+        *x = first_label(roots, v);
     }
 }
 
@@ -58,9 +40,7 @@ pub fn merge_labels(label: &mut [u16], n: usize, u: usize, v: usize)
 {
     let to = label[u];
     let from = label[v];
-    let mut x = 0;
-    while x < n {
-        label[x] = relabelled(label[x], from, to);
-        x += 1;
+    for x in label[..n].iter_mut() {
+        *x = relabelled(*x, from, to);
     }
 }

@@ -4,26 +4,13 @@ ghost use Rattle.forest.specs.Lowest.{Unjoined, LowestAsked, Components};
 
 use edges::index::wide;
 
-// A vertex, or none.
-#[derive(Clone, Copy)]
-pub enum Found {
-    At(usize),
-    Nothing,
-}
-
 // The lowest of n vertices that is not joined to the root ("stop v"), if there is one.
-pub fn lowest_unjoined(label: &[u16], n: usize, root: usize) -> Found
+pub fn lowest_unjoined(label: &[u16], n: usize, root: usize) -> Option<usize>
     requires { (root < n) × (n ≤ length label.now) }
     ensures { Unjoined label.now n root result }
 {
-    let mut v = 0;
-    while v < n {
-        if label[v] != label[root] {
-            return Found::At(v);
-        }
-        v += 1;
-    }
-    Found::Nothing
+    let root_label = label[root];
+    label[..n].iter().position(|x| *x != root_label)
 }
 
 // The lowest vertex of each component, rising, written to the front of the array. Says how many components there are.
@@ -32,19 +19,16 @@ pub fn lowest_of_each(label: &[u16], n: usize, out: &mut [u16]) -> usize
     requires { LowestAsked label.now n out.old }
     ensures { Components label.now n out.old out.new result }
 {
-    let mut met = [0u8; 256];
+    let mut met = [false; 256];
     let mut r = 0;
-    let mut v = 0;
-    while v < n {
-        let x = wide(label[v]);
-        if met[x] == 1 {
-            v += 1;
+    for (v, x) in label[..n].iter().enumerate() {
+        let x = wide(*x);
+        if met[x] {
             continue;
         }
-        met[x] = 1;
+        met[x] = true;
         out[r] = v as u16;
         r += 1;
-        v += 1;
     }
     r
 }

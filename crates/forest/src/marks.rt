@@ -26,18 +26,12 @@ pub fn all_marked(marks: &[u8], n: usize) -> bool
     if marks.len() < n {
         return false;
     }
-    let mut v = 0;
-    while 8 <= n - v {
-        if !eight_marked(&marks[v..]) {
+    let eights = marks[..n].chunks_exact(8);
+    let rest = eights.remainder();
+    for eight in eights {
+        if !eight_marked(eight) {
             return false;
         }
-        v += 8;
     }
-    while v < n {
-        if marks[v] != 1 {
-            return false;
-        }
-        v += 1;
-    }
-    true
+    rest.iter().all(|mark| *mark == 1)
 }

@@ -1,11 +1,13 @@
 -- Numbers in several bytes: how many bytes they take, and the next of them.
 -- Assumes nothing.
-use Prim.Native.Nat.{ℕ, zero, suc, ◌-◌, ◌*◌, ◌/◌, ◌%◌, ◌≤◌, ◌<◌}
-use mathlib.Core.Path.{◌≡◌, refl, ap, ◌∙◌}
-use mathlib.Core.List.{List, [], ◌∷◌, ◌++◌}
+use Prim.Native.Nat.{ℕ, zero, suc, ◌+◌, ◌-◌, ◌*◌, ◌/◌, ◌%◌, ◌≤◌, ◌<◌}
+use mathlib.Core.Path.{◌≡◌, refl, sym, ap, ap₂, ◌∙◌}
+use mathlib.Core.List.{List, [], ◌∷◌, ◌++◌, append_assoc, append-nil}
 use native.Mathlib.Omega.{arith}
-use lib.ListN.{length, length-append}
+use lib.ListN.{length, take, set, length-append}
+use lib.Seq.{take_all}
 use Rattle.lists.specs.Lists.{flat}
+use Rattle.lists.proofs.TakeDrop.{take_stored}
 use Rattle.gate_replies.specs.Fields.{field, fields}
 
 -- A field has as many bytes as it is wide.
@@ -27,6 +29,20 @@ pub field_none : (width x : ℕ) → width ≤ 0 → field width x ≡ []
 unfolding field
 field_none zero x h = refl
 field_none (suc width) x h = absurd (omega arith)
+
+-- A field's first bytes are stored and the others are those of the rest of its number: so with one byte more, and with all.
+module _ (width x : ℕ) (bytes : List ℕ) (i rest : ℕ) (long : length bytes ≡ width) (so_far : take i bytes ++ field (width - i) rest ≡ field width x) where
+  pub field_more : i < width → take (i + 1) (set bytes i (rest % 256)) ++ field (width - (i + 1)) (rest / 256) ≡ field width x
+  field_more h =
+      let next : field (width - i) rest ≡ rest % 256 ∷ field (width - (i + 1)) (rest / 256) = field_next (width - i) rest (omega arith) ∙ ap (λ n. rest % 256 ∷ field n (rest / 256)) (omega arith) in
+      ap (λ l. l ++ field (width - (i + 1)) (rest / 256)) (take_stored bytes i (rest % 256) (omega arith))
+      ∙ append_assoc (take i bytes) (rest % 256 ∷ []) (field (width - (i + 1)) (rest / 256))
+      ∙ ap (λ l. take i bytes ++ l) (sym next)
+      ∙ so_far
+
+  pub field_whole : width ≤ i → bytes ≡ field width x
+  field_whole h =
+      sym (ap₂ ◌++◌ (take_all i bytes (omega arith)) (field_none (width - i) rest (omega arith)) ∙ append-nil bytes) ∙ so_far
 
 pub fields_length : (width : ℕ) (xs : List ℕ) → length (fields width xs) ≡ width * length xs
 unfolding fields flat

@@ -9,16 +9,13 @@ pub(crate) fn put_field(width: usize, x: u64, out: &mut [u8], at: usize) -> usiz
     requires { at + width ≤ length out.old }
     ensures { PutTo at (field width x) out.old out.new result }
 {
-    let mut left = width;
+    let end = at + width;
     let mut rest = x;
-    let mut next = at;
-    while 0 < left {
-        out[next] = (rest % 256) as u8;
-        next += 1;
-        rest = rest / 256;
-        left -= 1;
+    for byte in out[at..end].iter_mut() {
+        *byte = (rest % 256) as u8;
+        rest /= 256;
     }
-    next
+    end
 }
 
 // Numbers in eight bytes each, from a place on.
@@ -27,10 +24,8 @@ pub(crate) fn put_values(values: &[u64], out: &mut [u8], at: usize) -> usize
     ensures { PutTo at (fields 8 values.now) out.old out.new result }
 {
     let mut next = at;
-    let mut i = 0;
-    while i < values.len() {
-        next = put_field(8, values[i], out, next);
-        i += 1;
+    for value in values {
+        next = put_field(8, *value, out, next);
     }
     next
 }

@@ -3,44 +3,33 @@
 ghost use Rattle.std.specs.Prelude.{◌≡◌, ◌+◌, ◌≤◌, length};
 ghost use Rattle.lists.specs.Put.{PutTo};
 ghost use Rattle.rules.specs.Questions.{graph_in};
-ghost use Rattle.admit.specs.Crews.{asks_with};
 ghost use Rattle.filed.specs.Promise.{says};
 ghost use Rattle.reply_text.specs.Replies.{TextAsked};
 ghost use Rattle.gate_replies.specs.Fixed.{is_yes, confirmed, yes_word, sure_line, FixedWritten};
 
-use admit::brought::{Lists, read_list};
-use admit::crews::Kind;
+use admit::question::Question;
+use admit::refusal::Refusal;
 use cover::read::cover_length;
-use filed::check::{Verdict, check};
+use filed::check::check;
 use replies::Reply;
 use reply_text::lines::{put_last, put_spaced, put_word};
 use reply_text::reply::write_reply;
 
 // Whether the check's answer is yes, with this weight.
-fn is_yes(verdict: Verdict, heaviest: u64) -> bool
+fn is_yes(verdict: Result<u64, Refusal>, heaviest: u64) -> bool
     ensures { result ≡ is_yes (says verdict) heaviest }
 {
     match verdict {
-        Verdict::Yes(weight) => weight == heaviest,
-        Verdict::Refused(_) => false,
+        Ok(weight) => weight == heaviest,
+        Err(_) => false,
     }
 }
 
 // Whether the check says yes to the bytes of a cover, with this weight.
-fn confirms(
-    kind: Kind,
-    k: usize,
-    b: &[u8],
-    c: &[u8],
-    heaviest: u64,
-    lists: Lists,
-    classes: &[u8],
-    vans: &[u8],
-) -> bool
-    ensures { result ≡ confirmed (asks_with kind k b.now lists classes.now vans.now) c.now
-        heaviest }
+fn confirms(question: &Question, c: &[u8], heaviest: u64) -> bool
+    ensures { result ≡ confirmed question.now c.now heaviest }
 {
-    is_yes(check(kind, k, b, c, lists, classes, vans), heaviest)
+    is_yes(check(question, c), heaviest)
 }
 
 // A space and `yes` or `no`, from a place on.
@@ -66,32 +55,21 @@ fn write_sure(limit: u64, sure: bool, t: u64, out: &mut [u8]) -> usize
 }
 
 // What the rules fix of a reply, as the first bytes of `out`. Says how many.
-pub fn write_fixed(
-    kind: Kind,
-    k: usize,
-    b: &[u8],
-    reply: Reply,
-    buf: &[u8],
-    out: &mut [u8],
-    lists: Lists,
-    classes: &[u8],
-    vans: &[u8],
-) -> usize
-    requires { TextAsked (graph_in (asks_with kind k b.now lists classes.now vans.now)) reply buf.now (length out.old) }
-    ensures { FixedWritten (asks_with kind k b.now lists classes.now vans.now) reply
-        buf.now out.old out.new result }
+pub fn write_fixed(question: &Question, reply: Reply, buf: &[u8], out: &mut [u8]) -> usize
+    requires { TextAsked (graph_in question.now) reply buf.now (length out.old) }
+    ensures { FixedWritten question.now reply buf.now out.old out.new result }
 {
     match reply {
         Reply::Cover(limit, heaviest, t) => {
             let end = cover_length(buf);
-            let sure = confirms(kind, k, b, &buf[..end], heaviest, lists, classes, vans);
+            let sure = confirms(question, &buf[..end], heaviest);
             return write_sure(limit, sure, t as u64, out);
         }
         Reply::Parts(_, _) => {
             return put_word(b"too low parts\n", out, 0);
         }
         _ => {
-            return write_reply(b, reply, buf, out, read_list(lists.classes, classes));
+            return write_reply(&question.graph(), reply, buf, out);
         }
     }
 }

@@ -90,14 +90,7 @@ fn front_length(reply: Reply, buf: &[u8]) -> usize
 fn is_untouched(rest: &[u8]) -> bool
     ensures { result ≡ untouched rest.now }
 {
-    let mut i = 0;
-    while i < rest.len() {
-        if rest[i] != FILL {
-            return false;
-        }
-        i += 1;
-    }
-    true
+    rest.iter().all(|x| *x == FILL)
 }
 
 // The reply in full, as the first bytes: what it says, the front of its buffer, which it wrote, and whether the rest of

@@ -11,5 +11,5 @@ pub mod Ranges
 pub mod Adjusted
 -- a graph with its weights by class
 pub mod Surfaced
--- a view shows its own bytes
+-- past the counted edges there is none
 pub mod Viewed

@@ -12,7 +12,6 @@ use Rattle.graph.specs.Graph.{Edge, Graph, edge_count, no_edge, edge_at, one_end
 use Rattle.graph.specs.Surface.{percent_of, adjusted, class_at, with_class, surfaced}
 use Rattle.graph.specs.Bytes.{sheet_graph, graph_of}
 use Rattle.graph.specs.Valid.{Valid}
-use Rattle.graph.specs.View.{CountsOf}
 use Rattle.graph.proofs.Adjusted.{adjusted_most, adjusted_same}
 use Rattle.graph.proofs.Decoded.{edge_past}
 
@@ -92,9 +91,6 @@ module _ (b classes : List ℕ) where
   pub edge_count_sheet : edge_count (graph_of b classes) ≡ edge_count (sheet_graph b)
   unfolding graph_of
   edge_count_sheet = edge_count_same (sheet_graph b) classes
-
-  pub counts_sheet : {n m : ℕ} → CountsOf (graph_of b classes) n m → CountsOf (sheet_graph b) n m
-  counts_sheet c = record { vertices_are = c.vertices_are ∙ vertices_sheet; edges_are = c.edges_are ∙ edge_count_sheet }
 
   pub one_end_sheet : (e : ℕ) → one_end (graph_of b classes) e ≡ one_end (sheet_graph b) e
   unfolding graph_of

@@ -6,11 +6,13 @@
 #![tactic(auto)]
 
 pub mod surface;
-pub mod view;
 
-ghost use Rattle.std.specs.Prelude.{◌≡◌, ◌+◌, ◌^◌, ◌≤◌, length};
+ghost use Rattle.std.specs.Prelude.{◌≡◌, ◌+◌, ◌*◌, ◌^◌, ◌≤◌, length};
 ghost use Rattle.graph.specs.Graph.{one_end, other_end, weight_of, edge_count};
 ghost use Rattle.graph.specs.Bytes.{u16_at, u32_at, sheet_graph, graph_of, Reads};
+
+use crate::surface::adjust_edge;
+use std::marker::Model;
 
 // The number that a byte is.
 fn wide(x: u8) -> usize
@@ -78,28 +80,8 @@ pub fn sheet_edges(b: &[u8]) -> usize
     if b.len() == 4 + 8 * m { m } else { 0 }
 }
 
-// One end of edge e, of m edges; 0 past the last edge.
-pub(crate) fn one_end_at(b: &[u8], m: usize, e: usize) -> usize
-    requires { m ≡ edge_count (sheet_graph b.now) }
-    ensures { Reads (one_end (sheet_graph b.now) e) (2 ^ 16) result }
-{
-    if e < m { u16_within(b, 4 + 4 * e) } else { 0 }
-}
-
-// The other end of edge e, of m edges; 0 past the last edge.
-pub(crate) fn other_end_at(b: &[u8], m: usize, e: usize) -> usize
-    requires { m ≡ edge_count (sheet_graph b.now) }
-    ensures { Reads (other_end (sheet_graph b.now) e) (2 ^ 16) result }
-{
-    if e < m {
-        u16_within(b, 4 + 4 * e + 2)
-    } else {
-        0
-    }
-}
-
-// The weight of edge e, of m edges; 0 past the last edge.
-pub(crate) fn weight_at(b: &[u8], m: usize, e: usize) -> u64
+// The weight as given of edge e, of m edges; 0 past the last edge.
+fn weight_at(b: &[u8], m: usize, e: usize) -> u64
     requires { m ≡ edge_count (sheet_graph b.now) }
     ensures { Reads (weight_of (sheet_graph b.now) e) (2 ^ 32) result }
 {
@@ -110,59 +92,90 @@ pub(crate) fn weight_at(b: &[u8], m: usize, e: usize) -> u64
     }
 }
 
-// The readers of the graph that a sheet and its classes spell. Counts and ends are the sheet's own: these readers take
-// the classes too, so that what they promise is of the same graph as the weight is.
-
-// How many vertices ("stops") the graph has.
-pub fn vertex_count(b: &[u8], classes: &[u8]) -> usize
-    ensures { Reads (graph_of b.now classes.now).vertices (2 ^ 16) result }
-{
-    sheet_vertices(b)
+// A graph's bytes (document 01: a "sheet") and the class bytes beside them, with how many vertices ("stops") and edges
+// ("lines") there are, so that nothing counts them again. No byte is copied. A contract sees the graph that they spell.
+#[derive(Drop)]
+pub struct Graph<'a> {
+    bytes: &'a [u8],
+    classes: &'a [u8],
+    vertices: usize,
+    edges: usize,
 }
 
-// How many edges ("lines") the graph has.
-pub fn edge_count(b: &[u8], classes: &[u8]) -> usize
-    ensures { Reads (edge_count (graph_of b.now classes.now)) (2 ^ 16) result }
-{
-    sheet_edges(b)
+impl<'a> Model for Graph<'a> {
+    ghost use Rattle.graph.specs.Graph.{Graph};
+
+    ghost Value = { Graph };
+
+    ghost use Rattle.graph.specs.Bytes.{graph_of};
+    ghost use Rattle.graph.specs.View.{Views};
+
+    ghost view = { λ s. graph_of s.bytes.now s.classes.now };
+
+    ghost invariant = { Views };
 }
 
-// One end of edge e; 0 past the last edge. Who has the counts at hand calls the reader of `surface`, which does not
-// count again.
-pub fn one_end(b: &[u8], e: usize, classes: &[u8]) -> usize
-    ensures { Reads (one_end (graph_of b.now classes.now) e) (2 ^ 16) result }
-{
-    surface::one_end(
-        b,
-        vertex_count(b, classes),
-        edge_count(b, classes),
-        e,
-        classes,
-    )
-}
+impl<'a> Graph<'a> {
+    // The graph that a sheet and its classes spell. Any bytes spell one.
+    pub fn new(bytes: &'a [u8], classes: &'a [u8]) -> Graph<'a>
+        ensures { result ≡ graph_of bytes.now classes.now }
+    {
+        Graph {
+            bytes,
+            classes,
+            vertices: sheet_vertices(bytes),
+            edges: sheet_edges(bytes),
+        }
+    }
 
-// The other end of edge e; 0 past the last edge.
-pub fn other_end(b: &[u8], e: usize, classes: &[u8]) -> usize
-    ensures { Reads (other_end (graph_of b.now classes.now) e) (2 ^ 16) result }
-{
-    surface::other_end(
-        b,
-        vertex_count(b, classes),
-        edge_count(b, classes),
-        e,
-        classes,
-    )
-}
+    // How many vertices ("stops") the graph has.
+    pub fn vertex_count(&self) -> usize
+        ensures { Reads self.now.vertices (2 ^ 16) result }
+    {
+        self.vertices
+    }
 
-// The weight of edge e, by its class; 0 past the last edge.
-pub fn weight(b: &[u8], e: usize, classes: &[u8]) -> u64
-    ensures { Reads (weight_of (graph_of b.now classes.now) e) (2 ^ 33) result }
-{
-    surface::weight(
-        b,
-        vertex_count(b, classes),
-        edge_count(b, classes),
-        e,
-        classes,
-    )
+    // How many edges ("lines") the graph has.
+    pub fn edge_count(&self) -> usize
+        ensures { Reads (edge_count self.now) (2 ^ 16) result }
+    {
+        self.edges
+    }
+
+    // One end of edge e; 0 past the last edge.
+    pub fn one_end(&self, e: usize) -> usize
+        ensures { Reads (one_end self.now e) (2 ^ 16) result }
+    {
+        if e < self.edges {
+            u16_within(self.bytes, 4 + 4 * e)
+        } else {
+            0
+        }
+    }
+
+    // The other end of edge e; 0 past the last edge.
+    pub fn other_end(&self, e: usize) -> usize
+        ensures { Reads (other_end self.now e) (2 ^ 16) result }
+    {
+        if e < self.edges {
+            u16_within(self.bytes, 4 + 4 * e + 2)
+        } else {
+            0
+        }
+    }
+
+    // The weight of edge e as given, whatever its class: that by its class is no less, and at most twice it.
+    pub fn given_weight(&self, e: usize) -> u64
+        ensures low { result ≤ weight_of self.now e }
+        ensures high { weight_of self.now e ≤ 2 * result }
+    {
+        weight_at(self.bytes, self.edges, e)
+    }
+
+    // The weight of edge e, by its class; 0 past the last edge.
+    pub fn weight(&self, e: usize) -> u64
+        ensures { Reads (weight_of self.now e) (2 ^ 33) result }
+    {
+        adjust_edge(weight_at(self.bytes, self.edges, e), self.classes, e)
+    }
 }

@@ -4,9 +4,6 @@ ghost use Rattle.std.specs.Prelude.{◌≡◌, ◌^◌, ◌<◌};
 ghost use Rattle.graph.specs.Graph.{one_end, other_end, weight_of};
 ghost use Rattle.graph.specs.Surface.{percent_of, adjusted, class_at};
 ghost use Rattle.graph.specs.Bytes.{graph_of, Reads};
-ghost use Rattle.graph.specs.View.{CountsOf};
-
-use crate::view;
 
 // The percentage of the weight that a class counts.
 fn percent(class: u8) -> u64
@@ -30,7 +27,7 @@ fn adjust(weight: u64, class: u8) -> u64
 }
 
 // The weight of edge e by its class, past the list's end the weight as it is.
-fn adjust_edge(weight: u64, classes: &[u8], e: usize) -> u64
+pub(crate) fn adjust_edge(weight: u64, classes: &[u8], e: usize) -> u64
     requires { weight < 2 ^ 32 }
     ensures { Reads (adjusted weight (class_at classes.now e)) (2 ^ 33) result }
 {
@@ -38,28 +35,4 @@ fn adjust_edge(weight: u64, classes: &[u8], e: usize) -> u64
         return weight;
     }
     adjust(weight, classes[e])
-}
-
-// One end of edge e, of n vertices and m edges; 0 past the last edge.
-pub fn one_end(b: &[u8], n: usize, m: usize, e: usize, classes: &[u8]) -> usize
-    requires { CountsOf (graph_of b.now classes.now) n m }
-    ensures { Reads (one_end (graph_of b.now classes.now) e) (2 ^ 16) result }
-{
-    view::one_end(b, n, m, e)
-}
-
-// The other end of edge e.
-pub fn other_end(b: &[u8], n: usize, m: usize, e: usize, classes: &[u8]) -> usize
-    requires { CountsOf (graph_of b.now classes.now) n m }
-    ensures { Reads (other_end (graph_of b.now classes.now) e) (2 ^ 16) result }
-{
-    view::other_end(b, n, m, e)
-}
-
-// The weight of edge e, by its class.
-pub fn weight(b: &[u8], n: usize, m: usize, e: usize, classes: &[u8]) -> u64
-    requires { CountsOf (graph_of b.now classes.now) n m }
-    ensures { Reads (weight_of (graph_of b.now classes.now) e) (2 ^ 33) result }
-{
-    adjust_edge(view::weight(b, n, m, e), classes, e)
 }

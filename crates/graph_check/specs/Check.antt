@@ -1,13 +1,11 @@
 -- The check of a graph's bytes (document 01, "Who causes which number", the sheet's maker): 11 to 16, in 01's order.
 -- Assumes nothing.
-use Rattle.std.specs.Prelude.{ℕ, not, ◌||◌, List, [], ◌∷◌, map, length, eqb, leb, ltb}
+use Rattle.std.specs.Prelude.{ℕ, not, ◌||◌, List, [], ◌∷◌, map, length, eqb, leb, ltb, Result, Ok, Err}
 use Rattle.graph.specs.Graph.{Edge, Graph, edge_count}
 use Rattle.graph.specs.Bytes.{vertices_in, edges_in, length_for, sheet_graph}
 use Rattle.graph.specs.Fault.{Fault, fault_if, first_fault, refused_or}
 use Rattle.graph_check.specs.declared.Cause.{Cause}
 use Rattle.graph_check.specs.declared.Cause.TheVariants.{Length, Vertices, Edges, End, Loop, Weight}
-use Rattle.graph_check.specs.declared.Checked.{Checked}
-use Rattle.graph_check.specs.declared.Checked.TheVariants.{Counts, Refused}
 
 -- What the check answers: yes, with how many vertices and edges there are, or document 01's number.
 pub data Answer : Type 0 where
@@ -24,9 +22,9 @@ number_of Loop = 15
 number_of Weight = 16
 
 -- What the code's answer says.
-abbrev pub says : Checked → Answer
-says (Counts n m) = yes n m
-says (Refused f) = number (number_of f)
+abbrev pub says : Result (ℕ × ℕ) Cause → Answer
+says (Ok (n, m)) = yes n m
+says (Err f) = number (number_of f)
 
 -- One edge ("line") among n vertices: 14 an end not below n, 15 equal ends, 16 weight above 1,000,000.
 unfoldable pub edge_fault : ℕ → Edge → Fault

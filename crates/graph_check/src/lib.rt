@@ -3,10 +3,9 @@
 #![tactic(auto)]
 
 ghost use Rattle.std.specs.Prelude.{◌≡◌};
-ghost use Rattle.graph.specs.Bytes.{sheet_graph};
 ghost use Rattle.graph_check.specs.Check.{number_of, says, check_all, check_of};
 
-use graph::view;
+use graph::Graph;
 
 // What can be wrong with a graph's bytes.
 #[derive(Clone, Copy)]
@@ -25,13 +24,6 @@ pub enum Cause {
     Weight,
 }
 
-// What the check answers: how many vertices and edges there are, or the cause of the first fault.
-#[derive(Clone, Copy)]
-pub enum Checked {
-    Counts(usize, usize),
-    Refused(Cause),
-}
-
 // Document 01's number of a cause.
 pub fn number(f: Cause) -> u16
     ensures { result ≡ number_of f }
@@ -46,54 +38,52 @@ pub fn number(f: Cause) -> u16
     }
 }
 
-// The check edge by edge.
-fn check_edges(b: &[u8]) -> Checked
-    ensures { says result ≡ check_all (sheet_graph b.now) }
+// The check edge by edge: how many vertices and edges there are, or the cause of the first fault.
+fn check_edges(g: &Graph) -> Result<(usize, usize), Cause>
+    ensures { says result ≡ check_all g.now }
 {
-    let n = graph::sheet_vertices(b);
-    let m = graph::sheet_edges(b);
-    let mut e = 0;
-    while e < m {
-        let one = view::one_end(b, n, m, e);
-        let other = view::other_end(b, n, m, e);
-        let w = view::weight(b, n, m, e);
+    let n = g.vertex_count();
+    let m = g.edge_count();
+    for e in 0..m {
+        let one = g.one_end(e);
+        let other = g.other_end(e);
+        let w = g.weight(e);
         if n <= one {
-            return Checked::Refused(Cause::End);
+            return Err(Cause::End);
         }
         if n <= other {
-            return Checked::Refused(Cause::End);
+            return Err(Cause::End);
         }
         if one == other {
-            return Checked::Refused(Cause::Loop);
+            return Err(Cause::Loop);
         }
         if 1000000 < w {
-            return Checked::Refused(Cause::Weight);
+            return Err(Cause::Weight);
         }
-        e += 1;
     }
-    Checked::Counts(n, m)
+    Ok((n, m))
 }
 
-// The check of a graph's bytes: whether they are a graph's, and what is wrong with them otherwise.
-pub fn check_graph(b: &[u8]) -> Checked
+// The check of a graph's bytes: how many vertices and edges there are, or the cause of the first fault.
+pub fn check_graph(b: &[u8]) -> Result<(usize, usize), Cause>
     ensures { says result ≡ check_of b.now }
 {
     if b.len() < 4 {
-        return Checked::Refused(Cause::Length);
+        return Err(Cause::Length);
     }
     let n = graph::u16_within(b, 0);
     let m = graph::u16_within(b, 2);
     if b.len() != 4 + 8 * m {
-        return Checked::Refused(Cause::Length);
+        return Err(Cause::Length);
     }
     if n == 0 {
-        return Checked::Refused(Cause::Vertices);
+        return Err(Cause::Vertices);
     }
     if 256 < n {
-        return Checked::Refused(Cause::Vertices);
+        return Err(Cause::Vertices);
     }
     if 2048 < m {
-        return Checked::Refused(Cause::Edges);
+        return Err(Cause::Edges);
     }
-    check_edges(b)
+    check_edges(&Graph::new(b, &[]))
 }

@@ -15,7 +15,7 @@ use Rattle.lists.specs.Count.{count}
 use Rattle.lists.proofs.Fewer.{count_bounded, count_fewer}
 use Rattle.lists.proofs.AfterStore.{at_or_not, after_store}
 use Rattle.lists.proofs.Pigeonhole.{count_all}
-use Rattle.matching.specs.State.{none, Place, Edges, Searchable, Reached, Closed}
+use Rattle.matching.specs.State.{none, Place, Edges, Reached, Closed}
 
 -- Some part has reached the root.
 pub reached : List ℕ → ℕ → Bool
@@ -55,30 +55,6 @@ pub record Searching (y : ℕ) (allowed : ℕ → ℕ → Bool) (i : ℕ) (owner
   pub passed : (a r : ℕ) → a < at → r < y → allowed (get_or parts a 0) r ≡ true → get_or from r 0 ≡ none → ⊥
   pub passing : (r : ℕ) → r < j → allowed (get_or parts at 0) r ≡ true → get_or from r 0 ≡ none → ⊥
 
--- At the start part i alone is reached, and no root.
-pub search_start : {y i : ℕ} {bytes owner parts via from : List ℕ} (allowed : ℕ → ℕ → Bool) → Searchable y i bytes owner parts via from
-    → Searching y allowed i owner (set parts 0 i) via from 1 0 0
-search_start {i = i} {parts = parts} allowed s =
-    record {
-      queue =
-          record {
-            parts_size = length-set parts 0 i ∙ s.places.0;
-            via_size = s.places.1;
-            from_size = s.roots;
-            some = omega arith;
-            room = omega arith;
-            first = get_or-set_same parts 0 i 0 (omega arith);
-            behind = λ a h l. absurd (omega arith);
-            near = λ r h n. absurd (n (s.fresh r h));
-            edges = λ r h n. absurd (n (s.fresh r h));
-            queued = λ r h n. absurd (n (s.fresh r h));
-          };
-      within = omega arith;
-      root = omega arith;
-      passed = λ a r h. absurd (omega arith);
-      passing = λ r h. absurd (omega arith);
-    }
-
 module _ {y : ℕ} {allowed : ℕ → ℕ → Bool} {i : ℕ} {owner parts via from : List ℕ} {t at j : ℕ} (s : Searching y allowed i owner parts via from t at j) where
   open s use {queue, within, root, passed, passing}
   open queue use {parts_size, via_size, from_size, some, room, first, behind, near, edges, queued}
@@ -97,31 +73,6 @@ module _ {y : ℕ} {allowed : ℕ → ℕ → Bool} {i : ℕ} {owner parts via f
       let k = get_or parts at 0 in
       let l : k + 1 ≤ i + 1 = omega (arith, search_part at h) in
       omega (arith, mul-le-mul_right y l, add-mul k 1 y, one-mul y)
-
-  -- All roots have been tried for the part at this place: on to the next place.
-  pub search_next : at < t → j ≡ y → Searching y allowed i owner parts via from t (at + 1) 0
-  search_next h end =
-      record {
-        queue = queue;
-        within = omega arith;
-        root = omega arith;
-        passed =
-            λ a r l.
-            at_or_not (λ x. x < at + 1 → r < y → allowed (get_or parts x 0) r ≡ true → get_or from r 0 ≡ none → ⊥) at a
-            (λ _ b. passing r (omega arith)) (λ ne l. passed a r (omega arith)) l;
-        passing = λ r l. absurd (omega arith);
-      }
-
-  -- Root j is reached, or is not allowed to the part at this place: on to the next root.
-  pub search_skip : j < y → (allowed (get_or parts at 0) j ≡ true → get_or from j 0 ≡ none → ⊥) → Searching y allowed i owner parts via from t at (j + 1)
-  search_skip below skip =
-      record {
-        queue = queue;
-        within = within;
-        root = omega arith;
-        passed = passed;
-        passing = λ r l. at_or_not (λ x. x < j + 1 → allowed (get_or parts at 0) x ≡ true → get_or from x 0 ≡ none → ⊥) j r (λ _. skip) (λ ne l. passing r (omega arith)) l;
-      }
 
   -- The search is at its end.
   pub search_closed : t ≤ at → y ≤ 32 → Closed y allowed i owner parts t

@@ -3,11 +3,6 @@
 use Rattle.std.specs.Prelude.{ℕ, ◌<◌, ◌≤◌, ◌≡◌, List, length, get_or}
 use Rattle.lists.specs.Put.{OnlyFirst}
 
--- The first p bytes are 0, the rest is as it came.
-pub record Cleared (p : ℕ) (before after : List ℕ) : Type 0 where
-  pub zeros : (k : ℕ) → k < p → get_or after k 0 ≡ 0
-  pub rest : OnlyFirst p before after
-
 -- The first t of `parts` are parts, below p, and p bytes can be written.
 pub record Markable (p t : ℕ) (parts out : List ℕ) : Type 0 where
   pub fits : p ≤ length out

@@ -1,13 +1,11 @@
 -- The state of the method of augmenting paths: the parts placed so far, the parts and roots that a search has reached,
 -- and the path that it found. Lists are of the arrays' lengths: 32 roots, 33 places.
 -- Assumes nothing.
-use Rattle.std.specs.Prelude.{ℕ, ◌+◌, ◌*◌, ◌<◌, ◌≤◌, ◌≡◌, ◌⊎◌, Bool, true, false, List, length, get_or, take}
+use Rattle.std.specs.Prelude.{ℕ, ◌+◌, ◌*◌, ◌<◌, ◌≤◌, ◌≡◌, ◌⊎◌, Bool, true, false, List, length, get_or, take, Result, Ok, Err}
 use Rattle.lists.specs.Put.{OnlyFirst}
 use Rattle.lists.specs.Scratch.{Scratch}
 use Rattle.matching.specs.declared.Answer.{Answer}
 use Rattle.matching.specs.declared.Answer.TheVariants.{Refused, Assigned, Deficient}
-use Rattle.matching.specs.declared.path.Found.{Found}
-use Rattle.matching.specs.declared.path.Found.TheVariants.{Root, Nothing}
 use Rattle.matching.specs.Assignment.{IsAssignment, IsDeficient}
 use Rattle.matching.specs.Input.{allowed_at}
 
@@ -68,12 +66,12 @@ pub record Closed (y : ℕ) (allowed : ℕ → ℕ → Bool) (i : ℕ) (owner pa
   pub closed : (a r : ℕ) → a < t → r < y → allowed (get_or parts a 0) r ≡ true → (b : ℕ) × (0 < b) × (b < t) × (get_or owner r 0 ≡ get_or parts b 0)
 
 -- What each end of a search says.
-abbrev pub Finding : (y : ℕ) (allowed : ℕ → ℕ → Bool) (i : ℕ) (owner : List ℕ) → Found → (parts via from : List ℕ) → Type 0
-Finding y allowed i owner (Root j) parts via from = Reached y allowed i owner parts via from j
-Finding y allowed i owner (Nothing t) parts via from = Closed y allowed i owner parts t
+abbrev pub Finding : (y : ℕ) (allowed : ℕ → ℕ → Bool) (i : ℕ) (owner : List ℕ) → Result ℕ ℕ → (parts via from : List ℕ) → Type 0
+Finding y allowed i owner (Ok j) parts via from = Reached y allowed i owner parts via from j
+Finding y allowed i owner (Err t) parts via from = Closed y allowed i owner parts t
 
 -- The search has ended. Beyond what its end says of them the arrays were scratch.
-pub record SearchEnded (y : ℕ) (allowed : ℕ → ℕ → Bool) (i : ℕ) (owner : List ℕ) (r : Found) (parts parts_after via via_after from from_after : List ℕ) : Type 0 where
+pub record SearchEnded (y : ℕ) (allowed : ℕ → ℕ → Bool) (i : ℕ) (owner : List ℕ) (r : Result ℕ ℕ) (parts parts_after via via_after from from_after : List ℕ) : Type 0 where
   pub finding : Finding y allowed i owner r parts_after via_after from_after
   pub parts_scratch : Scratch parts parts_after
   pub via_scratch : Scratch via via_after

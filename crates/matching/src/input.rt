@@ -1,7 +1,6 @@
 // The caller's bytes: which input is refused, and whether a root is allowed to a part.
 ghost use Rattle.std.specs.Prelude.{◌≡◌, ◌+◌, ◌*◌, ◌<◌, length};
-ghost use Rattle.lists.specs.Lists.{any};
-ghost use Rattle.matching.specs.Input.{allowed_at, above_one, refused_of};
+ghost use Rattle.matching.specs.Input.{allowed_at, refused_of};
 
 // Root j is allowed to part i.
 pub fn allows(y: usize, bytes: &[u8], i: usize, j: usize) -> bool
@@ -9,20 +8,6 @@ pub fn allows(y: usize, bytes: &[u8], i: usize, j: usize) -> bool
     ensures { result ≡ allowed_at bytes.now y i j }
 {
     bytes[i * y + j] == 1
-}
-
-// Some byte is above 1.
-fn any_above_one(bytes: &[u8]) -> bool
-    ensures { result ≡ any above_one bytes.now }
-{
-    let mut k = 0;
-    while k < bytes.len() {
-        if 1 < bytes[k] {
-            return true;
-        }
-        k += 1;
-    }
-    false
 }
 
 // The input is refused, with 24.
@@ -41,7 +26,7 @@ pub fn refused(p: usize, y: usize, bytes: &[u8], room: usize) -> bool
     if bytes.len() != p * y {
         return true;
     }
-    if any_above_one(bytes) {
+    if bytes.iter().any(|b| 1 < *b) {
         return true;
     }
     room < p

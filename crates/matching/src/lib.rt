@@ -40,13 +40,12 @@ fn place(
     let mut parts = [0usize; 33];
     let mut via = [0usize; 33];
     let mut from = [path::NONE; 32];
-    let found = path::find(y, i, allowed, owner, &mut parts, &mut via, &mut from);
-    match found {
-        path::Found::Root(j) => {
+    match path::find(y, i, allowed, owner, &mut parts, &mut via, &mut from) {
+        Ok(j) => {
             path::exchange(i, j, &parts, &via, &from, owner, out);
             true
         }
-        path::Found::Nothing(t) => {
+        Err(t) => {
             deficient::mark(p, &parts, t, out);
             false
         }
@@ -59,12 +58,10 @@ fn solve(p: usize, y: usize, allowed: &[u8], out: &mut [u8]) -> Answer
     ensures { Solved p y allowed.now out.old result out.new }
 {
     let mut owner = [path::NONE; 32];
-    let mut i = 0;
-    while i < p {
+    for i in 0..p {
         if !place(p, y, i, allowed, &mut owner, out) {
             return Answer::Deficient;
         }
-        i += 1;
     }
     Answer::Assigned
 }

@@ -7,17 +7,12 @@ ghost use Rattle.matching.specs.State.{Searchable, SearchEnded, Exchangeable, Ex
 
 use crate::input::allows;
 
-// No part has the root; no part has reached it. Parts and places are below it.
+// No part has the root; no part has reached it. Parts and places are below it. It is a number and no Option, so that the
+// arrays stay half as long in bytes, and the definitions say of a root reached just the place that it was reached from.
 pub const NONE: usize = 255;
 
-// Where a search ends: at a root that no part has, or with nothing left to search and so many parts reached.
-#[derive(Clone, Copy)]
-pub enum Found {
-    Root(usize),
-    Nothing(usize),
-}
-
-// Searches from part i, by roots allowed to the parts reached and the parts that have those roots.
+// Searches from part i, by roots allowed to the parts reached and the parts that have those roots. The search ends at a
+// root that no part has, or else with nothing left to search, and says how many parts it reached.
 pub fn find(
     y: usize,
     i: usize,
@@ -26,7 +21,7 @@ pub fn find(
     parts: &mut [usize; 33],
     via: &mut [usize; 33],
     from: &mut [usize; 32],
-) -> Found
+) -> Result<usize, usize>
     requires { Searchable y i allowed.now owner.now parts.old via.old from.old }
     ensures { SearchEnded y (allowed_at allowed.now y) i owner.now result parts.old
         parts.new
@@ -35,32 +30,23 @@ pub fn find(
     parts[0] = i;
     let mut t = 1;
     let mut at = 0;
-    let mut j = 0;
     while at < t {
-        if j == y {
-            at += 1;
-            j = 0;
-            continue;
+        for j in 0..y {
+            if from[j] != NONE || !allows(y, allowed, parts[at], j) {
+                continue;
+            }
+            from[j] = at;
+            let k = owner[j];
+            if k == NONE {
+                return Ok(j);
+            }
+            parts[t] = k;
+            via[t] = j;
+            t += 1;
         }
-        if from[j] != NONE {
-            j += 1;
-            continue;
-        }
-        if !allows(y, allowed, parts[at], j) {
-            j += 1;
-            continue;
-        }
-        from[j] = at;
-        let k = owner[j];
-        if k == NONE {
-            return Found::Root(j);
-        }
-        parts[t] = k;
-        via[t] = j;
-        t += 1;
-        j += 1;
+        at += 1;
     }
-    Found::Nothing(t)
+    Err(t)
 }
 
 // Gives root j to the part that reached it, the root that this part had to the part that reached that one, and so on

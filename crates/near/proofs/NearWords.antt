@@ -24,34 +24,33 @@ word_with_run r limit row near v = with_run r (leb (get_or row v 0) limit) (get_
 
 -- The root is added to the words one after the other: to the next,
 module _ (limit : ℕ) (row : List ℕ) {v : ℕ} {before after : List ℕ} (m : SetUpTo (word_with limit row before) v before after) where
-  pub root_more : {x : ℕ} → v < length after → x ≡ word_with limit row after v → SetUpTo (word_with limit row before) (v + 1) before (set after v x)
-  root_more h q = set_more m h (q ∙ ap (λ w. 2 * w + cond (leb (get_or row v 0) limit) 1 0) (m.rest v (omega arith)))
+  pub root_more : {x : ℕ} → v < length before → x ≡ word_with limit row after v → SetUpTo (word_with limit row before) (v + 1) before (set after v x)
+  root_more h q = set_more m (omega (arith, m.size)) (q ∙ ap (λ w. 2 * w + cond (leb (get_or row v 0) limit) 1 0) (m.rest v (omega arith)))
 
   -- and to all.
-  pub root_all : length after ≤ v → RootAdded limit row before after
-  root_all h = record { size = m.size; each = λ u l. m.done u (omega (arith, m.size)) }
+  pub root_all : length before ≤ v → RootAdded limit row before after
+  root_all h = record { size = m.size; each = λ u l. m.done u (omega arith) }
 
 -- A run of roots likewise.
 module _ (r limit : ℕ) (row : List ℕ) {v : ℕ} {before after : List ℕ} (m : SetUpTo (word_with_run r limit row before) v before after) where
-  pub run_more : {x : ℕ} → v < length after → x ≡ word_with_run r limit row after v → SetUpTo (word_with_run r limit row before) (v + 1) before (set after v x)
-  run_more h q = set_more m h (q ∙ ap (with_run r (leb (get_or row v 0) limit)) (m.rest v (omega arith)))
+  pub run_more : {x : ℕ} → v < length before → x ≡ word_with_run r limit row after v → SetUpTo (word_with_run r limit row before) (v + 1) before (set after v x)
+  run_more h q = set_more m (omega (arith, m.size)) (q ∙ ap (with_run r (leb (get_or row v 0) limit)) (m.rest v (omega arith)))
 
-  pub run_all : length after ≤ v → RunAdded r limit row before after
-  run_all h = record { size = m.size; each = λ u l. m.done u (omega (arith, m.size)) }
+  pub run_all : length before ≤ v → RunAdded r limit row before after
+  run_all h = record { size = m.size; each = λ u l. m.done u (omega arith) }
 
 -- A run is found from its end: with the root before it, where that is at the same vertex.
 module _ {roots : List ℕ} {to : ℕ} where
   pub run_found : RunFound roots to to
   run_found = record { within = omega arith; same = λ i h l. absurd (omega arith) }
 
-  pub run_back : {from : ℕ} → RunFound roots to from → 0 < from → get_or roots (from - 1) 0 ≡ get_or roots from 0 → RunFound roots to (from - 1)
+  pub run_back : {from : ℕ} → RunFound roots to from → 0 < from → get_or roots (from - 1) 0 ≡ get_or roots (from - 1 + 1) 0 → RunFound roots to (from - 1)
   run_back {from} f some q =
       record {
         within = omega (arith, f.within);
         same =
             λ i h l.
-            at_or_not (λ i. get_or roots i 0 ≡ get_or roots (i + 1) 0) (from - 1) i (q ∙ ap (λ x. get_or roots x 0) (omega arith))
-            (λ other. f.same i (omega arith) l);
+            at_or_not (λ i. get_or roots i 0 ≡ get_or roots (i + 1) 0) (from - 1) i q (λ other. f.same i (omega arith) l);
       }
 
 -- What each place of a run has in common with the next, all have in common with the last.

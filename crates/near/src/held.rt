@@ -4,49 +4,37 @@ ghost use Rattle.graph.specs.Bytes.{graph_of};
 ghost use Rattle.pieces.specs.Pieces.{tree_of};
 ghost use Rattle.near.specs.Held.{PieceAsked, NearTree, NearPiecesAsked, NearPieces};
 
-use cover::index::{edges_at, number_at};
+use cover::index::{Pieces, edges_at, number_at};
 use edges::index::wide;
+use graph::Graph;
 
 // Those near the tree with this start and these edges: near the start, or near an end of an edge.
-fn near_piece(b: &[u8], near: &[u32], start: usize, edges: &[u16], classes: &[u8]) -> u32
-    requires { PieceAsked (graph_of b.now classes.now) near.now start }
-    ensures { NearTree (graph_of b.now classes.now) near.now (tree_of start
+fn near_piece(g: &Graph, near: &[u32], start: usize, edges: &[u16]) -> u32
+    requires { PieceAsked g.now near.now start }
+    ensures { NearTree g.now near.now (tree_of start
         edges.now) result }
 {
     let mut word = near[start];
-    let mut i = 0;
-    while i < edges.len() {
-        let e = wide(edges[i]);
-        let one = graph::one_end(b, e, classes);
-        let other = graph::other_end(b, e, classes);
+    for edge in edges {
+        let e = wide(*edge);
+        let one = g.one_end(e);
+        let other = g.other_end(e);
         word = word | (near[one] | near[other]);
-        i += 1;
     }
     word
 }
 
 // Those near the tree of each place, a word for each.
-pub fn near_pieces(
-    b: &[u8],
-    near: &[u32],
-    starts: &[u16],
-    cuts: &[u16],
-    members: &[u16],
-    places: &[u16],
-    words: &mut [u32],
-    classes: &[u8],
-)
-    requires { NearPiecesAsked (graph_of b.now classes.now) near.now starts.now cuts.now members.now
+pub fn near_pieces(g: &Graph, near: &[u32], pieces: Pieces, places: &[u16], words: &mut [u32])
+    requires { NearPiecesAsked g.now near.now pieces.starts.now pieces.cuts.now pieces.members.now
         places.now words.old }
-    ensures { NearPieces (graph_of b.now classes.now) near.now
-        starts.now cuts.now members.now places.now words.old
+    ensures { NearPieces g.now near.now
+        pieces.entry.starts.now pieces.entry.cuts.now pieces.entry.members.now places.now words.old
         words.new }
 {
-    let mut i = 0;
-    while i < places.len() {
-        let c = wide(places[i]);
-        let start = number_at(starts, c);
-        words[i] = near_piece(b, near, start, edges_at(cuts, members, c), classes);
-        i += 1;
+    for (i, place) in places.iter().enumerate() {
+        let c = wide(*place);
+        let start = number_at(pieces.starts, c);
+        words[i] = near_piece(g, near, start, edges_at(pieces.cuts, pieces.members, c));
     }
 }

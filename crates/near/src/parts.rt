@@ -13,14 +13,11 @@ pub fn near_parts(steps: &[u64], h: u64, near: &[u32], parts: &mut [u32]) -> usi
     let mut left = [0u64; 256];
     let mut beside = [0u32; 256];
     let mut r = 0;
-    let mut i = 0;
-    while i < steps.len() {
-        let step = steps[i];
-        let child = step_child(step);
-        let above = step_above(step);
-        let piece = step_weight(step) + left[child];
+    for step in steps {
+        let child = step_child(*step);
+        let above = step_above(*step);
+        let piece = step_weight(*step) + left[child];
         let own = beside[child] | (near[child] | near[above]);
-        i += 1;
         if h <= piece {
             parts[r] = own;
             r += 1;

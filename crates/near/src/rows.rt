@@ -7,11 +7,9 @@ fn put_row(bits: u32, row: &mut [u8])
     ensures { RowPut bits row.old row.new }
 {
     let mut rest = bits;
-    let mut j = 0;
-    while j < row.len() {
-        row[j] = (rest % 2) as u8;
+    for byte in row.iter_mut() {
+        *byte = (rest % 2) as u8;
         rest /= 2;
-        j += 1;
     }
 }
 
@@ -20,11 +18,9 @@ pub fn put_rows(parts: &[u32], k: usize, rows: &mut [u8])
     requires { length parts.now * k ≤ length rows.old }
     ensures { RowsPut k parts.now rows.old rows.new }
 {
-    let mut i = 0;
-    while i < parts.len() {
+    for (i, bits) in parts.iter().enumerate() {
         let from = i * k;
         let to = from + k;
-        put_row(parts[i], &mut rows[from..to]);
-        i += 1;
+        put_row(*bits, &mut rows[from..to]);
     }
 }

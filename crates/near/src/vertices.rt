@@ -4,11 +4,11 @@
 ghost use Rattle.std.specs.Prelude.{◌-◌, ◌^◌, ◌<◌, ◌≤◌, cond, ◌≡◌, leb, ltb, length};
 ghost use Rattle.near.specs.Vertices.{RootAsked, RootAdded, RunFound, RunAsked, RunAdded, NearAsked, NearVertices};
 
-// 1 where the distance is at most the limit.
-fn within(distance: u32, limit: u32) -> u32
-    ensures { result ≡ cond (leb distance limit) 1 0 }
+// These bits where the distance is at most the limit.
+fn bits_within(distance: u32, limit: u32, bits: u32) -> u32
+    ensures { result ≡ cond (leb distance limit) bits 0 }
 {
-    if distance <= limit { 1 } else { 0 }
+    if distance <= limit { bits } else { 0 }
 }
 
 // One root more, by its row of distances: the bits of each vertex's word go up by one, and the first says whether this
@@ -17,10 +17,8 @@ fn add_root(row: &[u32], limit: u32, near: &mut [u32])
     requires { RootAsked row.now near.old }
     ensures { RootAdded limit row.now near.old near.new }
 {
-    let mut v = 0;
-    while v < near.len() {
-        near[v] = 2 * near[v] + within(row[v], limit);
-        v += 1;
+    for (v, word) in near.iter_mut().enumerate() {
+        *word = 2 * *word + bits_within(row[v], limit, 1);
     }
 }
 
@@ -29,16 +27,12 @@ fn run_start(roots: &[u16], j: usize) -> usize
     requires { j < length roots.now }
     ensures { RunFound roots.now j result }
 {
-    let mut i = j;
-    while 0 < i {
-        let before = i - 1;
-        if roots[before] == roots[i] {
-            i = before;
-            continue;
+    for i in (0..j).rev() {
+        if roots[i] != roots[i + 1] {
+            return i + 1;
         }
-        return i;
     }
-    i
+    0
 }
 
 // How far the bits go up for r roots more. Words that get 32 have none yet, and stay as they are.
@@ -56,13 +50,6 @@ fn first_bits(r: usize) -> u32
     ((1u64 << r) - 1) as u32
 }
 
-// These bits where the distance is at most the limit.
-fn bits_within(distance: u32, limit: u32, bits: u32) -> u32
-    ensures { result ≡ cond (leb distance limit) bits 0 }
-{
-    if distance <= limit { bits } else { 0 }
-}
-
 // A run of r roots more, which have one row of distances: the bits of each vertex's word go up by r, and the first r
 // all say whether these roots are within the limit.
 fn add_run(row: &[u32], r: usize, limit: u32, near: &mut [u32])
@@ -71,10 +58,8 @@ fn add_run(row: &[u32], r: usize, limit: u32, near: &mut [u32])
 {
     let shift = shift_for(r);
     let bits = first_bits(r);
-    let mut v = 0;
-    while v < near.len() {
-        near[v] = (near[v] << shift) + bits_within(row[v], limit, bits);
-        v += 1;
+    for (v, word) in near.iter_mut().enumerate() {
+        *word = (*word << shift) + bits_within(row[v], limit, bits);
     }
 }
 

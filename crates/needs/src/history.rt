@@ -10,6 +10,14 @@ ghost use Rattle.needs.specs.History.{needed_by, HistoryWritten, HistoryAsked, M
 use edges::index::wide;
 use forest::keep::join_ends;
 use forest::labels::start_labels;
+use graph::Graph;
+
+// The history: of each merge the weight of the tree that it completes, and the merge that takes this tree up.
+#[derive(Clone, Copy)]
+pub struct Merges<'a> {
+    pub total: &'a [u64],
+    pub until: &'a [u16],
+}
 
 // Notes a merge: of the components whose labels are a and c, by an edge of that weight. a stays the label.
 fn note_merge(
@@ -36,67 +44,55 @@ fn note_merge(
 
 // Merges the components of an edge's ends, and notes it.
 fn merge_edge(
-    b: &[u8],
+    g: &Graph,
     e: usize,
     number: usize,
     label: &mut [u16],
     made: &mut [u16],
     total: &mut [u64],
     until: &mut [u16],
-    classes: &[u8],
 )
-    requires { EdgeAsked (graph_of b.now classes.now) e number label.old made.old total.old until.old }
-    ensures { EdgeMerged (graph_of b.now classes.now) e number label.old
+    requires { EdgeAsked g.now e number label.old made.old total.old until.old }
+    ensures { EdgeMerged g.now e number label.old
         label.new made.old made.new total.old total.new
         until.old until.new }
 {
-    let a = wide(label[graph::one_end(b, e, classes)]);
-    let c = wide(label[graph::other_end(b, e, classes)]);
-    note_merge(
-        a,
-        c,
-        graph::weight(b, e, classes),
-        number,
-        made,
-        total,
-        until,
-    );
-    join_ends(b, e, label, classes);
+    let a = wide(label[g.one_end(e)]);
+    let c = wide(label[g.other_end(e)]);
+    note_merge(a, c, g.weight(e), number, made, total, until);
+    join_ends(g, e, label);
 }
 
 // Merges along each edge of the whole forest, one after the other.
 fn merge_all(
-    b: &[u8],
+    g: &Graph,
     kept: &[u16],
     label: &mut [u16],
     made: &mut [u16],
     total: &mut [u64],
     until: &mut [u16],
-    classes: &[u8],
 )
-    requires { MergesAsked (graph_of b.now classes.now) kept.now label.old made.old total.old until.old }
-    ensures { AllMerged (graph_of b.now classes.now) kept.now
+    requires { MergesAsked g.now kept.now label.old made.old total.old until.old }
+    ensures { AllMerged g.now kept.now
         label.old label.new made.old made.new total.old
         total.new until.old until.new }
 {
-    let mut i = 0;
-    while i < kept.len() {
-        merge_edge(b, wide(kept[i]), i + 1, label, made, total, until, classes);
-        i += 1;
+    for (i, e) in kept.iter().enumerate() {
+        merge_edge(g, wide(*e), i + 1, label, made, total, until);
     }
 }
 
 // The history of the whole forest, where no vertex is a root.
-pub fn record_merges(b: &[u8], kept: &[u16], total: &mut [u64], until: &mut [u16], classes: &[u8])
-    requires { HistoryAsked (graph_of b.now classes.now) kept.now total.old until.old }
-    ensures { HistoryWritten (graph_of b.now classes.now) kept.now
+pub fn record_merges(g: &Graph, kept: &[u16], total: &mut [u64], until: &mut [u16])
+    requires { HistoryAsked g.now kept.now total.old until.old }
+    ensures { HistoryWritten g.now kept.now
         total.old total.new until.old until.new }
 {
     let mut label = [0u16; 256];
     let mut made = [0u16; 256];
-    start_labels(&[], graph::vertex_count(b, classes), &mut label);
+    start_labels(&[], g.vertex_count(), &mut label);
     total[0] = 0;
-    merge_all(b, kept, &mut label, &mut made, total, until, classes);
+    merge_all(g, kept, &mut label, &mut made, total, until);
 }
 
 // What the tree of a merge needs besides its component's first tree, where it is there after `light` merges: one for
@@ -115,15 +111,13 @@ fn more_needs(weight: u64, until: u16, light: usize, limit: u64) -> u64
 
 // "The sum C" at a limit within which the first `light` edges of the whole forest are: each of them left one component
 // fewer.
-pub fn needed_by_history(n: usize, total: &[u64], until: &[u16], light: usize, limit: u64) -> u64
-    requires { ReadAsked n total.now until.now light }
-    ensures { result ≡ needed_by n total.now until.now light limit }
+pub fn needed_by_history(n: usize, merges: Merges, light: usize, limit: u64) -> u64
+    requires { ReadAsked n merges.total.now merges.until.now light }
+    ensures { result ≡ needed_by n merges.entry.total.now merges.entry.until.now light limit }
 {
     let mut sum = (n - light) as u64;
-    let mut i = 0;
-    while i <= light {
-        sum += more_needs(total[i], until[i], light, limit);
-        i += 1;
+    for i in 0..=light {
+        sum += more_needs(merges.total[i], merges.until[i], light, limit);
     }
     sum
 }

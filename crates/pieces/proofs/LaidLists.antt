@@ -1,6 +1,6 @@
 -- Lists laid one after the other into one array, each put behind the others: what a loop that lays them knows at each turn.
 -- Assumes nothing.
-use Prim.Native.Nat.{ℕ, ◌+◌, ◌-◌, ◌<◌}
+use Prim.Native.Nat.{ℕ, ◌+◌, ◌-◌, ◌≤◌, ◌<◌}
 use mathlib.Core.Path.{◌≡◌, sym, ap, ◌∙◌}
 use mathlib.Core.List.{List, ◌++◌}
 use native.Mathlib.Omega.{arith}
@@ -34,6 +34,17 @@ put_then_risen {at} {end} {xs} {ys} {a} {b} p q =
     record {
       put = record { room = omega arith; is = rw (put_before p.put, q, there, rest) };
       behind = omega arith;
+    }
+
+-- The sorted list stands in the place of as many elements: it was put.
+pub risen_put : {at : ℕ} {ys : List ℕ} (xs a : List ℕ) → at + length xs ≤ length a → ys ≡ rise xs
+    → PutTo at (rise xs) a (take at a ++ (ys ++ drop (at + length xs - at) (drop at a))) (at + length xs)
+risen_put {at} xs a room q =
+    let size = rise_length xs in
+    let place : at + (at + length xs - at) ≡ at + length (rise xs) = omega (arith, size) in
+    record {
+      put = record { room = omega (arith, size); is = rw q (ap (λ l. take at a ++ (rise xs ++ l)) (drop-drop (at + length xs - at) at a ∙ ap (λ n. drop n a) place)) };
+      behind = omega (arith, size);
     }
 
 -- None yet, where the first bound is 0.

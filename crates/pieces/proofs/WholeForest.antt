@@ -4,6 +4,7 @@ use Prim.Native.Nat.{ℕ}
 use mathlib.Core.Path.{◌≡◌, refl, sym, ◌∙◌}
 use mathlib.Core.List.{List}
 use lib.ListN.{get_or}
+use Rattle.std.specs.Prelude.{Option}
 use Rattle.lists.proofs.FirstElement.{head_at}
 use Rattle.lists.proofs.OnlyFirst.{only_first_on}
 use Rattle.graph.specs.Graph.{Graph}
@@ -16,7 +17,6 @@ use Rattle.forest.specs.Labelled.{Started}
 use Rattle.forest.specs.Keeping.{KeptWritten}
 use Rattle.edges.specs.Light.{LightFront}
 use Rattle.forest.specs.Lowest.{Unjoined}
-use Rattle.forest.specs.declared.lowest.Found.{Found}
 use Rattle.pieces.specs.Whole.{AllJoined, EdgesLabelled, StopFound, WholeForest, WholeKept, LightForest}
 
 module _ {g : Graph} {roots : List ℕ} {n : ℕ} (count : n ≡ g.vertices) where
@@ -39,7 +39,7 @@ module _ {g : Graph} {roots : List ℕ} {n : ℕ} (count : n ≡ g.vertices) whe
       }
 
 -- The lowest vertex whose label is not the first root's.
-pub stop_found : {g : Graph} {roots edges label₀ label₁ : List ℕ} {n root : ℕ} {r : Found} → n ≡ g.vertices → root ≡ get_or roots 0 0
+pub stop_found : {g : Graph} {roots edges label₀ label₁ : List ℕ} {n root : ℕ} {r : Option ℕ} → n ≡ g.vertices → root ≡ get_or roots 0 0
     → EdgesLabelled g roots edges label₀ label₁ → Unjoined label₁ n root r → StopFound g roots edges label₀ label₁ r
 stop_found {g} {roots} {label₁ = label₁} {r = r} count first l u =
     let v : Unjoined label₁ g.vertices (get_or roots 0 0) r = rw (count, first) at u in

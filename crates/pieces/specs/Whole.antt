@@ -1,6 +1,6 @@
 -- The forest of the whole graph (document 01, steps 1 and 2), made once a question: its edges of weight at most B are the forest at B.
 -- Assumes nothing.
-use Rattle.std.specs.Prelude.{ℕ, ◌≤◌, ◌<◌, ◌≡◌, List, length, take}
+use Rattle.std.specs.Prelude.{ℕ, ◌≤◌, ◌<◌, ◌≡◌, Option, List, length, take}
 use Rattle.lists.specs.Member.{◌∈◌}
 use Rattle.lists.specs.Put.{PutTo, OnlyFirst}
 use Rattle.graph.specs.Graph.{Graph}
@@ -10,7 +10,6 @@ use Rattle.rules.specs.Forest.{keep, forest, unjoined}
 use Rattle.forest.specs.Arrays.{Agrees}
 use Rattle.forest.specs.Keeping.{Labelable, Keepable}
 use Rattle.forest.specs.Lowest.{vertex_in}
-use Rattle.forest.specs.declared.lowest.Found.{Found}
 
 -- Whatever labels the array held: the ends of each edge are joined. Elements past the vertices are as they came.
 pub record AllJoined (g : Graph) (edges before after : List ℕ) : Type 0 where
@@ -29,7 +28,7 @@ pub record StopAsked (g : Graph) (roots label : List ℕ) : Type 0 where
   pub roots_inside : (r : ℕ) → r ∈ roots → r < g.vertices
 
 -- The answer is "stop v", the lowest vertex that the edges join to no root.
-pub record StopFound (g : Graph) (roots edges before after : List ℕ) (r : Found) : Type 0 where
+pub record StopFound (g : Graph) (roots edges before after : List ℕ) (r : Option ℕ) : Type 0 where
   pub is : vertex_in r ≡ unjoined g roots (merge_all g (together roots) edges)
   pub rest : OnlyFirst g.vertices before after
 

@@ -6,14 +6,15 @@ ghost use Rattle.pieces.specs.Arcs.{ArcsAsked};
 
 use edges::around::put_around;
 use edges::sweep::sweep_edges;
+use graph::Graph;
 
 // The arcs around each vertex over the edges, by rising number.
-pub fn put_arcs(b: &[u8], edges: &[u16], bounds: &mut [u16], arcs: &mut [u64], classes: &[u8])
-    requires { ArcsAsked (graph_of b.now classes.now) edges.now bounds.old arcs.old }
-    ensures { AroundPut (graph_of b.now classes.now) (rise edges.now)
+pub fn put_arcs(g: &Graph, edges: &[u16], bounds: &mut [u16], arcs: &mut [u64])
+    requires { ArcsAsked g.now edges.now bounds.old arcs.old }
+    ensures { AroundPut g.now (rise edges.now)
         bounds.old bounds.new arcs.old arcs.new }
 {
     let mut rising = [0u16; 256];
-    let r = sweep_edges(edges, graph::edge_count(b, classes), &mut rising);
-    put_around(b, &rising[..r], bounds, arcs, classes);
+    let r = sweep_edges(edges, g.edge_count(), &mut rising);
+    put_around(g, &rising[..r], bounds, arcs);
 }

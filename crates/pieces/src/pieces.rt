@@ -7,28 +7,15 @@ ghost use Rattle.pieces.specs.Pieces.{RunAsked, NumbersAsked};
 
 use order::order::rise_edges;
 
-// Puts the edges into the array from a place on, in their order. Says where they end.
-fn put_edges(edges: &[u16], out: &mut [u16], at: usize) -> usize
-    requires { at + length edges.now ≤ length out.old }
-    ensures { PutTo at edges.now out.old out.new result }
-{
-    let mut next = at;
-    let mut i = 0;
-    while i < edges.len() {
-        out[next] = edges[i];
-        next += 1;
-        i += 1;
-    }
-    next
-}
-
-// The same, from the smallest number to the largest.
+// Puts the edges into the array from a place on, from the smallest number to the largest. Says where they end.
 pub fn put_risen(edges: &[u16], out: &mut [u16], at: usize) -> usize
     requires { at + length edges.now ≤ length out.old }
     ensures { PutTo at (rise edges.now) out.old out.new result }
 {
-    let end = put_edges(edges, out, at);
-    rise_edges(&mut out[at..end]);
+    let end = at + edges.len();
+    let part = &mut out[at..end];
+    part.copy_from_slice(edges);
+    rise_edges(part);
     end
 }
 
@@ -37,12 +24,10 @@ pub fn put_run(first: usize, to: usize, out: &mut [u16], at: usize) -> usize
     requires { RunAsked first to at (length out.old) }
     ensures { PutTo at (from first (to - first)) out.old out.new result }
 {
-    let mut c = first;
     let mut next = at;
-    while c < to {
+    for c in first..to {
         out[next] = c as u16;
         next += 1;
-        c += 1;
     }
     next
 }

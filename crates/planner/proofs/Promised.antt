@@ -11,7 +11,6 @@ use lib.Dec.{leb, ltb}
 use borrow.Author.Tests.{leb-true, leb-false, lt-ltb, le-ltb, ltb-false}
 use native.Mathlib.Omega.{arith}
 use Rattle.lists.proofs.Every.{first_false}
-use Rattle.graph.specs.Bytes.{graph_of}
 use Rattle.graph.specs.Fault.{Fault, fault_if, first_fault, refused_or}
 use Rattle.graph.proofs.Faults.{quiet_if, quiet_each}
 use Rattle.rules.specs.Reply as rules
@@ -19,17 +18,14 @@ use Rattle.rules.specs.RootedTrial.{no_choices}
 use Rattle.rules.specs.Search.{trial, best_limit}
 use Rattle.rules.specs.FewTrials as few
 use Rattle.rules.specs.FewTrials.{untried, before_trials, within}
-use Rattle.rules.specs.Questions.{most_limit, least_room, most_trials, Question, listed, graph_in, crews_in, limit_fault, room_fault, trials_fault, question_fault, trial_fault, ask_trial, best_fault, ask_best, within_fault, ask_within, written, buffer_after}
+use Rattle.rules.specs.Questions.{most_limit, least_room, most_trials, Question, graph_in, crews_in, limit_fault, room_fault, trials_fault, question_fault, trial_fault, ask_trial, best_fault, ask_best, within_fault, ask_within, written, buffer_after}
 use Rattle.rules.specs.Fit.{GoodFor}
 use Rattle.rules.proofs.Admitted.{Admitted, admitted}
 use Rattle.planner_laws.proofs.BothKinds.{trial_bounds}
 use Rattle.planner_laws.proofs.FewTrials.{unspent_best, unspent_same, valid_unspent}
 use Rattle.planner_laws.proofs.Replies.{trial_means, best_means, within_means}
-use Rattle.admit.specs.declared.crews.Kind.{Kind}
 use Rattle.admit.specs.declared.refusal.Refusal.{Refusal}
 use Rattle.admit.specs.declared.refusal.Refusal.TheVariants.{Room}
-use Rattle.admit.specs.declared.brought.Lists.{Lists}
-use Rattle.admit.specs.Crews.{asks_with}
 use Rattle.admit.specs.Refusals.{number_of}
 use Rattle.replies.specs.declared.Reply.TheVariants.{Refused}
 use Rattle.replies.specs.declared.Told.{Told}
@@ -144,17 +140,11 @@ module _ (asked : Asked) (q : Question) (room : ℕ) where
     unfolding faults room_fault
     room_quiet = ltb-false room least_room (quiet_if (ltb room least_room) _ (quiet_each (faults asked q room) quiet (Memᴰ.tail (Memᴰ.tail (Memᴰ.head refl)))))
 
--- So the question can be asked, by the class bytes that are read.
-module _ (asked : Asked) (kind : Kind) (k : ℕ) (b : List ℕ) (lists : Lists) (classes vans : List ℕ) (room : ℕ) where
-  abbrev q : Question
-  q = asks_with kind k b lists classes vans
-
-  pub can_ask : {read : List ℕ} → listed q.classes ≡ read → none ≡ fault_of asked q room → CrewsAsked kind k q.vans (graph_of b read) asked room
-  can_ask {read} is e =
-      let a = question_quiet asked q room (sym e) in
-      let can : CrewsAsked kind k q.vans (graph_in q) asked room =
-      record { valid = a.valid; few = a.few; fit = a.fit; asked_fits = asked_quiet asked q room (sym e); room_most = room_quiet asked q room (sym e) } in
-      rw is at can
+-- So the question can be asked.
+pub can_ask : (asked : Asked) (q : Question) (room : ℕ) → none ≡ fault_of asked q room → CrewsAsked (graph_in q) (crews_in q) asked room
+can_ask asked q room e =
+    let a = question_quiet asked q room (sym e) in
+    record { valid = a.valid; few = a.few; fit = a.fit; asked_fits = asked_quiet asked q room (sym e); room_most = room_quiet asked q room (sym e) }
 
 module _ (asked : Asked) (q : Question) where
   -- A question that is refused: the reply says its number, and the buffer is as it came.

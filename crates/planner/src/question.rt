@@ -1,13 +1,12 @@
 // The questions that a user asks, on any input: refused in document 01's order ("Who causes which number"), and
 // otherwise answered.
 ghost use Rattle.std.specs.Prelude.{◌≡◌};
-ghost use Rattle.admit.specs.Crews.{asks, asks_with};
+ghost use Rattle.admit.specs.Crews.{asks};
 ghost use Rattle.admit.specs.Refusals.{fault_in};
 ghost use Rattle.planner.specs.Promise.{LimitTested, TrialsTested, fault_of, TrialPromise, BestPromise, AskPromise};
 
-use admit::Admitted;
-use admit::brought::{Lists, NO_LISTS};
 use admit::crews::Kind;
+use admit::question::Question;
 use admit::refusal::{LEAST_ROOM, MOST_LIMIT, MOST_TRIALS, Refusal};
 use asking::ask::{Asked, ask_crews};
 use replies::{Reply, Told, UNTRIED};
@@ -32,64 +31,35 @@ fn trials_right(asked: Asked) -> bool
     }
 }
 
-// Tests the question, with so much room for what is written. The asking stands apart, called at two places: so the
-// arrays of an answer are in none of these frames, and a refusal takes next to no stack.
-fn test(
-    kind: Kind,
-    k: usize,
-    asked: Asked,
-    b: &[u8],
-    room: usize,
-    lists: Lists,
-    classes: &[u8],
-    vans: &[u8],
-) -> Admitted
-    ensures { fault_in result ≡ fault_of asked (asks_with kind k b.now lists classes.now
-        vans.now) room }
+// Tests the question, with so much room for what is written. The asking stands apart: so the arrays of an answer are in
+// no frame of these, and a refusal takes next to no stack.
+fn test(asked: Asked, question: &Question, room: usize) -> Result<(), Refusal>
+    ensures { fault_in result ≡ fault_of asked question.now room }
 {
-    match admit::admit(kind, k, b, lists, classes, vans) {
-        Admitted::Refused(f) => Admitted::Refused(f),
-        Admitted::Fits => {
-            if !limit_right(asked) {
-                return Admitted::Refused(Refusal::Limit);
-            }
-            if room < LEAST_ROOM {
-                return Admitted::Refused(Refusal::Room);
-            }
-            if !trials_right(asked) {
-                return Admitted::Refused(Refusal::Trials);
-            }
-            Admitted::Fits
-        }
+    admit::admit(question)?;
+    if !limit_right(asked) {
+        return Err(Refusal::Limit);
     }
+    if room < LEAST_ROOM {
+        return Err(Refusal::Room);
+    }
+    if !trials_right(asked) {
+        return Err(Refusal::Trials);
+    }
+    Ok(())
 }
 
 // Either question, with the lists that are brought: a trial at a limit, or the search for the best limit with at most so
 // many trials (document 02, A.6).
-pub fn ask(
-    asked: Asked,
-    kind: Kind,
-    k: usize,
-    b: &[u8],
-    buf: &mut [u8],
-    lists: Lists,
-    classes: &[u8],
-    vans: &[u8],
-) -> Told
-    ensures { AskPromise asked (asks_with kind k b.now lists classes.now
-        vans.now) buf.old buf.new result }
+pub fn ask(asked: Asked, question: &Question, buf: &mut [u8]) -> Told
+    ensures { AskPromise asked question.now buf.old buf.new result }
 {
-    match test(kind, k, asked, b, buf.len(), lists, classes, vans) {
-        Admitted::Refused(f) => Told {
+    match test(asked, question, buf.len()) {
+        Err(f) => Told {
             reply: Reply::Refused(f),
             known: UNTRIED,
         },
-        Admitted::Fits => {
-            if lists.classes {
-                return ask_crews(kind, k, b, asked, buf, classes, lists.vans, vans);
-            }
-            ask_crews(kind, k, b, asked, buf, &[], lists.vans, vans)
-        }
+        Ok(()) => ask_crews(question, asked, buf),
     }
 }
 
@@ -97,7 +67,8 @@ pub fn ask(
 pub fn trial(kind: Kind, k: usize, limit: u64, b: &[u8], buf: &mut [u8]) -> Reply
     ensures { TrialPromise (asks kind k b.now) limit buf.old buf.new result }
 {
-    let told = ask(Asked::At(limit), kind, k, b, buf, NO_LISTS, &[], &[]);
+    let question = Question::new(kind, k, b);
+    let told = ask(Asked::At(limit), &question, buf);
     let reply = told.reply;
     reply
 }
@@ -107,16 +78,8 @@ pub fn trial(kind: Kind, k: usize, limit: u64, b: &[u8], buf: &mut [u8]) -> Repl
 pub fn best(kind: Kind, k: usize, b: &[u8], buf: &mut [u8]) -> Reply
     ensures { BestPromise (asks kind k b.now) buf.old buf.new result }
 {
-    let told = ask(
-        Asked::Within(MOST_TRIALS),
-        kind,
-        k,
-        b,
-        buf,
-        NO_LISTS,
-        &[],
-        &[],
-    );
+    let question = Question::new(kind, k, b);
+    let told = ask(Asked::Within(MOST_TRIALS), &question, buf);
     let reply = told.reply;
     reply
 }

@@ -3,13 +3,17 @@
 use Prim.{tt}
 use Prim.Native.Nat.{ℕ, zero, suc, ◌≤◌}
 use mathlib.Core.Path.{◌≡◌, refl, ◌∙◌}
+use mathlib.Core.Bool.{Bool, true, false}
 use mathlib.Core.List.{List, [], ◌∷◌, ◌++◌, append-nil}
 use native.Mathlib.Omega.{arith}
 use lib.ListN.{length, set, drop}
 use types.Run.{OneOf, miss}
 use denote.Enum.Declared.{tag_of}
+use Rattle.std.specs.Borrow.{Bor}
+use Rattle.std.specs.Bool.{then_some}
 use Rattle.rules.specs.Reply as rules
 use Rattle.admit.specs.declared.crews.Kind.TheVariants.{Unrooted}
+use Rattle.admit.specs.Brought.{lent}
 use Rattle.asking.specs.declared.ask.Asked.TheVariants.{Within}
 use Rattle.rules.specs.Questions.{Question, most_trials}
 use Rattle.filed.specs.Promise.{number_or0}
@@ -20,13 +24,18 @@ use Rattle.replies.specs.declared.Told.{Told}
 use Rattle.replies.specs.Replies.{said, says, bit_of}
 use Rattle.planner.specs.Promise.{AskPromise}
 use Rattle.planner.proofs.Promised.{best_promised}
-use Rattle.planner_c.specs.Numbers.{kind_of, asked_of, besides, says_told, said_of, Puts}
+use Rattle.planner_c.specs.Numbers.{kind_of, asked_of, brought, besides, says_told, said_of, Puts}
 use Rattle.planner_c.specs.Promise.{AskExported}
 
 -- A number that is not 0 names the unrooted kind.
 pub unrooted : (kind : ℕ) → (kind ≡ 0 → ⊥) → Unrooted ≡ kind_of kind
 unrooted zero other = absurd (other refl)
 unrooted (suc kind) other = refl
+
+-- A list that the code lends where a bit says so is the list that is brought.
+pub lent_brought : (given : Bool) (list : Bor (List ℕ)) → lent (then_some given list) ≡ brought given list.now
+lent_brought true list = refl
+lent_brought false list = refl
 
 -- And one that is not 0 asks for the best limit.
 pub best_asked : (asked limit : ℕ) → (asked ≡ 0 → ⊥) → Within most_trials ≡ asked_of asked limit

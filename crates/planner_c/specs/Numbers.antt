@@ -2,15 +2,16 @@
 -- with what is known besides.
 -- (What a reply says: `says` of the crate `replies`.)
 -- Assumes nothing.
-use Rattle.std.specs.Prelude.{ℕ, zero, suc, ◌/◌, ◌%◌, ◌≡◌, cond, List, [], ◌∷◌, ◌++◌, length, drop, eqb}
+use Rattle.std.specs.Prelude.{ℕ, zero, suc, Bool, true, false, ◌/◌, ◌%◌, ◌≡◌, cond, List, [], ◌∷◌, ◌++◌, length, drop, eqb, Result}
+use Rattle.std.proofs.Math.Option.{Option, some, none}
 use Rattle.rules.specs.Reply as rules
-use Rattle.rules.specs.Questions.{most_trials}
-use Rattle.admit.specs.declared.brought.Lists.{Lists}
+use Rattle.rules.specs.Questions.{Question, most_trials}
 use Rattle.admit.specs.declared.crews.Kind.{Kind}
 use Rattle.admit.specs.declared.crews.Kind.TheVariants.{Rooted, Unrooted}
+use Rattle.admit.specs.declared.refusal.Refusal.{Refusal}
+use Rattle.admit.specs.Crews.{asks, with_lists}
 use Rattle.asking.specs.declared.ask.Asked.{Asked}
 use Rattle.asking.specs.declared.ask.Asked.TheVariants.{At, Within}
-use Rattle.filed.specs.declared.check.Verdict.{Verdict}
 use Rattle.filed.specs.Promise as check
 use Rattle.replies.specs.declared.Reply.{Reply}
 use Rattle.replies.specs.declared.Reply.TheVariants.{Refused, Cover, Stop, Parts, Needs, NoCover}
@@ -28,9 +29,22 @@ abbrev pub asked_of : ℕ → ℕ → Asked
 asked_of zero limit = At limit
 asked_of (suc other) limit = Within most_trials
 
--- The lowest bit says whether class bytes are brought, the next whether a list of vans is.
+-- Which lists a number names: the lowest bit says whether class bytes are brought, the next whether a list of vans is.
+pub record Lists : Type 0 where
+  pub classes : Bool
+  pub vans : Bool
+
 abbrev pub lists_of : ℕ → Lists
 lists_of brought = record { classes = eqb (brought % 2) 1; vans = eqb (brought / 2 % 2) 1 }
+
+-- A list where a bit says that it is brought: one of no bytes is a list, and one that is not brought is not read.
+abbrev pub brought : Bool → List ℕ → Option (List ℕ)
+brought true list = some list
+brought false list = none
+
+-- The question with those lists that are brought.
+abbrev pub asks_with : Kind → ℕ → List ℕ → Lists → List ℕ → List ℕ → Question
+asks_with kind k b lists classes vans = with_lists (asks kind k b) (brought lists.classes classes) (brought lists.vans vans)
 
 -- What the question with a number of trials says: what its reply does, but 5 where the trials are spent; and behind a cover's values the trials made, the
 -- floor, and 1 where they are spent, 0 where not.
@@ -51,7 +65,7 @@ said_of (rules.yes heaviest) = said 0 (heaviest ∷ [])
 said_of (rules.number number) = said number []
 
 -- The program's verdict.
-abbrev pub saying_of : Verdict → Said
+abbrev pub saying_of : Result ℕ Refusal → Said
 saying_of verdict = said_of (check.says verdict)
 
 -- The case's values, from the first on; those behind stay as they came.

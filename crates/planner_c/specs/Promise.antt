@@ -1,9 +1,9 @@
 -- What the exported functions promise on every input, refused ones too: the number returned and the values written are those of a reply,
 -- of which all that the planner promises holds, for the lent bytes as they are before and after.
 -- Assumes nothing.
-use Rattle.std.specs.Prelude.{ℕ, zero, suc, ◌≡◌, List}
+use Rattle.std.specs.Prelude.{ℕ, zero, suc, ◌≡◌, List, Result}
 use Rattle.rules.specs.Questions.{Question}
-use Rattle.filed.specs.declared.check.Verdict.{Verdict}
+use Rattle.admit.specs.declared.refusal.Refusal.{Refusal}
 use Rattle.filed.specs.Promise.{CheckPromise}
 use Rattle.replies.specs.declared.Reply.{Reply}
 use Rattle.replies.specs.declared.Told.{Told}
@@ -41,14 +41,14 @@ pub record WithinExported (q : Question) (p : ℕ) (values values_after before a
 
 -- The check of a filed cover.
 pub record CheckExported (q : Question) (c values values_after : List ℕ) (r : ℕ) : Type 0 where
-  pub verdict : Verdict
+  pub verdict : Result ℕ Refusal
   pub promise : CheckPromise q c verdict
   pub number : r ≡ (saying_of verdict).number
   pub puts : Puts (saying_of verdict) values values_after
 
 -- The walk along a tree of a filed cover.
 pub record WalkExported (q : Question) (c : List ℕ) (tree : ℕ) (values values_after before after : List ℕ) (r : ℕ) : Type 0 where
-  pub walked : Walked
+  pub walked : Result Walked Refusal
   pub promise : walks.WalkPromise q c tree before after walked
   pub number : r ≡ (walks.says walked).number
   pub puts : Puts (walks.says walked) values values_after

@@ -4,14 +4,14 @@
 
 pub mod said;
 
-ghost use Rattle.admit.specs.Crews.{asks, asks_with};
-ghost use Rattle.planner_c.specs.Numbers.{kind_of, lists_of};
+ghost use Rattle.admit.specs.Crews.{asks};
+ghost use Rattle.planner_c.specs.Numbers.{kind_of, lists_of, asks_with};
 ghost use Rattle.planner_c.specs.Promise.{AskExported, TrialExported, BestExported, WithinExported, CheckExported, WalkExported};
 
 use crate::said::{
-    asked_of, kind_of, lists_of, number_told, put_heaviest, put_told, put_values, put_walk,
+    asked_of, kind_of, number_told, put_heaviest, put_told, put_values, put_walk, question_of,
 };
-use admit::brought::NO_LISTS;
+use admit::question::Question;
 use asking::ask::Asked;
 use closed_walk::walk::walk;
 use filed::check::check;
@@ -84,17 +84,8 @@ pub extern "C" fn planner_walk(
     ensures { WalkExported (asks (kind_of kind) k graph.now) cover.now tree
         values.old values.new buffer.old buffer.new result }
 {
-    let walked = walk(
-        kind_of(kind),
-        k,
-        graph,
-        cover,
-        tree,
-        buffer,
-        NO_LISTS,
-        &[],
-        &[],
-    );
+    let question = Question::new(kind_of(kind), k, graph);
+    let walked = walk(&question, cover, tree, buffer);
     put_walk(walked, values);
     closed_walk::walk::number_of(walked)
 }
@@ -117,17 +108,8 @@ pub extern "C" fn planner_ask(
         classes.now vans.now) values.old values.new buffer.old
         buffer.new result }
 {
-    let question = asked_of(asked, limit);
-    let told = ask(
-        question,
-        kind_of(kind),
-        k,
-        graph,
-        buffer,
-        lists_of(brought),
-        classes,
-        vans,
-    );
+    let question = question_of(kind, k, graph, brought, classes, vans);
+    let told = ask(asked_of(asked, limit), &question, buffer);
     let reply = told.reply;
     put_values(reply, values);
     number_of(reply)
@@ -151,16 +133,8 @@ pub extern "C" fn planner_within(
         classes.now vans.now) trials values.old values.new
         buffer.old buffer.new result }
 {
-    let told = ask(
-        Asked::Within(trials),
-        kind_of(kind),
-        k,
-        graph,
-        buffer,
-        lists_of(brought),
-        classes,
-        vans,
-    );
+    let question = question_of(kind, k, graph, brought, classes, vans);
+    let told = ask(Asked::Within(trials), &question, buffer);
     put_told(told, values);
     number_told(told)
 }
@@ -181,15 +155,8 @@ pub extern "C" fn planner_verify(
         classes.now vans.now) cover.now values.old values.new
         result }
 {
-    let verdict = check(
-        kind_of(kind),
-        k,
-        graph,
-        cover,
-        lists_of(brought),
-        classes,
-        vans,
-    );
+    let question = question_of(kind, k, graph, brought, classes, vans);
+    let verdict = check(&question, cover);
     put_heaviest(verdict, values);
     filed::check::number_of(verdict)
 }
@@ -212,17 +179,8 @@ pub extern "C" fn planner_route(
         classes.now vans.now) cover.now tree values.old
         values.new buffer.old buffer.new result }
 {
-    let walked = walk(
-        kind_of(kind),
-        k,
-        graph,
-        cover,
-        tree,
-        buffer,
-        lists_of(brought),
-        classes,
-        vans,
-    );
+    let question = question_of(kind, k, graph, brought, classes, vans);
+    let walked = walk(&question, cover, tree, buffer);
     put_walk(walked, values);
     closed_walk::walk::number_of(walked)
 }

@@ -3,14 +3,13 @@
 ghost use Rattle.std.specs.Prelude.{◌≤◌, ◌≡◌, length};
 ghost use Rattle.replies.specs.Replies.{says};
 ghost use Rattle.closed_walk.specs.Promise as walks;
-ghost use Rattle.planner_c.specs.Numbers.{kind_of, asked_of, lists_of, says_told, saying_of, Puts};
+ghost use Rattle.planner_c.specs.Numbers.{kind_of, asked_of, lists_of, asks_with, says_told, saying_of, Puts};
 
-use admit::brought::Lists;
 use admit::crews::Kind;
-use admit::refusal::MOST_TRIALS;
+use admit::question::Question;
+use admit::refusal::{MOST_TRIALS, Refusal};
 use asking::ask::Asked;
 use closed_walk::walk::Walked;
-use filed::check::Verdict;
 use replies::{Reply, Told, bit, number_of};
 
 // The kind that a number names: 0 rooted, every other unrooted.
@@ -33,14 +32,22 @@ pub(crate) fn asked_of(asked: u32, limit: u64) -> Asked
     }
 }
 
-// The lists that a number names, a bit for each: 1 the class bytes, 2 the vans.
-pub(crate) fn lists_of(brought: u32) -> Lists
-    ensures { result ≡ lists_of brought }
+// The question that is brought as numbers and bytes. A number names the lists, a bit for each: 1 the class bytes, 2 the
+// vans. One that it does not name is not read.
+pub(crate) fn question_of<'a>(
+    kind: u32,
+    k: usize,
+    graph: &'a [u8],
+    brought: u32,
+    classes: &'a [u8],
+    vans: &'a [u8],
+) -> Question<'a>
+    ensures { result ≡ asks_with (kind_of kind) k graph.now (lists_of brought) classes.now vans.now }
 {
-    Lists {
-        classes: brought % 2 == 1,
-        vans: brought / 2 % 2 == 1,
-    }
+    let plain = Question::new(kind_of(kind), k, graph);
+    let surfaces = (brought % 2 == 1).then_some(classes);
+    let starts = (brought / 2 % 2 == 1).then_some(vans);
+    plain.with_lists(surfaces, starts)
 }
 
 // Writes the values of a reply's case, from the first on.
@@ -97,28 +104,22 @@ pub(crate) fn number_told(told: Told) -> u32
 }
 
 // Writes the heaviest weight as the first value, where the verdict is yes.
-pub(crate) fn put_heaviest(verdict: Verdict, values: &mut [u64])
+pub(crate) fn put_heaviest(verdict: Result<u64, Refusal>, values: &mut [u64])
     requires { length values.old ≡ 3 }
     ensures { Puts (saying_of verdict) values.old values.new }
 {
-    match verdict {
-        Verdict::Yes(heaviest) => {
-            values[0] = heaviest;
-        }
-        Verdict::Refused(_) => {}
+    if let Ok(heaviest) = verdict {
+        values[0] = heaviest;
     }
 }
 
 // Writes the count of stops and the length, where there is a walk.
-pub(crate) fn put_walk(walked: Walked, values: &mut [u64])
+pub(crate) fn put_walk(walked: Result<Walked, Refusal>, values: &mut [u64])
     requires { length values.old ≡ 2 }
     ensures { Puts (walks.says walked) values.old values.new }
 {
-    match walked {
-        Walked::Walk(stops, length) => {
-            values[0] = stops as u64;
-            values[1] = length;
-        }
-        Walked::Refused(_) => {}
+    if let Ok(walk) = walked {
+        values[0] = walk.stops as u64;
+        values[1] = walk.length;
     }
 }

@@ -1,6 +1,6 @@
 -- Known and unknown questions.
 -- Assumes nothing.
-use Prim.Native.Nat.{ℕ, ◌-◌, ◌≤◌, ◌<◌}
+use Prim.Native.Nat.{ℕ, ◌-◌, ◌≤◌}
 use mathlib.Core.Path.{◌≡◌, sym, ◌∙◌}
 use mathlib.Core.Bool.{true, false}
 use mathlib.Core.List.{List, []}
@@ -8,7 +8,7 @@ use native.Mathlib.Omega.{arith}
 use lib.ListN.{length, take, drop, length-drop}
 use lib.Seq.{take_all}
 use lib.Dec.{ltb}
-use borrow.Author.Tests.{lt-ltb, le-ltb, le-leb, lt-leb, ltb-false}
+use borrow.Author.Tests.{ltb-false}
 use Rattle.lists.proofs.Every.{first_false}
 use Rattle.graph.specs.Bytes.{graph_of}
 use Rattle.rules.specs.RootedTrial.{Choices}
@@ -19,28 +19,6 @@ use Rattle.reply_text.specs.Replies.{TextWritten, RefusalWritten}
 use Rattle.question.specs.Question.{KnownAnswered, TextAnswered}
 
 module _ (input : List ℕ) where
-  pub too_short : length input < 8 → true ≡ unknown input
-  unfolding unknown
-  too_short h = rw (lt-ltb (length input) 8 h)
-
-  module _ (long : 8 ≤ length input) where
-    pub too_long : 16396 < length input → true ≡ unknown input
-    unfolding unknown
-    too_long h = rw (le-ltb (length input) 8 long, lt-ltb 16396 (length input) h)
-
-    module _ (short : length input ≤ 16396) where
-      pub none_asked : asked_in input < 1 → true ≡ unknown input
-      unfolding unknown
-      none_asked h = rw (le-ltb (length input) 8 long, le-ltb 16396 (length input) short, lt-leb 1 (asked_in input) h)
-
-      pub beyond_asked : 1 ≤ asked_in input → 4 < asked_in input → true ≡ unknown input
-      unfolding unknown
-      beyond_asked l h = rw (le-ltb (length input) 8 long, le-ltb 16396 (length input) short, le-leb 1 (asked_in input) l, lt-leb (asked_in input) 4 h)
-
-      pub known : 1 ≤ asked_in input → asked_in input ≤ 4 → false ≡ unknown input
-      unfolding unknown
-      known l h = rw (le-ltb (length input) 8 long, le-ltb 16396 (length input) short, le-leb 1 (asked_in input) l, le-leb (asked_in input) 4 h)
-
   -- What is known is long enough for a head.
   pub known_long : unknown input ≡ false → 8 ≤ length input
   unfolding unknown

@@ -5,6 +5,7 @@ ghost use Rattle.question.specs.Question.{KnownAnswered, TextAnsweredIn, TextRoo
 
 use admit::crews::Kind;
 use admit::refusal::LEAST_ROOM;
+use graph::Graph;
 use planner::question::{best, trial};
 use replies::Reply;
 use reply_text::reply::{write_refused, write_reply};
@@ -13,20 +14,11 @@ use reply_text::reply::{write_refused, write_reply};
 fn unknown(input: &[u8]) -> bool
     ensures { result ≡ unknownIn input.now }
 {
-    if input.len() < 8 {
-        return true;
-    }
-    if 16396 < input.len() {
+    if input.len() < 8 || 16396 < input.len() {
         return true;
     }
     let asked = graph::u16_at(input, 0);
-    if asked < 1 {
-        return true;
-    }
-    if 4 < asked {
-        return true;
-    }
-    false
+    asked < 1 || 4 < asked
 }
 
 // The reply to a known question on a graph's bytes: 1 rooted trial, 2 unrooted trial, 3 rooted best, 4 unrooted best.
@@ -34,16 +26,12 @@ fn reply_to(asked: usize, k: usize, limit: u64, b: &[u8], buf: &mut [u8]) -> Rep
     ensures { KnownAnswered (is_trial asked) (question (kind_in asked) k b.now) limit buf.old
         buf.new result }
 {
-    if asked == 1 {
-        return trial(Kind::Rooted, k, limit, b, buf);
+    match asked {
+        1 => trial(Kind::Rooted, k, limit, b, buf),
+        2 => trial(Kind::Unrooted, k, limit, b, buf),
+        3 => best(Kind::Rooted, k, b, buf),
+        _ => best(Kind::Unrooted, k, b, buf),
     }
-    if asked == 2 {
-        return trial(Kind::Unrooted, k, limit, b, buf);
-    }
-    if asked == 3 {
-        return best(Kind::Rooted, k, b, buf);
-    }
-    best(Kind::Unrooted, k, b, buf)
 }
 
 // The text of the answer, with a buffer for the cover.
@@ -60,7 +48,7 @@ fn answer_in(input: &[u8], buf: &mut [u8], out: &mut [u8]) -> usize
     let limit = graph::u32_at(input, 4);
     let b = &input[8..];
     let reply = reply_to(asked, k, limit, b, buf);
-    write_reply(b, reply, buf, out, &[])
+    write_reply(&Graph::new(b, &[]), reply, buf, out)
 }
 
 // All that the program does: the text of the answer, as the first bytes of `out`. Says how many. Where `out` is too

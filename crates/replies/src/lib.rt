@@ -65,5 +65,5 @@ pub fn number_of(reply: Reply) -> u32
 pub fn bit(is: bool) -> u64
     ensures { result ≡ bit_of is }
 {
-    if is { 1 } else { 0 }
+    u64::from(is)
 }

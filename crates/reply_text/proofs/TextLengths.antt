@@ -1,6 +1,6 @@
 -- How long texts are: a number of 64 bits has at most 20 digits.
 -- Assumes nothing.
-use Prim.Native.Nat.{ℕ, ◌+◌, ◌^◌, ◌≤◌, ◌<◌}
+use Prim.Native.Nat.{ℕ, ◌^◌, ◌≤◌, ◌<◌}
 use mathlib.Core.Path.{◌≡◌, ap, ◌∙◌}
 use mathlib.Core.List.{List, [], ◌∷◌, ◌++◌, append_assoc}
 use native.Mathlib.Omega.{arith}
@@ -23,18 +23,6 @@ module _ (x : ℕ) (small : x < 2 ^ 64) where
   pub last_few : length (ended (x ∷ [])) ≤ 22
   last_few = omega (arith, spaced_few, ap length (ended_one x), length-append (spaced x) (bytes_of "\n"))
 
--- The text of a deficient set: from the number of roots on, and from the number of parts on.
-module _ (parts roots : ℕ) where
-  abbrev pub from_yards : List ℕ
-  from_yards = line " yards" (roots ∷ [])
-
-  abbrev pub from_parts : List ℕ
-  from_parts = spaced parts ++ from_yards
-
-  pub parts_room : {n : ℕ} → parts < 2 ^ 64 → roots < 2 ^ 64 → 62 ≤ n → 0 + length (bytes_of "too low parts" ++ from_parts) ≤ n
-  unfolding line
-  parts_room p r room = omega (arith, spaced_few parts p, last_few roots r, length-append (spaced parts) from_yards)
-
 -- The parts of a cover's text: from the heaviest weight on, and from the limit on.
 module _ (g : Graph) (limit heaviest t : ℕ) (c : List ℕ) where
   abbrev pub trees : List ℕ
@@ -55,16 +43,3 @@ module _ (g : Graph) (limit heaviest t : ℕ) (c : List ℕ) where
       ap (λ l. (bytes_of "cover" ++ l) ++ trees) (ended_next limit (heaviest ∷ t ∷ []) ∙ ap (λ l. spaced limit ++ l) (ended_next heaviest (t ∷ [])))
       ∙ ap (λ l. bytes_of "cover" ++ l)
       (append_assoc (spaced limit) (spaced heaviest ++ ended (t ∷ [])) trees ∙ ap (λ l. spaced limit ++ l) (append_assoc (spaced heaviest) (ended (t ∷ [])) trees))
-
-  -- so much room is enough
-  pub cover_room : {n : ℕ} → limit < 2 ^ 64 → heaviest < 2 ^ 64 → t < 2 ^ 64 → 69 + length trees ≤ n → 0 + length (bytes_of "cover" ++ from_limit) ≤ n
-  cover_room l h k room =
-      omega (
-        arith,
-        spaced_few limit l,
-        spaced_few heaviest h,
-        last_few t k,
-        length-append (spaced limit) from_heaviest,
-        length-append (spaced heaviest) from_count,
-        length-append (ended (t ∷ [])) trees,
-      )

@@ -8,14 +8,9 @@ pub fn put_word(word: &[u8], out: &mut [u8], at: usize) -> usize
     requires { at + length word.now ≤ length out.old }
     ensures { PutTo at word.now out.old out.new result }
 {
-    let mut next = at;
-    let mut i = 0;
-    while i < word.len() {
-        out[next] = word[i];
-        next += 1;
-        i += 1;
-    }
-    next
+    let end = at + word.len();
+    out[at..end].copy_from_slice(word);
+    end
 }
 
 // The decimal digits of a number, from a place on: those of its tenth, then the last. It calls itself once for each

@@ -9,6 +9,7 @@ ghost use Rattle.reply_text.specs.Trees.{TreesAsked};
 use crate::lines::{put_last, put_line, put_spaced, put_word};
 use crate::trees::put_trees;
 use cover::read::cover_length;
+use graph::Graph;
 use replies::Reply;
 
 // A line of a word and a number, at the front. A number has at most 20 digits.
@@ -39,30 +40,22 @@ fn write_parts(parts: u64, roots: u64, out: &mut [u8]) -> usize
 }
 
 // `cover` limit heaviest t, at most 69 bytes, then the lines of the trees.
-fn write_cover(
-    b: &[u8],
-    limit: u64,
-    heaviest: u64,
-    t: u64,
-    c: &[u8],
-    out: &mut [u8],
-    classes: &[u8],
-) -> usize
-    requires { TreesAsked (graph_of b.now classes.now) c.now 69 (length out.old) }
-    ensures { PutTo 0 (cover_text (graph_of b.now classes.now) limit heaviest t
+fn write_cover(g: &Graph, limit: u64, heaviest: u64, t: u64, c: &[u8], out: &mut [u8]) -> usize
+    requires { TreesAsked g.now c.now 69 (length out.old) }
+    ensures { PutTo 0 (cover_text g.now limit heaviest t
         c.now) out.old out.new result }
 {
     let behind_word = put_word(b"cover", out, 0);
     let behind_limit = put_spaced(limit, out, behind_word);
     let behind_heaviest = put_spaced(heaviest, out, behind_limit);
     let behind_head = put_last(t, out, behind_heaviest);
-    put_trees(b, c, out, behind_head, classes)
+    put_trees(g, c, out, behind_head)
 }
 
 // The text of a reply, as the first bytes of `out`. Says how many. A cover's trees are read from the buffer.
-pub fn write_reply(b: &[u8], reply: Reply, buf: &[u8], out: &mut [u8], classes: &[u8]) -> usize
-    requires { TextAsked (graph_of b.now classes.now) reply buf.now (length out.old) }
-    ensures { TextWritten (graph_of b.now classes.now) reply buf.now
+pub fn write_reply(g: &Graph, reply: Reply, buf: &[u8], out: &mut [u8]) -> usize
+    requires { TextAsked g.now reply buf.now (length out.old) }
+    ensures { TextWritten g.now reply buf.now
         out.old out.new result }
 {
     match reply {
@@ -71,7 +64,7 @@ pub fn write_reply(b: &[u8], reply: Reply, buf: &[u8], out: &mut [u8], classes: 
         }
         Reply::Cover(limit, heaviest, t) => {
             let end = cover_length(buf);
-            return write_cover(b, limit, heaviest, t as u64, &buf[..end], out, classes);
+            return write_cover(g, limit, heaviest, t as u64, &buf[..end], out);
         }
         Reply::Stop(v) => {
             return write_line(b"too low stop", v as u64, out);

@@ -13,6 +13,7 @@ use crate::lines::{put_spaced, put_word};
 use cover::heaviest::run_weight;
 use cover::read::{entry_edge, start_in, trees_in};
 use cover::runs::run_end;
+use graph::Graph;
 
 // The edges of a run of entries, each behind a space, from a place on.
 fn put_run(c: &[u8], from: usize, to: usize, out: &mut [u8], at: usize) -> usize
@@ -20,30 +21,27 @@ fn put_run(c: &[u8], from: usize, to: usize, out: &mut [u8], at: usize) -> usize
     ensures { PutTo at (all_spaced (run_edges c.now from to)) out.old out.new result }
 {
     let mut next = at;
-    let mut i = from;
-    while i < to {
+    for i in from..to {
         next = put_spaced(entry_edge(c, i) as u64, out, next);
-        i += 1;
     }
     next
 }
 
 // The line of tree j, whose entries are the run, from a place on.
 fn put_tree(
-    b: &[u8],
+    g: &Graph,
     c: &[u8],
     j: usize,
     from: usize,
     to: usize,
     out: &mut [u8],
     at: usize,
-    classes: &[u8],
 ) -> usize
-    requires { TreeTextAsked (graph_of b.now classes.now) c.now j from to at (length out.old) }
-    ensures { PutTo at (tree_line (graph_of b.now classes.now) (run_tree c.now j
+    requires { TreeTextAsked g.now c.now j from to at (length out.old) }
+    ensures { PutTo at (tree_line g.now (run_tree c.now j
         from to)) out.old out.new result }
 {
-    let weight = run_weight(b, c, from, to, classes);
+    let weight = run_weight(g, c, from, to);
     let behind_word = put_word(b"tree", out, at);
     let behind_start = put_spaced(start_in(c, j) as u64, out, behind_word);
     let behind_weight = put_spaced(weight, out, behind_start);
@@ -52,20 +50,17 @@ fn put_tree(
 }
 
 // The lines of all trees of a cover, from a place on.
-pub(crate) fn put_trees(b: &[u8], c: &[u8], out: &mut [u8], at: usize, classes: &[u8]) -> usize
-    requires { TreesAsked (graph_of b.now classes.now) c.now at (length out.old) }
-    ensures { PutTo at (tree_lines (graph_of b.now classes.now) (decode c.now))
+pub(crate) fn put_trees(g: &Graph, c: &[u8], out: &mut [u8], at: usize) -> usize
+    requires { TreesAsked g.now c.now at (length out.old) }
+    ensures { PutTo at (tree_lines g.now (decode c.now))
         out.old out.new result }
 {
-    let t = trees_in(c);
     let mut next = at;
     let mut from = 0;
-    let mut j = 0;
-    while j < t {
+    for j in 0..trees_in(c) {
         let to = run_end(c, j, from);
-        next = put_tree(b, c, j, from, to, out, next, classes);
+        next = put_tree(g, c, j, from, to, out, next);
         from = to;
-        j += 1;
     }
     next
 }

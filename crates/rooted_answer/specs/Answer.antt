@@ -32,10 +32,11 @@ pub record JoinedLent (g : Graph) (roots : List ℕ) (limit : ℕ) (order bounds
   pub rows_room : g.vertices * length roots ≤ length rows
   pub edges_fit : length roots * g.vertices ≤ edges_room
 
--- The same without them, where vertices and roots are so few that small arrays are enough.
-pub record JoinedSmall (g : Graph) (roots : List ℕ) (limit : ℕ) (order bounds arcs distances lasts : List ℕ) (room : ℕ) : Type 0 where
+-- The same without them, where vertices and roots are so few that arrays of that size are enough.
+pub record JoinedFits (g : Graph) (roots : List ℕ) (limit : ℕ) (order bounds arcs distances lasts : List ℕ) (size room : ℕ) : Type 0 where
   pub asked : JoinedAsked g roots limit order bounds arcs distances lasts room
-  pub small : g.vertices * length roots ≤ 512
+  pub fits : g.vertices * length roots ≤ size
+  pub size_most : size ≤ 8192
 
 -- What is asked where the parts are placed: what a cover is made by, and the arrays of the trial, with a row for each part.
 pub record PlacedGiven (g : Graph) (roots : List ℕ) (limit : ℕ) (order distances lasts : List ℕ) (a : TrialArrays) (parts : ℕ) (assigned : Bool)

@@ -5,14 +5,16 @@
 #![tactic(auto)]
 
 ghost use Rattle.std.specs.Prelude.{length};
-ghost use Rattle.graph.specs.Bytes.{graph_of};
 ghost use Rattle.rules.specs.Cover.{rooted};
 ghost use Rattle.replies.specs.Replies.{Answers};
-ghost use Rattle.rooted_answer.specs.Answer.{RootedAnswerAsked, JoinedAsked, JoinedLent, JoinedReplied, JoinedSmall, PlacedGiven, PlacedReplied};
+ghost use Rattle.rooted_answer.specs.Answer.{RootedAnswerAsked, JoinedAsked, JoinedLent, JoinedReplied, JoinedFits, PlacedGiven, PlacedReplied};
 ghost use Rattle.rooted_state.specs.Placed.{trial_arrays};
 
+use cover::index::Pieces;
 use deficient::reply_deficient;
-use forest::lowest::Found;
+use distance_table::table::Table;
+use edges::around::Around;
+use graph::Graph;
 use pieces::whole::{light_forest, stop_at};
 use replies::Reply;
 use rooted_cover::cover_trees::write_rooted;
@@ -20,15 +22,12 @@ use rooted_parts::parts::{Placed, place_parts};
 
 // The answer where the parts are placed: the cover where each has a root of its own, and otherwise a deficient set.
 fn answer_placed(
-    b: &[u8],
+    g: &Graph,
     roots: &[u16],
     limit: u64,
     order: &[u16],
-    distances: &[u32],
-    lasts: &[u32],
-    starts: &[u16],
-    cuts: &[u16],
-    members: &[u16],
+    table: Table,
+    pieces: Pieces,
     lefts: &[u16],
     places: &[u16],
     rows: &[u8],
@@ -36,67 +35,49 @@ fn answer_placed(
     placed: Placed,
     edges: &mut [u16],
     buf: &mut [u8],
-    classes: &[u8],
 ) -> Reply
-    requires { PlacedGiven (graph_of b.now classes.now) roots.now limit order.now distances.now lasts.now
-        (trial_arrays starts.now cuts.now members.now lefts.now places.now rows.now assignment.now)
+    requires { PlacedGiven g.now roots.now limit order.now table.distances.now table.lasts.now
+        (trial_arrays pieces.starts.now pieces.cuts.now pieces.members.now lefts.now places.now rows.now assignment.now)
         placed.parts placed.assigned
         (length edges.old) (length buf.old) }
-    ensures { PlacedReplied (graph_of b.now classes.now) roots.now limit
+    ensures { PlacedReplied g.now roots.now limit
         edges.old edges.new buf.old buf.new result }
 {
     let k = roots.len();
     if placed.assigned {
         let heaviest = write_rooted(
-            b,
+            g,
             order,
-            distances,
-            lasts,
+            table,
             roots,
-            starts,
-            cuts,
-            members,
+            pieces,
             lefts,
             places,
             placed.parts,
             assignment,
             edges,
             buf,
-            classes,
         );
         return Reply::Cover(limit, heaviest, k);
     }
-    reply_deficient(
-        starts,
-        cuts,
-        members,
-        places,
-        placed.parts,
-        rows,
-        assignment,
-        k,
-        buf,
-    )
+    reply_deficient(pieces, places, placed.parts, rows, assignment, k, buf)
 }
 
 // The answer where every vertex is joined to a root.
 fn answer_parts(
-    b: &[u8],
+    g: &Graph,
     roots: &[u16],
     limit: u64,
     order: &[u16],
-    bounds: &[u16],
-    arcs: &[u64],
-    distances: &[u32],
-    lasts: &[u32],
+    around: Around,
+    table: Table,
     rows: &mut [u8],
     edges: &mut [u16],
     buf: &mut [u8],
-    classes: &[u8],
 ) -> Reply
-    requires { JoinedLent (graph_of b.now classes.now) roots.now limit order.now bounds.now arcs.now
-        distances.now lasts.now rows.old (length edges.old) (length buf.old) }
-    ensures { JoinedReplied (graph_of b.now classes.now) roots.now limit
+    requires { JoinedLent g.now roots.now limit order.now around.bounds.now around.arcs.now
+        table.distances.now table.lasts.now rows.old (length edges.old) (length buf.old) }
+    ensures { JoinedReplied g.now roots.now limit
         rows.old rows.new edges.old edges.new buf.old
         buf.new result }
 {
@@ -107,12 +88,11 @@ fn answer_parts(
     let mut places = [0u16; 256];
     let mut assignment = [0u8; 256];
     let placed = place_parts(
-        b,
+        g,
         roots,
         limit,
-        bounds,
-        arcs,
-        distances,
+        around,
+        table.distances,
         &mut starts,
         &mut cuts,
         &mut members,
@@ -120,18 +100,18 @@ fn answer_parts(
         &mut places,
         rows,
         &mut assignment,
-        classes,
     );
     answer_placed(
-        b,
+        g,
         roots,
         limit,
         order,
-        distances,
-        lasts,
-        &starts,
-        &cuts,
-        &members,
+        table,
+        Pieces {
+            starts: &starts,
+            cuts: &cuts,
+            members: &members,
+        },
         &lefts,
         &places,
         rows,
@@ -139,94 +119,55 @@ fn answer_parts(
         placed,
         edges,
         buf,
-        classes,
     )
 }
 
-// Lends arrays that few vertices and roots fit in.
-fn answer_small(
-    b: &[u8],
+// Lends arrays of a length that has a place for each vertex and each root.
+fn answer_sized<const LENGTH: usize>(
+    g: &Graph,
     roots: &[u16],
     limit: u64,
     order: &[u16],
-    bounds: &[u16],
-    arcs: &[u64],
-    distances: &[u32],
-    lasts: &[u32],
+    around: Around,
+    table: Table,
     buf: &mut [u8],
-    classes: &[u8],
 ) -> Reply
-    requires { JoinedSmall (graph_of b.now classes.now) roots.now limit order.now bounds.now arcs.now
-        distances.now lasts.now (length buf.old) }
-    ensures { Answers (graph_of b.now classes.now) (rooted roots.now) limit
+    requires { JoinedFits g.now roots.now limit order.now around.bounds.now around.arcs.now
+        table.distances.now table.lasts.now LENGTH (length buf.old) }
+    ensures { Answers g.now (rooted roots.now) limit
         buf.old buf.new result }
 {
-    let mut rows = [0u8; 512];
-    let mut edges = [0u16; 512];
+    let mut rows = [0u8; LENGTH];
+    let mut edges = [0u16; LENGTH];
     answer_parts(
-        b, roots, limit, order, bounds, arcs, distances, lasts, &mut rows, &mut edges, buf, classes,
-    )
-}
-
-// Lends arrays that every graph and all roots fit in.
-fn answer_full(
-    b: &[u8],
-    roots: &[u16],
-    limit: u64,
-    order: &[u16],
-    bounds: &[u16],
-    arcs: &[u64],
-    distances: &[u32],
-    lasts: &[u32],
-    buf: &mut [u8],
-    classes: &[u8],
-) -> Reply
-    requires { JoinedAsked (graph_of b.now classes.now) roots.now limit order.now bounds.now arcs.now
-        distances.now lasts.now (length buf.old) }
-    ensures { Answers (graph_of b.now classes.now) (rooted roots.now) limit
-        buf.old buf.new result }
-{
-    let mut rows = [0u8; 8192];
-    let mut edges = [0u16; 8192];
-    answer_parts(
-        b, roots, limit, order, bounds, arcs, distances, lasts, &mut rows, &mut edges, buf, classes,
+        g, roots, limit, order, around, table, &mut rows, &mut edges, buf,
     )
 }
 
 // The answer at a limit. Its arrays are small where that is enough, since setting them to zero is much of what an
 // answer about a small graph costs.
 pub fn answer_rooted(
-    b: &[u8],
+    g: &Graph,
     roots: &[u16],
     limit: u64,
     order: &[u16],
     kept: &[u16],
-    bounds: &[u16],
-    arcs: &[u64],
-    distances: &[u32],
-    lasts: &[u32],
+    around: Around,
+    table: Table,
     buf: &mut [u8],
-    classes: &[u8],
 ) -> Reply
-    requires { RootedAnswerAsked (graph_of b.now classes.now) roots.now limit order.now kept.now bounds.now
-        arcs.now distances.now lasts.now (length buf.old) }
-    ensures { Answers (graph_of b.now classes.now) (rooted roots.now) limit
+    requires { RootedAnswerAsked g.now roots.now limit order.now kept.now around.bounds.now
+        around.arcs.now table.distances.now table.lasts.now (length buf.old) }
+    ensures { Answers g.now (rooted roots.now) limit
         buf.old buf.new result }
 {
-    let light = light_forest(b, kept, limit, classes);
+    let light = light_forest(g, kept, limit);
     let mut label = [0u16; 256];
-    let found = stop_at(b, roots, &kept[..light], &mut label, classes);
-    match found {
-        Found::At(v) => Reply::Stop(v),
-        Found::Nothing => {
-            if graph::vertex_count(b, classes) * roots.len() <= 512 {
-                return answer_small(
-                    b, roots, limit, order, bounds, arcs, distances, lasts, buf, classes,
-                );
-            }
-            answer_full(
-                b, roots, limit, order, bounds, arcs, distances, lasts, buf, classes,
-            )
-        }
+    if let Some(v) = stop_at(g, roots, &kept[..light], &mut label) {
+        return Reply::Stop(v);
     }
+    if g.vertex_count() * roots.len() <= 512 {
+        return answer_sized::<512>(g, roots, limit, order, around, table, buf);
+    }
+    answer_sized::<8192>(g, roots, limit, order, around, table, buf)
 }

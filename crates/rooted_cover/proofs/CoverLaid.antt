@@ -27,7 +27,6 @@ use Rattle.cover_laws.proofs.CoverSize.{bytes_few}
 use Rattle.planner_laws.proofs.RootedSize.{cover_tree_few}
 use Rattle.cover.specs.Chosen.{AllHeld, HeaviestChosen, Writable}
 use Rattle.cover.proofs.ChosenFit.{bounded_held}
-use Rattle.pieces.proofs.LaidLists.{laid_none}
 use Rattle.rooted_state.specs.Prepared.{LimitReady}
 use Rattle.rooted_state.specs.Placed.{PieceArrays, PartsPlaced}
 use Rattle.rooted_cover.specs.CoverTrees.{RootTree, TreePut, TreesLaid, parts_of, CoverAsked, CoverAtLimits}
@@ -35,15 +34,6 @@ use Rattle.rooted_cover.proofs.PartPaths.{paths_for}
 use Rattle.rooted_cover.proofs.RootedChoices.{choices_of, choices_good, tree_of_cover}
 
 module _ {g : Graph} {distances lasts roots : List ℕ} {a : PieceArrays} {assignment : List ℕ} where
-  -- No tree yet, where the first bound is 0.
-  pub trees_none : (bounds edges : List ℕ) → get_or bounds 0 0 ≡ 0 → TreesLaid g distances lasts roots a assignment 0 0 bounds edges
-  trees_none bounds edges q =
-      record {
-        bounded = (laid_none (segment bounds edges) bounds edges q).bounded;
-        inside = omega arith;
-        are = λ h l. absurd (omega arith);
-      }
-
   -- One tree more.
   pub trees_more : {i at end : ℕ} {bounds edges after : List ℕ} → TreesLaid g distances lasts roots a assignment i at bounds edges → i + 1 < length bounds
       → TreePut g distances lasts roots a assignment i at edges after end

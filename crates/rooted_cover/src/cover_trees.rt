@@ -7,96 +7,87 @@ ghost use Rattle.rooted_cover.specs.CoverTrees.{TreeGivenAt, TreePut, LayRootsGi
 
 use crate::tree::rooted_tree;
 use cover::heaviest::heaviest_chosen;
-use cover::index::number_at;
+use cover::index::{Pieces, number_at};
 use cover::write::write_cover;
+use distance_table::table::Table;
 use edges::index::wide;
+use graph::Graph;
 use pieces::pieces::number_up;
 
 // Puts the edges of root j's tree into the array from a place on. Says where they end.
 fn put_tree(
-    b: &[u8],
+    g: &Graph,
     order: &[u16],
-    distances: &[u32],
-    lasts: &[u32],
+    table: Table,
     roots: &[u16],
-    starts: &[u16],
-    cuts: &[u16],
-    members: &[u16],
+    pieces: Pieces,
     lefts: &[u16],
     places: &[u16],
     assignment: &[u8],
     j: usize,
     edges: &mut [u16],
     at: usize,
-    classes: &[u8],
 ) -> usize
-    requires { TreeGivenAt (graph_of b.now classes.now) order.now distances.now lasts.now roots.now
-        (arrays_of starts.now cuts.now members.now lefts.now places.now) assignment.now j at
+    requires { TreeGivenAt g.now order.now table.distances.now table.lasts.now roots.now
+        (arrays_of pieces.starts.now pieces.cuts.now pieces.members.now lefts.now places.now) assignment.now j at
         (length edges.old) }
-    ensures { TreePut (graph_of b.now classes.now) distances.now
-        lasts.now roots.now (arrays_of starts.now cuts.now
-        members.now lefts.now places.now) assignment.now j at
+    ensures { TreePut g.now table.entry.distances.now
+        table.entry.lasts.now roots.now (arrays_of pieces.entry.starts.now pieces.entry.cuts.now
+        pieces.entry.members.now lefts.now places.now) assignment.now j at
         edges.old edges.new result }
 {
-    let n = graph::vertex_count(b, classes);
+    let n = g.vertex_count();
     let root = wide(roots[j]);
     let left = number_at(lefts, j) as u16;
     let from = j * n;
     let to = from + n;
+    let row = Table {
+        distances: &table.distances[from..to],
+        lasts: &table.lasts[from..to],
+    };
     let r = rooted_tree(
-        b,
+        g,
         order,
-        &distances[from..to],
-        &lasts[from..to],
+        row,
         root,
-        starts,
-        cuts,
-        members,
+        pieces,
         left,
         places,
         assignment,
         j,
         &mut edges[at..],
-        classes,
     );
     at + r
 }
 
 // The edges of the trees of all roots, each tree's rising, laid one tree after the other.
 fn lay_trees(
-    b: &[u8],
+    g: &Graph,
     order: &[u16],
-    distances: &[u32],
-    lasts: &[u32],
+    table: Table,
     roots: &[u16],
-    starts: &[u16],
-    cuts: &[u16],
-    members: &[u16],
+    pieces: Pieces,
     lefts: &[u16],
     places: &[u16],
     assignment: &[u8],
     bounds: &mut [u16],
     edges: &mut [u16],
-    classes: &[u8],
 )
-    requires { LayRootsGiven (graph_of b.now classes.now) order.now distances.now lasts.now roots.now
-        (arrays_of starts.now cuts.now members.now lefts.now places.now) assignment.now
+    requires { LayRootsGiven g.now order.now table.distances.now table.lasts.now roots.now
+        (arrays_of pieces.starts.now pieces.cuts.now pieces.members.now lefts.now places.now) assignment.now
         (length bounds.old) (length edges.old) }
-    ensures { RootsLaid (graph_of b.now classes.now) distances.now
-        lasts.now roots.now (arrays_of starts.now cuts.now
-        members.now lefts.now places.now) assignment.now
+    ensures { RootsLaid g.now table.entry.distances.now
+        table.entry.lasts.now roots.now (arrays_of pieces.entry.starts.now pieces.entry.cuts.now
+        pieces.entry.members.now lefts.now places.now) assignment.now
         bounds.old bounds.new edges.old edges.new }
 {
     bounds[0] = 0;
     let mut at = 0;
-    let mut j = 0;
-    while j < roots.len() {
+    for j in 0..roots.len() {
         at = put_tree(
-            b, order, distances, lasts, roots, starts, cuts, members, lefts, places, assignment, j,
-            edges, at, classes,
+            g, order, table, roots, pieces, lefts, places, assignment, j, edges, at,
         );
-        j += 1;
-        bounds[j] = at as u16;
+        bounds[j + 1] = at as u16;
     }
 }
 
@@ -104,27 +95,23 @@ fn lay_trees(
 // stays. Says the weight of the heaviest tree. The trees' edges are laid in an array that is lent, since its size is
 // the caller's to choose.
 pub fn write_rooted(
-    b: &[u8],
+    g: &Graph,
     order: &[u16],
-    distances: &[u32],
-    lasts: &[u32],
+    table: Table,
     roots: &[u16],
-    starts: &[u16],
-    cuts: &[u16],
-    members: &[u16],
+    pieces: Pieces,
     lefts: &[u16],
     places: &[u16],
     parts: usize,
     assignment: &[u8],
     edges: &mut [u16],
     buf: &mut [u8],
-    classes: &[u8],
 ) -> u64
-    requires { CoverAsked (graph_of b.now classes.now) order.now distances.now lasts.now roots.now
-        (arrays_of starts.now cuts.now members.now lefts.now places.now) parts assignment.now
+    requires { CoverAsked g.now order.now table.distances.now table.lasts.now roots.now
+        (arrays_of pieces.starts.now pieces.cuts.now pieces.members.now lefts.now places.now) parts assignment.now
         (length edges.old) (length buf.old) }
-    ensures { RootedWritten (graph_of b.now classes.now) roots.now (arrays_of
-        starts.now cuts.now members.now lefts.now places.now)
+    ensures { RootedWritten g.now roots.now (arrays_of
+        pieces.entry.starts.now pieces.entry.cuts.now pieces.entry.members.now lefts.now places.now)
         parts assignment.now
         edges.old edges.new buf.old buf.new result }
 {
@@ -132,23 +119,24 @@ pub fn write_rooted(
     let mut numbers = [0u16; 32];
     let k = roots.len();
     lay_trees(
-        b,
+        g,
         order,
-        distances,
-        lasts,
+        table,
         roots,
-        starts,
-        cuts,
-        members,
+        pieces,
         lefts,
         &places[..parts],
         assignment,
         &mut bounds,
         edges,
-        classes,
     );
     number_up(k, &mut numbers);
-    let heaviest = heaviest_chosen(b, &bounds, edges, &numbers[..k], classes);
-    write_cover(buf, roots, &bounds, edges, &numbers[..k]);
+    let heaviest = heaviest_chosen(g, &bounds, edges, &numbers[..k]);
+    let trees = Pieces {
+        starts: roots,
+        cuts: &bounds,
+        members: edges,
+    };
+    write_cover(buf, trees, &numbers[..k]);
     heaviest
 }

@@ -12,7 +12,7 @@ ghost use Rattle.rules.specs.Search.{accepts, no_cover_exists};
 ghost use Rattle.rooted_parts.specs.Near.{PartsNearPut};
 ghost use Rattle.rooted_decide.specs.Decide.{NoCoverAsked, RootedDecisionAsked, CountReady, FewReady, NearReady};
 
-use forest::lowest::Found;
+use graph::Graph;
 use near::parts::near_parts;
 use near::rows::put_rows;
 use pieces::whole::{light_forest, stop_at};
@@ -21,54 +21,42 @@ use rooted_parts::within::roots_within;
 use steps::count::count_parts;
 
 // Whether some vertex is joined to no root by any edge ("no cover"). The whole forest joins what all edges join.
-pub fn no_cover_rooted(b: &[u8], roots: &[u16], kept: &[u16], classes: &[u8]) -> bool
-    requires { NoCoverAsked (graph_of b.now classes.now) roots.now kept.now }
-    ensures { result ≡ no_cover_exists (graph_of b.now classes.now) (rooted roots.now) }
+pub fn no_cover_rooted(g: &Graph, roots: &[u16], kept: &[u16]) -> bool
+    requires { NoCoverAsked g.now roots.now kept.now }
+    ensures { result ≡ no_cover_exists g.now (rooted roots.now) }
 {
     let mut label = [0u16; 256];
-    let found = stop_at(b, roots, kept, &mut label, classes);
-    match found {
-        Found::At(_) => true,
-        Found::Nothing => false,
-    }
+    stop_at(g, roots, kept, &mut label).is_some()
 }
 
 // For each part of the trial a word, whose bit j says whether the part may go to root j. Says how many parts there are.
 // No tree is split for them: the steps pass the vertices of each part.
 fn parts_near(
-    b: &[u8],
+    g: &Graph,
     roots: &[u16],
     limit: u64,
     distances: &[u32],
     steps: &[u64],
     parts: &mut [u32],
-    classes: &[u8],
 ) -> usize
-    requires { NearReady (graph_of b.now classes.now) roots.now limit distances.now steps.now parts.old }
-    ensures { PartsNearPut (graph_of b.now classes.now) roots.now limit
+    requires { NearReady g.now roots.now limit distances.now steps.now parts.old }
+    ensures { PartsNearPut g.now roots.now limit
         parts.old parts.new result }
 {
     let mut near = [0u32; 256];
-    roots_within(b, roots, limit, distances, &mut near, classes);
+    roots_within(g, roots, limit, distances, &mut near);
     near_parts(steps, limit, &near, parts)
 }
 
 // Whether each part of the trial gets a root of its own, where there are some parts and no more than roots. So few have
 // rows of at most 32 times 32 bytes.
-fn few_assigned(
-    b: &[u8],
-    roots: &[u16],
-    limit: u64,
-    distances: &[u32],
-    steps: &[u64],
-    classes: &[u8],
-) -> bool
-    requires { FewReady (graph_of b.now classes.now) roots.now limit distances.now steps.now }
-    ensures { result ≡ is_assignable (graph_of b.now classes.now) roots.now limit }
+fn few_assigned(g: &Graph, roots: &[u16], limit: u64, distances: &[u32], steps: &[u64]) -> bool
+    requires { FewReady g.now roots.now limit distances.now steps.now }
+    ensures { result ≡ is_assignable g.now roots.now limit }
 {
     let k = roots.len();
     let mut parts = [0u32; 32];
-    let p = parts_near(b, roots, limit, distances, steps, &mut parts, classes);
+    let p = parts_near(g, roots, limit, distances, steps, &mut parts);
     let mut rows = [0u8; 1024];
     put_rows(&parts[..p], k, &mut rows);
     let size = p * k;
@@ -79,16 +67,9 @@ fn few_assigned(
 // Whether each part of the trial gets a root of its own, where every vertex is joined to a root. The parts are counted
 // first: more than there are roots never do, and where there is none nothing is needed, so that no distance is looked
 // at for them.
-fn parts_assigned(
-    b: &[u8],
-    roots: &[u16],
-    limit: u64,
-    distances: &[u32],
-    steps: &[u64],
-    classes: &[u8],
-) -> bool
-    requires { CountReady (graph_of b.now classes.now) roots.now limit distances.now steps.now }
-    ensures { result ≡ is_assignable (graph_of b.now classes.now) roots.now limit }
+fn parts_assigned(g: &Graph, roots: &[u16], limit: u64, distances: &[u32], steps: &[u64]) -> bool
+    requires { CountReady g.now roots.now limit distances.now steps.now }
+    ensures { result ≡ is_assignable g.now roots.now limit }
 {
     let parts = count_parts(steps, limit);
     if roots.len() < parts {
@@ -97,25 +78,24 @@ fn parts_assigned(
     if parts == 0 {
         return true;
     }
-    few_assigned(b, roots, limit, distances, steps, classes)
+    few_assigned(g, roots, limit, distances, steps)
 }
 
 // Whether the limit is accepted, where the whole graph joins every vertex to a root.
 pub fn accepts_rooted(
-    b: &[u8],
+    g: &Graph,
     roots: &[u16],
     limit: u64,
     kept: &[u16],
     distances: &[u32],
     steps: &[u64],
-    classes: &[u8],
 ) -> bool
-    requires { RootedDecisionAsked (graph_of b.now classes.now) roots.now limit kept.now distances.now
+    requires { RootedDecisionAsked g.now roots.now limit kept.now distances.now
         steps.now }
-    ensures { result ≡ accepts (graph_of b.now classes.now) (rooted roots.now) limit }
+    ensures { result ≡ accepts g.now (rooted roots.now) limit }
 {
-    if light_forest(b, kept, limit, classes) < kept.len() {
+    if light_forest(g, kept, limit) < kept.len() {
         return false;
     }
-    parts_assigned(b, roots, limit, distances, steps, classes)
+    parts_assigned(g, roots, limit, distances, steps)
 }

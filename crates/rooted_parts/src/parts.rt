@@ -7,6 +7,9 @@ ghost use Rattle.rooted_parts.specs.Parts.{PiecesAsked, PiecesPut, AssignAsked, 
 ghost use Rattle.rooted_state.specs.Placed.{arrays_of, trial_arrays};
 
 use crate::within::roots_within;
+use cover::index::Pieces;
+use edges::around::Around;
+use graph::Graph;
 use matching::{Answer, assign};
 use near::held::near_pieces;
 use near::rows::put_rows;
@@ -22,28 +25,26 @@ pub struct Placed {
 
 // Splits the trees of the forest, and finds the places of the parts. Says how many.
 fn place_pieces(
-    b: &[u8],
+    g: &Graph,
     roots: &[u16],
     limit: u64,
-    bounds: &[u16],
-    arcs: &[u64],
+    around: Around,
     starts: &mut [u16],
     cuts: &mut [u16],
     members: &mut [u16],
     lefts: &mut [u16],
     places: &mut [u16],
-    classes: &[u8],
 ) -> usize
-    requires { PiecesAsked (graph_of b.now classes.now) roots.now limit bounds.now arcs.now
+    requires { PiecesAsked g.now roots.now limit around.bounds.now around.arcs.now
         (arrays_of starts.old cuts.old members.old lefts.old places.old) }
-    ensures { PiecesPut (graph_of b.now classes.now) roots.now limit
+    ensures { PiecesPut g.now roots.now limit
         (arrays_of starts.old cuts.old members.old lefts.old
         places.old)
         (arrays_of starts.new cuts.new members.new lefts.new
         places.new) result }
 {
-    let n = graph::vertex_count(b, classes);
-    split_forest(n, bounds, arcs, roots, limit, starts, cuts, members, lefts);
+    let n = g.vertex_count();
+    split_forest(n, around, roots, limit, starts, cuts, members, lefts);
     part_places(&lefts[..roots.len()], places)
 }
 
@@ -62,60 +63,45 @@ pub fn assign_roots(p: usize, k: usize, rows: &[u8], assignment: &mut [u8]) -> b
 
 // For each part a word, whose bit j says whether the part may go to root j.
 fn pieces_near(
-    b: &[u8],
+    g: &Graph,
     roots: &[u16],
     limit: u64,
     distances: &[u32],
-    starts: &[u16],
-    cuts: &[u16],
-    members: &[u16],
+    pieces: Pieces,
     places: &[u16],
     parts: usize,
     words: &mut [u32],
-    classes: &[u8],
 )
-    requires { WordsAsked (graph_of b.now classes.now) roots.now limit distances.now starts.now cuts.now
-        members.now places.now parts words.old }
-    ensures { PartsNearPut (graph_of b.now classes.now) roots.now limit
+    requires { WordsAsked g.now roots.now limit distances.now pieces.starts.now pieces.cuts.now
+        pieces.members.now places.now parts words.old }
+    ensures { PartsNearPut g.now roots.now limit
         words.old words.new parts }
 {
     let mut near = [0u32; 256];
-    roots_within(b, roots, limit, distances, &mut near, classes);
-    near_pieces(
-        b,
-        &near,
-        starts,
-        cuts,
-        members,
-        &places[..parts],
-        words,
-        classes,
-    );
+    roots_within(g, roots, limit, distances, &mut near);
+    near_pieces(g, &near, pieces, &places[..parts], words);
 }
 
 // Marks the roots near each part in its row, and gives each part a root of its own, or else marks a deficient set.
 fn assign_parts(
-    b: &[u8],
+    g: &Graph,
     roots: &[u16],
     limit: u64,
     distances: &[u32],
-    starts: &[u16],
-    cuts: &[u16],
-    members: &[u16],
+    pieces: Pieces,
     places: &[u16],
     parts: usize,
     rows: &mut [u8],
     assignment: &mut [u8],
-    classes: &[u8],
 ) -> bool
-    requires { RowsAsked (graph_of b.now classes.now) roots.now limit distances.now starts.now cuts.now
-        members.now places.now parts rows.old assignment.old }
-    ensures { RowsPlaced (graph_of b.now classes.now) roots.now limit parts
+    requires { RowsAsked g.now roots.now limit distances.now pieces.starts.now pieces.cuts.now
+        pieces.members.now places.now parts rows.old assignment.old }
+    ensures { RowsPlaced g.now roots.now limit parts
         rows.old rows.new assignment.old assignment.new result }
 {
     let mut words = [0u32; 256];
     pieces_near(
-        b, roots, limit, distances, starts, cuts, members, places, parts, &mut words, classes,
+        g, roots, limit, distances, pieces, places, parts, &mut words,
     );
     let k = roots.len();
     let size = parts * k;
@@ -126,11 +112,10 @@ fn assign_parts(
 // The parts of a rooted trial where the edges within the limit join every vertex to a root, by the arcs of the whole
 // forest and the distances from all roots.
 pub fn place_parts(
-    b: &[u8],
+    g: &Graph,
     roots: &[u16],
     limit: u64,
-    bounds: &[u16],
-    arcs: &[u64],
+    around: Around,
     distances: &[u32],
     starts: &mut [u16],
     cuts: &mut [u16],
@@ -139,11 +124,10 @@ pub fn place_parts(
     places: &mut [u16],
     rows: &mut [u8],
     assignment: &mut [u8],
-    classes: &[u8],
 ) -> Placed
-    requires { PartsAsked (graph_of b.now classes.now) roots.now limit bounds.now arcs.now distances.now
+    requires { PartsAsked g.now roots.now limit around.bounds.now around.arcs.now distances.now
         (arrays_of starts.old cuts.old members.old lefts.old places.old) rows.old assignment.old }
-    ensures { PartsPut (graph_of b.now classes.now) roots.now limit
+    ensures { PartsPut g.now roots.now limit
         (trial_arrays starts.old cuts.old members.old lefts.old
         places.old rows.old assignment.old)
         (trial_arrays starts.new cuts.new members.new lefts.new
@@ -151,10 +135,22 @@ pub fn place_parts(
         result.parts result.assigned }
 {
     let parts = place_pieces(
-        b, roots, limit, bounds, arcs, starts, cuts, members, lefts, places, classes,
+        g, roots, limit, around, starts, cuts, members, lefts, places,
     );
     let assigned = assign_parts(
-        b, roots, limit, distances, starts, cuts, members, places, parts, rows, assignment, classes,
+        g,
+        roots,
+        limit,
+        distances,
+        Pieces {
+            starts,
+            cuts,
+            members,
+        },
+        places,
+        parts,
+        rows,
+        assignment,
     );
     Placed { parts, assigned }
 }

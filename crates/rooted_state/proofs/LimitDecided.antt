@@ -3,10 +3,11 @@
 -- Assumes nothing.
 use Prim.Native.Nat.{ℕ, ◌≤◌, ◌<◌}
 use mathlib.Core.Path.{◌≡◌, refl, sym, ap, ◌∙◌}
-use mathlib.Core.Bool.{true, false, not, true≢false, ◌&&◌}
+use mathlib.Core.Bool.{false, not, true≢false, ◌&&◌}
 use mathlib.Core.List.{List}
-use mathlib.Core.Option.{Option, some, none}
+use mathlib.Core.Option as math
 use native.Mathlib.Omega.{arith}
+use Rattle.std.specs.Prelude.{Option, Some, None, is_some}
 use lib.ListN.{length, take, replicate, length-replicate}
 use lib.Seq.{length-take-le, take_all}
 use Rattle.graph.specs.Graph.{Graph}
@@ -20,8 +21,6 @@ use Rattle.rules.specs.Search.{no_vertex, accepts, no_cover_exists}
 use Rattle.forest_laws.proofs.Keeping.{kept_merges}
 use Rattle.planner_laws.proofs.RootedPrepared.{forest_unjoined, forest_is_whole}
 use Rattle.forest.specs.Lowest.{vertex_in}
-use Rattle.forest.specs.declared.lowest.Found.{Found}
-use Rattle.forest.specs.declared.lowest.Found.TheVariants.{At, Nothing}
 use Rattle.pieces.specs.Whole.{StopAsked, StopFound, LightForest}
 use Rattle.rooted_state.specs.Prepared.{RootsGiven}
 use Rattle.rooted_state.proofs.RootsReady.{roots_inside}
@@ -35,31 +34,27 @@ stop_asked given =
       roots_inside = roots_inside given;
     }
 
--- Where there is no such vertex, there is none.
-no_vertex_none : (o : Option ℕ) → not (no_vertex o) ≡ false → o ≡ none
+-- A vertex was found, as the code asks it and as the definition does.
+some_found : (r : Option ℕ) → is_some r ≡ not (no_vertex (vertex_in r))
 unfolding no_vertex
-no_vertex_none none q = refl
-no_vertex_none (some v) q = absurd (true≢false q)
+some_found None = refl
+some_found (Some v) = refl
+
+-- Where there is no such vertex, there is none.
+no_vertex_none : (o : math.Option ℕ) → not (no_vertex o) ≡ false → o ≡ math.none
+unfolding no_vertex
+no_vertex_none math.none q = refl
+no_vertex_none (math.some v) q = absurd (true≢false q)
 
 module _ (g : Graph) (roots : List ℕ) {kept : List ℕ} (whole : kept ≡ keep g (together roots) (ordered g)) where
   -- The whole forest leaves the same vertex joined to no root as all edges do.
   same_unjoined : unjoined g roots (merge_all g (together roots) kept) ≡ unjoined g roots (merge_all g (together roots) (ordered g))
   same_unjoined = ap (λ edges. unjoined g roots (merge_all g (together roots) edges)) whole ∙ ap (unjoined g roots) (kept_merges g (together roots) (ordered g))
 
-  module _ {before after : List ℕ} {r : Found} (s : StopFound g roots kept before after r) where
-    is_found : not (no_vertex (vertex_in r)) ≡ no_cover_exists g (rooted roots)
-    unfolding no_cover_exists
-    is_found = ap (λ o. not (no_vertex o)) (s.is ∙ same_unjoined)
-
-    -- There is no cover where a vertex was found,
-    pub found_no_cover : {v : ℕ} → r ≡ At v → true ≡ no_cover_exists g (rooted roots)
-    unfolding no_vertex
-    found_no_cover q = rw q at is_found
-
-    -- and some where none was.
-    pub nothing_some_cover : r ≡ Nothing → false ≡ no_cover_exists g (rooted roots)
-    unfolding no_vertex
-    nothing_some_cover q = rw q at is_found
+  -- There is no cover exactly where a vertex was found.
+  pub found_no_cover : {before after : List ℕ} {r : Option ℕ} → StopFound g roots kept before after r → is_some r ≡ no_cover_exists g (rooted roots)
+  unfolding no_cover_exists
+  found_no_cover {r = r} s = some_found r ∙ ap (λ o. not (no_vertex o)) (s.is ∙ same_unjoined)
 
   module _ {limit r : ℕ} (light : LightForest g kept limit r) where
     at_limit : take r kept ≡ forest g (together roots) limit
@@ -70,11 +65,11 @@ module _ (g : Graph) (roots : List ℕ) {kept : List ℕ} (whole : kept ≡ keep
     light_unjoined = ap (λ edges. unjoined g roots (merge_all g (together roots) edges)) at_limit ∙ forest_unjoined g roots limit
 
     -- So where a vertex is looked for by them, what is found is the trial's.
-    pub stop_is : {before after : List ℕ} {f : Found} → StopFound g roots (take r kept) before after f → unjoined_at g roots limit ≡ vertex_in f
+    pub stop_is : {before after : List ℕ} {f : Option ℕ} → StopFound g roots (take r kept) before after f → unjoined_at g roots limit ≡ vertex_in f
     stop_is s = sym (s.is ∙ light_unjoined)
 
     -- Where there is a cover and no edge of the whole forest is above the limit, every vertex is joined to a root.
-    pub light_joined : no_cover_exists g (rooted roots) ≡ false → length kept ≤ r → unjoined_at g roots limit ≡ none
+    pub light_joined : no_cover_exists g (rooted roots) ≡ false → length kept ≤ r → unjoined_at g roots limit ≡ math.none
     unfolding no_cover_exists
     light_joined some_cover all =
         sym light_unjoined
@@ -83,7 +78,7 @@ module _ (g : Graph) (roots : List ℕ) {kept : List ℕ} (whole : kept ≡ keep
         ∙ no_vertex_none (unjoined g roots (merge_all g (together roots) (ordered g))) some_cover
 
     -- Where every vertex is joined to a root, no edge of the whole forest is above the limit.
-    joined_light : Valid g → unjoined_at g roots limit ≡ none → length kept ≤ r
+    joined_light : Valid g → unjoined_at g roots limit ≡ math.none → length kept ≤ r
     joined_light valid joined =
         let same : take r kept ≡ kept = at_limit ∙ forest_is_whole g roots limit valid joined ∙ sym whole in
         omega (arith, length-take-le r kept light.few, ap length same)
@@ -93,11 +88,11 @@ module _ (g : Graph) (roots : List ℕ) {kept : List ℕ} (whole : kept ≡ keep
     unfolding accepts no_vertex
     heavy_refused valid above = go (unjoined_at g roots limit) refl
       where
-        go : (o : Option ℕ) → unjoined_at g roots limit ≡ o → false ≡ no_vertex (unjoined_at g roots limit) && is_assignable g roots limit
-        go none q = absurd (omega (arith, joined_light valid q))
-        go (some v) q = rw q refl
+        go : (o : math.Option ℕ) → unjoined_at g roots limit ≡ o → false ≡ no_vertex (unjoined_at g roots limit) && is_assignable g roots limit
+        go math.none q = absurd (omega (arith, joined_light valid q))
+        go (math.some v) q = rw q refl
 
 -- Where every vertex is joined to a root, the limit is accepted exactly where the parts can be assigned.
-pub joined_accepts : (g : Graph) (roots : List ℕ) (limit : ℕ) → unjoined_at g roots limit ≡ none → is_assignable g roots limit ≡ accepts g (rooted roots) limit
+pub joined_accepts : (g : Graph) (roots : List ℕ) (limit : ℕ) → unjoined_at g roots limit ≡ math.none → is_assignable g roots limit ≡ accepts g (rooted roots) limit
 unfolding accepts no_vertex
 joined_accepts g roots limit q = rw q refl

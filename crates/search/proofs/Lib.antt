@@ -1,7 +1,5 @@
 -- Laws that belong to no one function, in reading order.
 -- the steps that every decision counts by
 pub mod StepsWritten
--- a decision at a limit, where the kind is known
-pub mod KindDecides
 -- the search, trial by trial, and where it ends
 pub mod SearchLoop

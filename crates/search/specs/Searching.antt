@@ -8,12 +8,13 @@ use Rattle.rules.specs.Order.{ordered}
 use Rattle.rules.specs.Search.{accepts, Bounds, searched}
 use Rattle.rules.specs.FewTrials.{middles, standing, known}
 use Rattle.rules.specs.Questions.{most_limit}
-use Rattle.admit.specs.declared.crews.Kind.{Kind}
-use Rattle.admit.specs.declared.crews.Kind.TheVariants.{Rooted}
-use Rattle.rooted_state.specs.Prepared.{RootsGiven, WholeAround, WholeSteps}
+use Rattle.rooted_state.specs.Prepared.{RootsGiven, WholeAround}
+use Rattle.prepare.specs.declared.crews.Crews.{Crews}
+use Rattle.prepare.specs.declared.crews.Crews.TheVariants.{Rooted, Unrooted}
+use Rattle.prepare.specs.declared.crews.Prepared.{Prepared}
 use Rattle.search.specs.declared.limit.Standing.{Standing}
 use Rattle.search.specs.declared.limit.Found.{Found}
-use Rattle.search.specs.Decision.{CrewsPrepared}
+use Rattle.search.specs.Decision.{CrewsPrepared, Stepped}
 
 -- Low and high.
 abbrev pub between : ℕ → ℕ → Bounds
@@ -35,34 +36,43 @@ found_after g crews p =
     let k = known g crews p in
     record { high = (standing g crews p).high; known = record { trials = k.trials; floor = k.floor; spent = k.spent } }
 
--- What the search asks: prepared crews, the steps of the whole forest's trees, and a sum within document 01's range.
-pub record SearchAsked (kind : Kind) (k : ℕ) (g : Graph) (roots kept distances total until steps : List ℕ) (sum : ℕ) : Type 0 where
-  pub crews : CrewsPrepared kind k g roots kept distances total until
-  pub stepped : kind ≡ Rooted → WholeSteps g roots steps
+-- What the search asks: what is prepared, the steps of the whole forest's trees, and a sum within document 01's range.
+pub record SearchAsked (g : Graph) (p : Prepared) (steps : List ℕ) (sum : ℕ) : Type 0 where
+  pub prepared : CrewsPrepared g p
+  pub stepped : Stepped g p.crews steps
   pub sum_most : sum ≤ most_limit
 
 -- What the search by the steps asks: the edges in order, by which the sum is taken, and trials for 0 and the sum.
-pub record SteppedAsked (kind : Kind) (k : ℕ) (g : Graph) (roots order kept distances total until steps : List ℕ) (trials : ℕ) : Type 0 where
-  pub crews : CrewsPrepared kind k g roots kept distances total until
-  pub in_order : order ≡ ordered g
-  pub stepped : kind ≡ Rooted → WholeSteps g roots steps
+pub record SteppedAsked (g : Graph) (p : Prepared) (steps : List ℕ) (trials : ℕ) : Type 0 where
+  pub prepared : CrewsPrepared g p
+  pub in_order : p.order.now ≡ ordered g
+  pub stepped : Stepped g p.crews steps
   pub some_trials : 2 ≤ trials
 
--- What it asks where no walk is written yet: for crews with roots the edges around each vertex of the whole forest.
-pub record FindAsked (kind : Kind) (k : ℕ) (g : Graph) (roots order kept bounds arcs distances total until : List ℕ) (trials : ℕ) : Type 0 where
-  pub crews : CrewsPrepared kind k g roots kept distances total until
-  pub in_order : order ≡ ordered g
-  pub around : kind ≡ Rooted → WholeAround g roots bounds arcs
+-- Roots of a valid graph, and the edges around each vertex of the whole forest.
+pub record RootsAround (g : Graph) (roots bounds arcs : List ℕ) : Type 0 where
+  pub given : RootsGiven g roots
+  pub around : WholeAround g roots bounds arcs
+
+-- Where crews have roots, steps may be walked from these; without, none are walked.
+abbrev pub Walkable : Graph → Crews → Type 0
+Walkable g (Rooted roots around table) = RootsAround g roots.now around.bounds.now around.arcs.now
+Walkable g (Unrooted k merges) = Unit {0}
+
+-- What the search asks where no step is written yet.
+pub record FindAsked (g : Graph) (p : Prepared) (trials : ℕ) : Type 0 where
+  pub prepared : CrewsPrepared g p
+  pub in_order : p.order.now ≡ ordered g
+  pub walkable : Walkable g p.crews
   pub some_trials : 2 ≤ trials
 
--- What writing the steps asks: where crews have roots, the edges around each vertex of the whole forest; and a place for each vertex.
-pub record StepsGiven (kind : Kind) (g : Graph) (roots bounds arcs steps : List ℕ) : Type 0 where
-  pub given : kind ≡ Rooted → RootsGiven g roots
-  pub around : kind ≡ Rooted → WholeAround g roots bounds arcs
+-- What writing the steps asks: crews that they may be walked for, and a place for each vertex.
+pub record StepsGiven (g : Graph) (crews : Crews) (steps : List ℕ) : Type 0 where
+  pub walkable : Walkable g crews
   pub room : length steps ≡ 256
 
 -- The first r elements are the steps of the whole forest's trees, where crews have roots; what stands behind them is as it came.
-pub record StepsFor (kind : Kind) (g : Graph) (roots steps₀ steps : List ℕ) (r : ℕ) : Type 0 where
+pub record StepsFor (g : Graph) (crews : Crews) (steps₀ steps : List ℕ) (r : ℕ) : Type 0 where
   pub fits : r ≤ length steps
-  pub stepped : kind ≡ Rooted → WholeSteps g roots (take r steps)
+  pub stepped : Stepped g crews (take r steps)
   pub rest : OnlyFirst r steps₀ steps

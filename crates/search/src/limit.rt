@@ -1,13 +1,13 @@
 // The search for the best limit (document 01, "The best limit"), which may be stopped after some trials (document 02,
 // A.6): each trial in it only decides.
 ghost use Rattle.std.specs.Prelude.{◌≡◌};
-ghost use Rattle.graph.specs.Bytes.{graph_of};
-ghost use Rattle.prepare.specs.Crews.{crews_with};
+ghost use Rattle.prepare.specs.Crews.{the_crews};
 ghost use Rattle.search.specs.Searching.{SearchEnded, found_after, SearchAsked, FindAsked, SteppedAsked, StepsGiven, StepsFor};
 
 use crate::decide::accepts_at;
-use admit::crews::Kind;
 use cover::heaviest::edges_weight;
+use graph::Graph;
+use prepare::crews::{Crews, Prepared};
 use replies::Known;
 use steps::put_steps;
 
@@ -28,24 +28,9 @@ pub struct Found {
 
 // Halves what lies between low, which was not accepted, and high, which was, until they are neighbours or the trials
 // are used up.
-fn search(
-    kind: Kind,
-    k: usize,
-    b: &[u8],
-    roots: &[u16],
-    kept: &[u16],
-    distances: &[u32],
-    total: &[u64],
-    until: &[u16],
-    steps: &[u64],
-    sum: u64,
-    budget: usize,
-    classes: &[u8],
-) -> Standing
-    requires { SearchAsked kind k (graph_of b.now classes.now) roots.now kept.now distances.now total.now
-        until.now steps.now sum }
-    ensures { SearchEnded (graph_of b.now classes.now) (crews_with kind k
-        roots.now) sum budget result }
+fn search(g: &Graph, prepared: Prepared, steps: &[u64], sum: u64, budget: usize) -> Standing
+    requires { SearchAsked g.now prepared steps.now sum }
+    ensures { SearchEnded g.now (the_crews prepared.entry.crews) sum budget result }
 {
     let mut low = 0;
     let mut high = sum;
@@ -53,9 +38,7 @@ fn search(
     while 0 < left && 1 < high - low {
         left -= 1;
         let middle = (low + high) / 2;
-        if accepts_at(
-            kind, k, b, roots, middle, kept, distances, total, until, steps, classes,
-        ) {
+        if accepts_at(g, prepared, middle, steps) {
             high = middle;
             continue;
         }
@@ -70,28 +53,11 @@ fn search(
 
 // The search by the steps, with at most so many trials: 0 comes first, where that is accepted it is the limit; the sum
 // of all weights counts as the second, but is not run, since it is accepted wherever there is a cover.
-fn search_limit(
-    kind: Kind,
-    k: usize,
-    b: &[u8],
-    roots: &[u16],
-    order: &[u16],
-    kept: &[u16],
-    distances: &[u32],
-    total: &[u64],
-    until: &[u16],
-    steps: &[u64],
-    trials: usize,
-    classes: &[u8],
-) -> Found
-    requires { SteppedAsked kind k (graph_of b.now classes.now) roots.now order.now kept.now distances.now
-        total.now until.now steps.now trials }
-    ensures { result ≡ found_after (graph_of b.now classes.now) (crews_with kind k
-        roots.now) trials }
+fn search_limit(g: &Graph, prepared: Prepared, steps: &[u64], trials: usize) -> Found
+    requires { SteppedAsked g.now prepared steps.now trials }
+    ensures { result ≡ found_after g.now (the_crews prepared.entry.crews) trials }
 {
-    if accepts_at(
-        kind, k, b, roots, 0, kept, distances, total, until, steps, classes,
-    ) {
+    if accepts_at(g, prepared, 0, steps) {
         return Found {
             high: 0,
             known: Known {
@@ -101,21 +67,8 @@ fn search_limit(
             },
         };
     }
-    let sum = edges_weight(b, order, classes);
-    let end = search(
-        kind,
-        k,
-        b,
-        roots,
-        kept,
-        distances,
-        total,
-        until,
-        steps,
-        sum,
-        trials - 2,
-        classes,
-    );
+    let sum = edges_weight(g, prepared.order);
+    let end = search(g, prepared, steps, sum, trials - 2);
     Found {
         high: end.high,
         known: Known {
@@ -127,60 +80,22 @@ fn search_limit(
 }
 
 // Writes the steps of the whole forest's trees, by which crews with roots decide. Says how many they are.
-fn write_steps(
-    kind: Kind,
-    b: &[u8],
-    roots: &[u16],
-    bounds: &[u16],
-    arcs: &[u64],
-    steps: &mut [u64],
-    classes: &[u8],
-) -> usize
-    requires { StepsGiven kind (graph_of b.now classes.now) roots.now bounds.now arcs.now steps.old }
-    ensures { StepsFor kind (graph_of b.now classes.now) roots.now
-        steps.old steps.new result }
+fn write_steps(g: &Graph, crews: Crews, steps: &mut [u64]) -> usize
+    requires { StepsGiven g.now crews steps.old }
+    ensures { StepsFor g.now crews.entry steps.old steps.new result }
 {
-    match kind {
-        Kind::Rooted => put_steps(graph::vertex_count(b, classes), bounds, arcs, roots, steps),
-        Kind::Unrooted => 0,
+    match crews {
+        Crews::Rooted { roots, around, .. } => put_steps(g.vertex_count(), around, roots, steps),
+        Crews::Unrooted { .. } => 0,
     }
 }
 
 // The search, with at most so many trials. The steps of the whole forest's trees are written once, for all of them.
-pub fn find_limit(
-    kind: Kind,
-    k: usize,
-    b: &[u8],
-    roots: &[u16],
-    order: &[u16],
-    kept: &[u16],
-    bounds: &[u16],
-    arcs: &[u64],
-    distances: &[u32],
-    total: &[u64],
-    until: &[u16],
-    trials: usize,
-    classes: &[u8],
-) -> Found
-    requires { FindAsked kind k (graph_of b.now classes.now) roots.now order.now kept.now bounds.now
-        arcs.now distances.now total.now until.now trials }
-    ensures { result ≡ found_after (graph_of b.now classes.now) (crews_with kind k
-        roots.now) trials }
+pub fn find_limit(g: &Graph, prepared: Prepared, trials: usize) -> Found
+    requires { FindAsked g.now prepared trials }
+    ensures { result ≡ found_after g.now (the_crews prepared.entry.crews) trials }
 {
     let mut steps = [0u64; 256];
-    let count = write_steps(kind, b, roots, bounds, arcs, &mut steps, classes);
-    search_limit(
-        kind,
-        k,
-        b,
-        roots,
-        order,
-        kept,
-        distances,
-        total,
-        until,
-        &steps[..count],
-        trials,
-        classes,
-    )
+    let count = write_steps(g, prepared.crews, &mut steps);
+    search_limit(g, prepared, &steps[..count], trials)
 }

@@ -5,6 +5,8 @@ pub mod Unvisited
 pub mod NoMarks
 -- the walk of a child list, arc by arc
 pub mod ChildWalked
+-- the arcs of a vertex, lent as a part of all arcs
+pub mod ArcsLent
 -- the walk of a child list, under way
 pub mod WalkUnderway
 -- splitting over arcs is splitting by the rules

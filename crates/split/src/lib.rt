@@ -10,13 +10,13 @@ mod walk;
 
 use bunches::Progress;
 use bunches::piece::put_piece;
+use edges::around::Around;
 use walk::walk_node;
 
 // The trees of the roots, one after the other, each walked and split; no vertex has a mark yet.
 // The stack has a place for each vertex, and so have the marks.
 fn split_roots(
-    bounds: &[u16],
-    arcs: &[u64],
+    around: Around,
     roots: &[u16],
     h: u64,
     passed: &mut [u8],
@@ -26,9 +26,9 @@ fn split_roots(
     members: &mut [u16],
     lefts: &mut [u16],
 ) -> usize
-    requires { Unwalked bounds.now arcs.now roots.now passed.old stack.old
+    requires { Unwalked around.bounds.now around.arcs.now roots.now passed.old stack.old
         (lent starts.old cuts.old members.old lefts.old) }
-    ensures { RootsWalked bounds.now arcs.now roots.now h
+    ensures { RootsWalked around.entry.bounds.now around.entry.arcs.now roots.now h
         passed.old passed.new stack.old stack.new
         (lent starts.old cuts.old members.old lefts.old)
         (lent starts.new cuts.new members.new lefts.new) result }
@@ -40,15 +40,11 @@ fn split_roots(
         top: 0,
         weight: 0,
     };
-    let mut j = 0;
-    while j < roots.len() {
-        let root = roots[j] as usize;
-        let left = walk_node(
-            bounds, arcs, h, root, s, passed, stack, starts, cuts, members,
-        );
+    for (j, r) in roots.iter().enumerate() {
+        let root = *r as usize;
+        let left = walk_node(around, h, root, s, passed, stack, starts, cuts, members);
         lefts[j] = left.pieces as u16;
         s = put_piece(root, 0, 0, left, stack, starts, cuts, members);
-        j += 1;
     }
     s.pieces
 }
@@ -61,8 +57,7 @@ fn split_roots(
 // Beyond what is used the arrays are as they came.
 pub fn split_forest(
     n: usize,
-    bounds: &[u16],
-    arcs: &[u64],
+    around: Around,
     roots: &[u16],
     h: u64,
     starts: &mut [u16],
@@ -70,17 +65,16 @@ pub fn split_forest(
     members: &mut [u16],
     lefts: &mut [u16],
 ) -> usize
-    requires { Splittable n bounds.now arcs.now roots.now (lent starts.old cuts.old members.old
+    requires { Splittable n around.bounds.now around.arcs.now roots.now (lent starts.old cuts.old members.old
         lefts.old) }
-    ensures { ForestSplit n bounds.now arcs.now roots.now h
+    ensures { ForestSplit n around.entry.bounds.now around.entry.arcs.now roots.now h
         (lent starts.old cuts.old members.old lefts.old)
         (lent starts.new cuts.new members.new lefts.new) result }
 {
     let mut passed = [0u8; 256];
     let mut stack = [0u16; 256];
     split_roots(
-        bounds,
-        arcs,
+        around,
         roots,
         h,
         &mut passed[..n],

@@ -8,12 +8,12 @@ ghost use Rattle.split.specs.ChildrenWalked.{state_of, Walkable, NodeWalked};
 use bunches::Progress;
 use bunches::bunch::{Bunch, settle};
 use edges::arc::{arc_edge, arc_head, arc_weight};
+use edges::around::Around;
 
 // The node walk: v is passed, then its children are grown and split. What is left at v stands on the stack.
 #[cycle(walk_children_walk_node)]
 pub fn walk_node(
-    bounds: &[u16],
-    arcs: &[u64],
+    around: Around,
     h: u64,
     v: usize,
     s: Progress,
@@ -23,24 +23,23 @@ pub fn walk_node(
     cuts: &mut [u16],
     members: &mut [u16],
 ) -> Progress
-    requires { Walkable (length stack.old) bounds.now arcs.now v
+    requires { Walkable (length stack.old) around.bounds.now around.arcs.now v
         (state_of (passing v passed.old) stack.old starts.old cuts.old members.old s) }
-    ensures { NodeWalked (length stack.old) bounds.now arcs.now h v
+    ensures { NodeWalked (length stack.old) around.entry.bounds.now around.entry.arcs.now h v
         (state_of (passing v passed.old) stack.old starts.old cuts.old
         members.old s)
         (state_of passed.new stack.new starts.new cuts.new members.new
         result) result.weight }
 {
     passed[v] = 1;
-    walk_children(bounds, arcs, h, v, s, passed, stack, starts, cuts, members)
+    walk_children(around, h, v, s, passed, stack, starts, cuts, members)
 }
 
 // The child-list walk: the children of v, by their arcs. Each child's edge goes on the stack, then its own node is
 // walked, then its piece meets the bunch of v, which stands on the stack below it.
 #[cycle(walk_children_walk_node)]
 fn walk_children(
-    bounds: &[u16],
-    arcs: &[u64],
+    around: Around,
     h: u64,
     v: usize,
     s: Progress,
@@ -50,9 +49,9 @@ fn walk_children(
     cuts: &mut [u16],
     members: &mut [u16],
 ) -> Progress
-    requires { Walkable (length stack.old) bounds.now arcs.now v
+    requires { Walkable (length stack.old) around.bounds.now around.arcs.now v
         (state_of passed.old stack.old starts.old cuts.old members.old s) }
-    ensures { NodeWalked (length stack.old) bounds.now arcs.now h v
+    ensures { NodeWalked (length stack.old) around.entry.bounds.now around.entry.arcs.now h v
         (state_of passed.old stack.old starts.old cuts.old
         members.old s)
         (state_of passed.new stack.new starts.new cuts.new members.new
@@ -65,12 +64,10 @@ fn walk_children(
         top: base,
         weight: 0,
     };
-    let mut i = bounds[v] as usize;
-    let to = bounds[v + 1] as usize;
-    while i < to {
-        let arc = arcs[i];
-        let head = arc_head(arc);
-        i += 1;
+    let from = around.bounds[v] as usize;
+    let to = around.bounds[v + 1] as usize;
+    for arc in &around.arcs[from..to] {
+        let head = arc_head(*arc);
         if passed[head] != 0 {
             continue;
         }
@@ -80,12 +77,10 @@ fn walk_children(
             end,
             weight: at.weight,
         };
-        stack[end] = arc_edge(arc);
+        stack[end] = arc_edge(*arc);
         at.top = end + 1;
-        let mut piece = walk_node(
-            bounds, arcs, h, head, at, passed, stack, starts, cuts, members,
-        );
-        let own = arc_weight(arc);
+        let mut piece = walk_node(around, h, head, at, passed, stack, starts, cuts, members);
+        let own = arc_weight(*arc);
         piece.weight = own + piece.weight;
         at = settle(h, v, bunch, piece, stack, starts, cuts, members);
     }

@@ -16,16 +16,13 @@ pub fn count_parts(steps: &[u64], h: u64) -> usize
     }
     let mut left = [0u64; 256];
     let mut parts = 0;
-    let mut i = 0;
-    while i < steps.len() {
-        let step = steps[i];
-        let piece = step_weight(step) + left[step_child(step)];
-        i += 1;
+    for step in steps {
+        let piece = step_weight(*step) + left[step_child(*step)];
         if h <= piece {
             parts += 1;
             continue;
         }
-        let above = step_above(step);
+        let above = step_above(*step);
         let bunch = left[above] + piece;
         if h <= bunch {
             parts += 1;

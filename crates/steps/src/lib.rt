@@ -10,38 +10,30 @@ pub mod count;
 pub mod step;
 mod walk;
 
+use edges::around::Around;
 use walk::put_node;
 
 // The steps of the roots' trees, one tree after the other; no vertex has a mark yet.
-fn put_trees(
-    bounds: &[u16],
-    arcs: &[u64],
-    roots: &[u16],
-    passed: &mut [u8],
-    steps: &mut [u64],
-) -> usize
-    requires { AllStepsReady bounds.now arcs.now roots.now passed.old steps.old }
-    ensures { TreesPut bounds.now arcs.now roots.now passed.old
+fn put_trees(around: Around, roots: &[u16], passed: &mut [u8], steps: &mut [u64]) -> usize
+    requires { AllStepsReady around.bounds.now around.arcs.now roots.now passed.old steps.old }
+    ensures { TreesPut around.entry.bounds.now around.entry.arcs.now roots.now passed.old
         passed.new
         steps.old steps.new result }
 {
     let mut next = 0;
-    let mut j = 0;
-    while j < roots.len() {
-        let root = roots[j] as usize;
-        next = put_node(bounds, arcs, root, next, passed, steps);
-        j += 1;
+    for root in roots {
+        next = put_node(around, *root as usize, next, passed, steps);
     }
     next
 }
 
 // Writes the steps of the roots' trees over n vertices of a forest, and says how many they are. `bounds` and `arcs`
 // hold the edges around each vertex, as for `split_forest` of the crate `split`.
-pub fn put_steps(n: usize, bounds: &[u16], arcs: &[u64], roots: &[u16], steps: &mut [u64]) -> usize
-    requires { AllStepsAsked n bounds.now arcs.now roots.now steps.old }
-    ensures { AllStepsPut n bounds.now arcs.now roots.now steps.old
+pub fn put_steps(n: usize, around: Around, roots: &[u16], steps: &mut [u64]) -> usize
+    requires { AllStepsAsked n around.bounds.now around.arcs.now roots.now steps.old }
+    ensures { AllStepsPut n around.entry.bounds.now around.entry.arcs.now roots.now steps.old
         steps.new result }
 {
     let mut passed = [0u8; 256];
-    put_trees(bounds, arcs, roots, &mut passed[..n], steps)
+    put_trees(around, roots, &mut passed[..n], steps)
 }

@@ -6,52 +6,37 @@ ghost use Rattle.steps.specs.StepsPut.{StepsAsked, StepsPut};
 
 use crate::step::step_of;
 use edges::arc::{arc_head, arc_weight};
+use edges::around::Around;
 
 // The node walk: v is passed, then the steps below it are written from the place `at` on. The answer is where they end.
 #[cycle(put_children_put_node)]
-pub fn put_node(
-    bounds: &[u16],
-    arcs: &[u64],
-    v: usize,
-    at: usize,
-    passed: &mut [u8],
-    steps: &mut [u64],
-) -> usize
-    requires { StepsAsked bounds.now arcs.now v at (passing v passed.old) steps.old }
-    ensures { StepsPut bounds.now arcs.now v at
+pub fn put_node(around: Around, v: usize, at: usize, passed: &mut [u8], steps: &mut [u64]) -> usize
+    requires { StepsAsked around.bounds.now around.arcs.now v at (passing v passed.old) steps.old }
+    ensures { StepsPut around.entry.bounds.now around.entry.arcs.now v at
         (passing v passed.old) steps.old passed.new steps.new result }
 {
     passed[v] = 1;
-    put_children(bounds, arcs, v, at, passed, steps)
+    put_children(around, v, at, passed, steps)
 }
 
 // The child-list walk: the children of v, by their arcs. At each child its own node is walked, then the child's step is
 // written.
 #[cycle(put_children_put_node)]
-fn put_children(
-    bounds: &[u16],
-    arcs: &[u64],
-    v: usize,
-    at: usize,
-    passed: &mut [u8],
-    steps: &mut [u64],
-) -> usize
-    requires { StepsAsked bounds.now arcs.now v at passed.old steps.old }
-    ensures { StepsPut bounds.now arcs.now v at
+fn put_children(around: Around, v: usize, at: usize, passed: &mut [u8], steps: &mut [u64]) -> usize
+    requires { StepsAsked around.bounds.now around.arcs.now v at passed.old steps.old }
+    ensures { StepsPut around.entry.bounds.now around.entry.arcs.now v at
         passed.old steps.old passed.new steps.new result }
 {
     let mut next = at;
-    let mut i = bounds[v] as usize;
-    let to = bounds[v + 1] as usize;
-    while i < to {
-        let a = arcs[i];
-        let head = arc_head(a);
-        i += 1;
+    let from = around.bounds[v] as usize;
+    let to = around.bounds[v + 1] as usize;
+    for a in &around.arcs[from..to] {
+        let head = arc_head(*a);
         if passed[head] != 0 {
             continue;
         }
-        let end = put_node(bounds, arcs, head, next, passed, steps);
-        steps[end] = step_of(head, v, arc_weight(a));
+        let end = put_node(around, head, next, passed, steps);
+        steps[end] = step_of(head, v, arc_weight(*a));
         next = end + 1;
     }
     next

@@ -15,13 +15,9 @@ pub fn marked_places(places: &[u16], marks: &[u8], out: &mut [u16]) -> usize
     ensures { PlacesWritten places.now marks.now out.old out.new result }
 {
     let mut r = 0;
-    let mut i = 0;
-    while i < places.len() {
-        let place = places[i];
-        let taken = is_marked(marks, i);
-        i += 1;
-        if taken {
-            out[r] = place;
+    for (i, place) in places.iter().enumerate() {
+        if is_marked(marks, i) {
+            out[r] = *place;
             r += 1;
         }
     }
@@ -33,17 +29,7 @@ fn some_allows(rows: &[u8], marks: &[u8], p: usize, k: usize, j: usize) -> bool
     requires { ColumnGiven rows.now p k j }
     ensures { result ≡ any_below p (λ i. marked marks.now i && allowed_at rows.now k i j) }
 {
-    let mut i = p;
-    while 0 < i {
-        i -= 1;
-        if !is_marked(marks, i) {
-            continue;
-        }
-        if is_marked(rows, i * k + j) {
-            return true;
-        }
-    }
-    false
+    (0..p).any(|i| is_marked(marks, i) && is_marked(rows, i * k + j))
 }
 
 // How many roots are allowed to some part of the set ("D").
@@ -52,11 +38,8 @@ pub fn count_allowed(rows: &[u8], marks: &[u8], p: usize, k: usize) -> usize
     ensures { result ≡ allowed_roots p k (allowed_at rows.now k) marks.now }
 {
     let mut r = 0;
-    let mut j = 0;
-    while j < k {
-        let allowed = some_allows(rows, marks, p, k, j);
-        j += 1;
-        if allowed {
+    for j in 0..k {
+        if some_allows(rows, marks, p, k, j) {
             r += 1;
         }
     }

@@ -9,7 +9,8 @@ ghost use Rattle.needs.specs.Given.{ForestKept};
 ghost use Rattle.unrooted.specs.Answer.{HistoryReady, LimitKnown, UnrootedAnswerAsked};
 
 use crate::unrooted::unrooted_trees;
-use needs::history::needed_by_history;
+use graph::Graph;
+use needs::history::{Merges, needed_by_history};
 use pieces::whole::light_forest;
 use replies::Reply;
 
@@ -22,73 +23,56 @@ pub struct AtLimit {
 }
 
 // How many trees the components at the limit need ("the sum C"), and the edges of their forest: so many of the first.
-fn at_limit(
-    b: &[u8],
-    limit: u64,
-    kept: &[u16],
-    total: &[u64],
-    until: &[u16],
-    classes: &[u8],
-) -> AtLimit
-    requires { HistoryReady (graph_of b.now classes.now) kept.now total.now until.now }
-    ensures { LimitKnown (graph_of b.now classes.now) kept.now limit result }
+fn at_limit(g: &Graph, limit: u64, kept: &[u16], merges: Merges) -> AtLimit
+    requires { HistoryReady g.now kept.now merges.total.now merges.until.now }
+    ensures { LimitKnown g.now kept.now limit result }
 {
-    let edges = light_forest(b, kept, limit, classes);
-    let trees = needed_by_history(graph::vertex_count(b, classes), total, until, edges, limit);
+    let edges = light_forest(g, kept, limit);
+    let trees = needed_by_history(g.vertex_count(), merges, edges, limit);
     AtLimit { edges, trees }
 }
 
 // The answer: "if the sum C exceeds k: too low, needs C"; otherwise the trees, as the buffer's first bytes.
 pub fn answer_unrooted(
-    b: &[u8],
+    g: &Graph,
     k: usize,
     limit: u64,
     kept: &[u16],
-    total: &[u64],
-    until: &[u16],
+    merges: Merges,
     buf: &mut [u8],
-    classes: &[u8],
 ) -> Reply
-    requires { UnrootedAnswerAsked (graph_of b.now classes.now) k limit kept.now total.now until.now
+    requires { UnrootedAnswerAsked g.now k limit kept.now merges.total.now merges.until.now
         (length buf.old) }
-    ensures { Answers (graph_of b.now classes.now) (unrooted k) limit buf.old
+    ensures { Answers g.now (unrooted k) limit buf.old
         buf.new result }
 {
-    let at = at_limit(b, limit, kept, total, until, classes);
+    let at = at_limit(g, limit, kept, merges);
     if (k as u64) < at.trees {
         return Reply::Needs(at.trees);
     }
-    let w = unrooted_trees(b, &kept[..at.edges], limit, buf, classes);
+    let w = unrooted_trees(g, &kept[..at.edges], limit, buf);
     Reply::Cover(limit, w.heaviest, w.trees)
 }
 
 // Whether the limit is accepted. Nothing is split or written for this. Each component needs a tree, so the history is
 // not read where there are more components than crews.
-pub fn accepts_unrooted(
-    b: &[u8],
-    k: usize,
-    limit: u64,
-    kept: &[u16],
-    total: &[u64],
-    until: &[u16],
-    classes: &[u8],
-) -> bool
-    requires { HistoryReady (graph_of b.now classes.now) kept.now total.now until.now }
-    ensures { result ≡ accepts (graph_of b.now classes.now) (unrooted k) limit }
+pub fn accepts_unrooted(g: &Graph, k: usize, limit: u64, kept: &[u16], merges: Merges) -> bool
+    requires { HistoryReady g.now kept.now merges.total.now merges.until.now }
+    ensures { result ≡ accepts g.now (unrooted k) limit }
 {
-    let n = graph::vertex_count(b, classes);
-    let light = light_forest(b, kept, limit, classes);
+    let n = g.vertex_count();
+    let light = light_forest(g, kept, limit);
     if k < n - light {
         return false;
     }
-    needed_by_history(n, total, until, light, limit) <= k as u64
+    needed_by_history(n, merges, light, limit) <= k as u64
 }
 
 // Whether no cover exists at all: there are "more components than k". Each edge of the whole forest leaves one
 // component fewer than the vertices are.
-pub fn no_cover_unrooted(b: &[u8], k: usize, kept: &[u16], classes: &[u8]) -> bool
-    requires { ForestKept (graph_of b.now classes.now) kept.now }
-    ensures { result ≡ no_cover_exists (graph_of b.now classes.now) (unrooted k) }
+pub fn no_cover_unrooted(g: &Graph, k: usize, kept: &[u16]) -> bool
+    requires { ForestKept g.now kept.now }
+    ensures { result ≡ no_cover_exists g.now (unrooted k) }
 {
-    k < graph::vertex_count(b, classes) - kept.len()
+    k < g.vertex_count() - kept.len()
 }

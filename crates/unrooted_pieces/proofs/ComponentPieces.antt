@@ -6,7 +6,7 @@ use mathlib.Core.Logic.{dite}
 use mathlib.Core.List.{List, [], ◌∷◌, ◌++◌, map, foldr}
 use native.Mathlib.Decide.{dec_le}
 use native.Mathlib.Omega.{arith}
-use borrow.Author.Count.{below_none, below_more}
+use borrow.Author.Count.{below_more}
 use lib.ListN.{length, get_or, take, drop}
 use lib.Seq.{slice, drop-drop, take_all}
 use Rattle.lists.specs.Lists.{flat}
@@ -14,7 +14,7 @@ use Rattle.lists.specs.Put.{OnlyFirst}
 use Rattle.lists.specs.Segments.{segment}
 use Rattle.lists.specs.Sort.{rise}
 use Rattle.lists.proofs.FlatMap.{flat_map_next}
-use Rattle.lists.proofs.OnlyFirst.{only_first_none, only_first_on, only_first_put}
+use Rattle.lists.proofs.OnlyFirst.{only_first_on, only_first_put}
 use Rattle.lists.proofs.Put.{put_length}
 use Rattle.lists.proofs.PutPlaces.{put_part_before, put_part_behind}
 use Rattle.lists.proofs.PutSlice.{put_slice}
@@ -93,9 +93,6 @@ module _ {cuts : List ℕ} {k : ℕ} {before : List ℕ} (p : PiecesHeld cuts be
 
   cuts_from : (i j : ℕ) → i ≤ j → j ≤ k → get_or cuts i 0 ≤ get_or cuts j 0
   cuts_from i j h l = let q : i + (j - i) ≡ j = omega arith in rw q at (cuts_rise i (j - i) (omega arith))
-
-  pub risen_none : RisenUpTo cuts k 0 before before
-  risen_none = record { size = refl; done = below_none _; rest = λ j h l. refl; only = only_first_none (get_or cuts k 0) before }
 
   module _ {i : ℕ} {mid after : List ℕ} (u : RisenUpTo cuts k i before mid) (h : i < k) (s : SegmentRisen cuts i mid after) where
     risen_behind : get_or cuts (i + 1) 0 ≡ get_or cuts i 0 + length (rise (segment cuts mid i))

@@ -29,12 +29,10 @@ pub fn tree_places(lefts: &[u16], cuts: &[u16], out: &mut [u16]) -> usize
 {
     let mut first = 0;
     let mut next = 0;
-    let mut j = 0;
-    while j < lefts.len() {
-        let left = wide(lefts[j]);
+    for left in lefts {
+        let left = wide(*left);
         next = put_run(first, tree_end(first, left, cuts), out, next);
         first = left + 1;
-        j += 1;
     }
     next
 }

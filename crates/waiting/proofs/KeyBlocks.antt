@@ -1,6 +1,7 @@
 -- Keys in blocks: the least of some keys, looked for place by place, and one key stored, with the least of its block.
 -- Assumes nothing.
 use Prim.Native.Nat.{ℕ, ◌+◌, ◌*◌, ◌/◌, ◌≤◌, ◌<◌}
+use mathlib.Core.Bool.{true, false}
 use mathlib.Core.Path.{◌≡◌, refl, sym, ap, ◌∙◌}
 use mathlib.Core.List.{List}
 use mathlib.Core.Logic.{◌⊎◌, inl, inr, ⊎_elim, dite}
@@ -8,11 +9,25 @@ use native.Mathlib.Decide.{ℕ_discrete}
 use native.Mathlib.Omega.{arith}
 use lib.ListN.{length, get_or, set, replicate, length-set, length-replicate, get_or-replicate}
 use lib.Seq.{get_or-set_same, get_or-set_other}
-use lib.Dec.{ltb}
-use borrow.Author.Tests.{ltb-true, ltb-false}
+use lib.Dec.{leb, ltb}
+use borrow.Author.Tests.{leb-true, leb-false, ltb-true, ltb-false}
+use Rattle.std.specs.Prelude.{min}
 use Rattle.lists.proofs.AfterStore.{at_or_not}
 use Rattle.lists.proofs.Member.{either}
-use Rattle.waiting.specs.Waiting.{nobody, Lower, LeastFrom, InBlock, Blocks}
+use Rattle.waiting.specs.Waiting.{nobody, LeastFrom, InBlock, Blocks}
+
+-- r is the lower of two keys: no higher than either, and one of them.
+pub record Lower (one other r : ℕ) : Type 0 where
+  pub first : r ≤ one
+  pub second : r ≤ other
+  pub one_of : (r ≡ one) ⊎ (r ≡ other)
+
+pub min_lower : {one other r : ℕ} → r ≡ min one other → Lower one other r
+min_lower {one} {other} {r} is = record { first = omega arith; second = omega arith; one_of = go (either (leb one other)) }
+  where
+    go : (leb one other ≡ true) ⊎ (leb one other ≡ false) → (r ≡ one) ⊎ (r ≡ other)
+    go (inl t) = let h : one ≤ other = leb-true one other t in inl (omega arith)
+    go (inr t) = let h : other < one = leb-false one other t in inr (omega arith)
 
 -- The least of one key, and of one key more.
 pub least_one : {keys : List ℕ} {from : ℕ} → LeastFrom keys from 1 (get_or keys from 0)

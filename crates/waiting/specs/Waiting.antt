@@ -1,7 +1,7 @@
 -- Who waits, in an array of keys: of a vertex that is reached and not settled the key, of any other `nobody`. The keys stand in sixteen
 -- blocks of sixteen, and a second array has the least of each block.
 -- Assumes nothing.
-use Rattle.std.specs.Prelude.{ℕ, ◌+◌, ◌*◌, ◌/◌, ◌%◌, ◌≤◌, ◌<◌, ◌≡◌, List, ◌⊎◌, length, get_or, set}
+use Rattle.std.specs.Prelude.{ℕ, ◌+◌, ◌*◌, ◌/◌, ◌%◌, ◌≤◌, ◌<◌, ◌≡◌, List, length, get_or, set}
 
 -- The key of a vertex at a distance: both in one number, so that a lower key is never farther.
 unfoldable pub key_of : ℕ → ℕ → ℕ
@@ -13,12 +13,6 @@ vertex_of key = key % 65536
 -- What stands for a vertex that does not wait. Every key is below it.
 abbrev pub nobody : ℕ
 nobody = 18446744073709551615
-
--- r is the lower of two keys: no higher than either, and one of them.
-pub record Lower (one other r : ℕ) : Type 0 where
-  pub first : r ≤ one
-  pub second : r ≤ other
-  pub one_of : (r ≡ one) ⊎ (r ≡ other)
 
 -- r is the least of so many keys from a place on.
 pub record LeastFrom (keys : List ℕ) (from many r : ℕ) : Type 0 where

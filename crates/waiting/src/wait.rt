@@ -3,7 +3,7 @@
 // of each block is kept beside them: whoever comes nearer or is settled changes one block, and the nearest is the least
 // of sixteen.
 ghost use Rattle.std.specs.Prelude.{◌≡◌, ◌+◌, ◌<◌, ◌≤◌, length};
-ghost use Rattle.waiting.specs.Waiting.{key_of, vertex_of, nobody, Lower, LeastFrom, Blocks, KeyGiven, KeyPut};
+ghost use Rattle.waiting.specs.Waiting.{key_of, vertex_of, nobody, LeastFrom, Blocks, KeyGiven, KeyPut};
 
 // What stands for a vertex that does not wait. Every key is below it.
 pub const NOBODY: u64 = 18446744073709551615;
@@ -23,13 +23,6 @@ pub fn vertex_of(key: u64) -> usize
     (key % 65536) as usize
 }
 
-// The lower of two keys.
-fn lower(one: u64, other: u64) -> u64
-    ensures { Lower one other result }
-{
-    if other < one { other } else { one }
-}
-
 // The least of sixteen keys from a place on. The two halves are looked through side by side, so that neither waits for
 // the other.
 pub fn least_from(keys: &[u64], from: usize) -> u64
@@ -39,13 +32,11 @@ pub fn least_from(keys: &[u64], from: usize) -> u64
     let half = from + 8;
     let mut one = keys[from];
     let mut other = keys[half];
-    let mut i = 1;
-    while i < 8 {
-        one = lower(one, keys[from + i]);
-        other = lower(other, keys[half + i]);
-        i += 1;
+    for i in 1..8 {
+        one = one.min(keys[from + i]);
+        other = other.min(keys[half + i]);
     }
-    lower(one, other)
+    one.min(other)
 }
 
 // Vertex v waits with this key, no higher than what stood for it.
@@ -54,7 +45,7 @@ pub fn put_key(v: usize, key: u64, wait: &mut [u64], low: &mut [u64])
     ensures { KeyPut v key wait.old wait.new low.old low.new }
 {
     wait[v] = key;
-    low[v / 16] = lower(low[v / 16], key);
+    low[v / 16] = low[v / 16].min(key);
 }
 
 // Vertex v waits no longer.

@@ -1,13 +1,9 @@
 -- `deficient::take_keys` meets its contract. The loop's invariant: the trees before i have their keys.
--- The measure is how many trees are left. Assumes nothing.
-use Prim.Native.Nat.{◌-◌, ◌≤◌}
+-- Assumes nothing.
 use mathlib.Core.List.{head_d}
 use Rattle.lists.specs.Segments.{segment}
 use Rattle.lists.proofs.SetUpTo.{SetUpTo}
 use Rattle.deficient.proofs.take_keys.Given as goal
 
 abbrev pub invariant-loop-i : goal.invariant-loop-i
-invariant-loop-i l = (l.i ≤ l.t) × SetUpTo (λ h. head_d (segment l.bounds l.edges h) 0) l.i l.initial.keys l.keys
-
-abbrev pub decreases-loop-i : goal.decreases-loop-i
-decreases-loop-i l = l.t - l.i
+invariant-loop-i l = SetUpTo (λ h. head_d (segment l.bounds l.edges h) 0) l.i l.initial.keys l.keys

@@ -1,6 +1,5 @@
 -- `deficient::take_starts` meets its contract. The loop's invariant: the starts of the pieces before i are written.
--- The measure is how many are left. Assumes nothing.
-use Prim.Native.Nat.{◌-◌, ◌≤◌}
+-- Assumes nothing.
 use mathlib.Core.Path.{◌≡◌}
 use mathlib.Core.List.{map}
 use lib.ListN.{length, get_or, take}
@@ -10,10 +9,6 @@ use Rattle.deficient.proofs.take_starts.Given as goal
 abbrev pub invariant-loop-i : goal.invariant-loop-i
 invariant-loop-i l =
     record {
-      within : l.i ≤ length l.chosen;
       size : length l.laid ≡ length l.initial.laid;
       putting : PutTo 0 (map (λ c. get_or l.starts c 0) (take l.i l.chosen)) l.initial.laid l.laid l.i;
     }
-
-abbrev pub decreases-loop-i : goal.decreases-loop-i
-decreases-loop-i l = length l.chosen - l.i

@@ -22,34 +22,23 @@ pub marked_places-t-requires : goal.marked_places-t-requires
 marked_places-t-requires c = omega (arith, length-take-le c.args.parts c.args.places.now c.requires.places_room, c.requires.few)
 
 pub slice_bounds-write_parts-end : goal.slice_bounds-write_parts-end
-slice_bounds-write_parts-end c =
-    let places : List ℕ = take c.args.parts c.args.places.now in
-    let marks : List ℕ = take c.args.parts c.args.marks.now in
-    let taken_are : take c.marked_places-t.result c.marked_places-t.new.out ≡ places_marked places marks = put_taken c.marked_places-t.ensures.places_are in
-    put_count c.marked_places-t.ensures.places_are ∙ sym (ap length taken_are)
+slice_bounds-write_parts-end c = put_count c.marked_places-t.ensures.places_are ∙ sym (ap length (put_taken c.marked_places-t.ensures.places_are))
 
 pub write_parts-requires : goal.write_parts-requires
 write_parts-requires c =
-    let places : List ℕ = take c.args.parts c.args.places.now in
-    let marks : List ℕ = take c.args.parts c.args.marks.now in
-    let taken_are : take c.marked_places-t.result c.marked_places-t.new.out ≡ places_marked places marks = put_taken c.marked_places-t.ensures.places_are in
-    let size : length places ≡ c.args.parts = length-take-le c.args.parts c.args.places.now c.requires.places_room in
-    let given : ChosenGiven c.args.cuts.now c.args.members.now (places_marked places marks) (length c.args.buf.now) = marked_given c.args.starts.now c.args.cuts.now c.args.members.now places marks c.requires.held (omega (arith, size, c.requires.few))
-    c.requires.light c.requires.most in
-    rw taken_are given
+    rw (put_taken c.marked_places-t.ensures.places_are)
+    (marked_given c.args.pieces.starts.now c.args.pieces.cuts.now c.args.pieces.members.now (take c.args.parts c.args.places.now) (take c.args.parts c.args.marks.now)
+    c.requires.held (omega (arith, length-take-le c.args.parts c.args.places.now c.requires.places_room, c.requires.few)) c.requires.light c.requires.most)
 
 pub slice_bounds-count_allowed-end : goal.slice_bounds-count_allowed-end
 slice_bounds-count_allowed-end c = sym (length-take-le c.args.parts c.args.marks.now c.requires.marks_room)
 
 pub returns : goal.returns
 returns c =
-    let places : List ℕ = take c.args.parts c.args.places.now in
-    let marks : List ℕ = take c.args.parts c.args.marks.now in
-    let taken_are : take c.marked_places-t.result c.marked_places-t.new.out ≡ places_marked places marks = put_taken c.marked_places-t.ensures.places_are in
-    let size : length places ≡ c.args.parts = length-take-le c.args.parts c.args.places.now c.requires.places_room in
+    let in_order = marked_in_order c.args.pieces.starts.now c.args.pieces.cuts.now c.args.pieces.members.now (take c.args.parts c.args.places.now) (take c.args.parts c.args.marks.now) in
     record {
       bytes = c.write_parts.result;
-      written = rw (marked_in_order c.args.starts.now c.args.cuts.now c.args.members.now places marks) at (rw taken_are at c.write_parts.ensures);
-      parts_are = rw size at c.marked_places-t.ensures.count;
+      written = rw in_order at (rw (put_taken c.marked_places-t.ensures.places_are) at c.write_parts.ensures);
+      parts_are = rw (length-take-le c.args.parts c.args.places.now c.requires.places_room) at c.marked_places-t.ensures.count;
       roots_are = c.count_allowed-d.ensures;
     }

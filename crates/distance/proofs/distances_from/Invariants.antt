@@ -6,7 +6,7 @@ use Rattle.distance.proofs.SearchTurns.{Searching}
 use Rattle.distance.proofs.distances_from.Given as goal
 
 abbrev pub invariant-loop-least : goal.invariant-loop-least
-invariant-loop-least l = Searching l.n l.bounds l.arcs l.root l.initial.dist l.initial.last l.least l.dist l.last l.wait l.low
+invariant-loop-least l = Searching l.n l.around.bounds.now l.around.arcs.now l.root l.initial.dist l.initial.last l.least l.dist l.last l.wait l.low
 
 abbrev pub decreases-loop-least : goal.decreases-loop-least
 decreases-loop-least l = l.n - settled_count l.n l.dist l.wait

@@ -1,9 +1,11 @@
 -- `graph_check::check_graph` meets its contract: at each return the tests that led there say what the definition gives.
 -- Assumes nothing.
 use Prim.Native.Nat.{ℕ}
-use mathlib.Core.Path.{◌∙◌}
+use mathlib.Core.Path.{ap, ◌∙◌}
 use mathlib.Core.List.{List}
 use native.Mathlib.Omega.{arith}
+use Rattle.graph.proofs.Surfaced.{plain_graph}
+use Rattle.graph_check.specs.Check.{check_all}
 use Rattle.graph_check.proofs.Steps.{short_refused, length_refused, vertices_none_refused, vertices_over_refused, edges_over_refused, head_passed, head_decides, edges_decide}
 use Rattle.graph_check.proofs.check_graph.Goals as goal
 
@@ -33,4 +35,4 @@ returns-then-m-gt2048 c =
 pub returns : goal.returns
 returns c =
     let bytes : List ℕ = c.args.b.now in
-    c.check_edges.ensures ∙ edges_decide bytes (head_passed bytes (omega arith) (omega arith) (omega arith) (omega arith))
+    c.check_edges.ensures ∙ ap check_all (c.new.ensures ∙ plain_graph bytes) ∙ edges_decide bytes (head_passed bytes (omega arith) (omega arith) (omega arith) (omega arith))

@@ -3,7 +3,6 @@
 use mathlib.Core.Path.{◌≡◌, ◌∙◌, refl}
 use native.Mathlib.Omega.{arith}
 use lib.ListN.{length, get_or-replicate}
-use borrow.Author.Tests.{not-true, not-false}
 use Rattle.lists.proofs.Put.{only_first_length}
 use Rattle.lists.proofs.OnlyFirst.{only_first_none, only_first_on}
 use Rattle.matching.specs.Input.{allowed_at}
@@ -16,7 +15,6 @@ use Rattle.matching.proofs.solve.Goals as goal
 pub loop-i-init : goal.loop-i-init
 loop-i-init c =
     record {
-      within = omega arith;
       mirror =
           record {
             all = refl;
@@ -47,24 +45,15 @@ returns-then-not-place c =
     record {
       answered = λ e. differ cc;
       assigned = λ e. absurd (differ cc);
-      set = λ _. c.place.ensures.set (not-true _ c.if-not-place.true-raw);
+      set = λ _. c.place.ensures.set c.if-not-place.true;
       rest = only_first_on c.loop-i.invariant.rest c.place.ensures.rest;
     }
-
-pub overflow_add-i : goal.overflow_add-i
-overflow_add-i c =
-    let input : Accepted c.args.p c.args.y c.args.allowed.now (length c.args.out.now) = accepted _ _ _ _ c.requires in
-    omega (arith, input)
-
-pub loop-i-smaller : goal.loop-i-smaller
-loop-i-smaller c = omega (arith, c.loop-i-test)
 
 pub loop-i-preserved : goal.loop-i-preserved
 loop-i-preserved c =
     record {
-      within = omega (arith, c.loop-i-test);
-      mirror = c.place.ensures.mirror (not-false _ c.if-not-place.false-raw);
-      may = c.place.ensures.may (not-false _ c.if-not-place.false-raw);
+      mirror = c.place.ensures.mirror c.if-not-place.false;
+      may = c.place.ensures.may c.if-not-place.false;
       rest = only_first_on c.loop-i.invariant.rest c.place.ensures.rest;
       size = only_first_length c.place.ensures.rest ∙ c.loop-i.invariant.size;
     }

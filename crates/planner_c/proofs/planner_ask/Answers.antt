@@ -4,5 +4,5 @@ use Rattle.planner_c.proofs.planner_ask.Goals as goal
 
 pub returns : goal.returns
 returns c =
-    let p = rw (c.asked_of-question.ensures, c.kind_of.ensures, c.lists_of.ensures) at c.ask-told.ensures in
+    let p = rw (c.asked_of.ensures, c.question_of-question.ensures) at c.ask-told.ensures in
     asked_exported c.args.asked c.args.limit _ _ _ c.ask-told.result p c.number_of.ensures c.put_values.ensures

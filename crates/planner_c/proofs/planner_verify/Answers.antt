@@ -8,7 +8,7 @@ pub returns : goal.returns
 returns c =
     record {
       verdict = c.check-verdict.result;
-      promise = rw (c.kind_of.ensures, c.lists_of.ensures) at c.check-verdict.ensures;
+      promise = rw c.question_of-question.ensures at c.check-verdict.ensures;
       number = c.number_of.ensures ∙ verdict_number (says c.check-verdict.result);
       puts = c.put_heaviest.ensures;
     }

@@ -5,7 +5,7 @@ pub returns : goal.returns
 returns c =
     record {
       walked = c.walk-walked.result;
-      promise = rw c.kind_of.ensures at c.walk-walked.ensures;
+      promise = rw (c.new-question.ensures, c.kind_of.ensures) at c.walk-walked.ensures;
       number = c.number_of.ensures;
       puts = c.put_walk.ensures;
     }

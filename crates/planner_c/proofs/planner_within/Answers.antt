@@ -5,7 +5,7 @@ pub returns : goal.returns
 returns c =
     record {
       told = c.ask-told.result;
-      promise = rw (c.kind_of.ensures, c.lists_of.ensures) at c.ask-told.ensures;
+      promise = rw c.question_of-question.ensures at c.ask-told.ensures;
       number = c.number_told.ensures;
       puts = c.put_told.ensures;
     }

@@ -8,19 +8,18 @@ use Rattle.lists.proofs.Below.{of_below}
 use Rattle.lists.proofs.Put.{put_taken, put_only_first}
 use Rattle.lists.proofs.Runs.{length_below}
 use Rattle.graph.specs.Graph.{Graph, edge_count}
-use Rattle.graph.specs.Bytes.{graph_of}
 use Rattle.prepare.proofs.prepare_distances.Goals as goal
 
 pub slice_bounds-put_around-end-2 : goal.slice_bounds-put_around-end-2
 slice_bounds-put_around-end-2 c =
-    let g : Graph = graph_of c.args.b.now c.args.classes.now in
+    let g : Graph = c.args.g.now in
     let all_are : take c.edge_count-m.result c.number_up.new.out ≡ below (edge_count g) = put_taken c.number_up.ensures ∙ ap below c.edge_count-m.ensures.is in
     let size : length (take c.edge_count-m.result c.number_up.new.out) ≡ edge_count g = ap length all_are ∙ length_below (edge_count g) in
     c.edge_count-m.ensures.is ∙ sym size
 
 pub put_around-requires : goal.put_around-requires
 put_around-requires c =
-    let g : Graph = graph_of c.args.b.now c.args.classes.now in
+    let g : Graph = c.args.g.now in
     let all_are : take c.edge_count-m.result c.number_up.new.out ≡ below (edge_count g) = put_taken c.number_up.ensures ∙ ap below c.edge_count-m.ensures.is in
     let size : length (take c.edge_count-m.result c.number_up.new.out) ≡ edge_count g = ap length all_are ∙ length_below (edge_count g) in
     record {
@@ -42,7 +41,7 @@ fill_table-requires c =
 
 pub returns : goal.returns
 returns c =
-    let g : Graph = graph_of c.args.b.now c.args.classes.now in
+    let g : Graph = c.args.g.now in
     let all_are : take c.edge_count-m.result c.number_up.new.out ≡ below (edge_count g) = put_taken c.number_up.ensures ∙ ap below c.edge_count-m.ensures.is in
     let numbers_only : OnlyFirst (edge_count g) c.args.numbers.now c.number_up.new.out = rw (← c.edge_count-m.ensures.is) (put_only_first c.number_up.ensures) in
     let size : length (take c.edge_count-m.result c.number_up.new.out) ≡ edge_count g = ap length all_are ∙ length_below (edge_count g) in

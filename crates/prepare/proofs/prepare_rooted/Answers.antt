@@ -8,7 +8,6 @@ use Rattle.lists.proofs.Lengths.{length_within}
 use Rattle.lists.proofs.OnlyFirst.{only_first_on, only_first_of_more}
 use Rattle.lists.proofs.Sorting.{rise_length}
 use Rattle.graph.specs.Graph.{Graph, edge_count}
-use Rattle.graph.specs.Bytes.{graph_of}
 use Rattle.rules.specs.Order.{ordered}
 use Rattle.rules.specs.Labels.{together}
 use Rattle.forest_laws.proofs.Keeping.{kept_subset, kept_once}
@@ -35,7 +34,7 @@ slice_bounds-put_arcs-end-2 c =
 
 pub put_arcs-requires : goal.put_arcs-requires
 put_arcs-requires c =
-    let g : Graph = graph_of c.args.b.now c.args.classes.now in
+    let g : Graph = c.args.g.now in
     let size : length (take c.keep_forest-ready.result.forest c.keep_forest-ready.new.kept) ≡ c.keep_forest-ready.result.forest = length-take-le _ _ c.keep_forest-ready.ensures.forest_room in
     record {
       valid = c.requires.given.valid;
@@ -48,7 +47,7 @@ put_arcs-requires c =
 
 pub returns : goal.returns
 returns c =
-    let g : Graph = graph_of c.args.b.now c.args.classes.now in
+    let g : Graph = c.args.g.now in
     let size : length (take c.keep_forest-ready.result.forest c.keep_forest-ready.new.kept) ≡ c.keep_forest-ready.result.forest = length-take-le _ _ c.keep_forest-ready.ensures.forest_room in
     let few_kept : c.keep_forest-ready.result.forest ≤ edge_count g = omega (
       arith,

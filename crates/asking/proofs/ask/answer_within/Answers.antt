@@ -3,35 +3,34 @@ use mathlib.Core.Path.{sym, ap, ◌∙◌}
 use native.Mathlib.Omega.{arith}
 use Rattle.rules.specs.Cover.{Crews}
 use Rattle.planner_laws.proofs.FewTrials.{high_bounded}
-use Rattle.prepare.specs.Crews.{crews_with}
+use Rattle.prepare.specs.Crews.{the_crews}
 use Rattle.search.specs.declared.limit.Found.{Found}
-use Rattle.answers.proofs.KindKnown.{forest_ready}
-use Rattle.asking.proofs.Answering.{choices_for, none_answered, found_answered}
+use Rattle.answers.proofs.AllReady.{forest_ready, crews_ready, order_ready}
+use Rattle.asking.proofs.CrewsKnown.{walkable, choices_for}
+use Rattle.asking.proofs.Answering.{none_answered, found_answered}
 use Rattle.asking.proofs.ask.answer_within.Goals as goal
 
 pub no_cover-requires : goal.no_cover-requires
-no_cover-requires c = forest_ready c.requires.answer.ready
+no_cover-requires c = forest_ready c.requires.answer
 
 pub returns-then-no_cover : goal.returns-then-no_cover
-returns-then-no_cover c =
-    none_answered c.args.trials (sym c.no_cover.ensures ∙ c.if-no_cover.true) _
-    (choices_for c.args.kind c.args.k c.requires.answer.ready _)
+returns-then-no_cover c = none_answered c.args.trials (sym c.no_cover.ensures ∙ c.if-no_cover.true) _ (choices_for c.requires.answer _)
 
 pub find_limit-found-requires : goal.find_limit-found-requires
 find_limit-found-requires c =
     record {
-      crews = record { ready = c.requires.answer.ready; some_cover = sym c.no_cover.ensures ∙ c.if-no_cover.false };
-      in_order = c.requires.answer.in_order;
-      around = c.requires.answer.around;
+      prepared = record { ready = crews_ready c.requires.answer; some_cover = sym c.no_cover.ensures ∙ c.if-no_cover.false };
+      in_order = order_ready c.requires.answer;
+      walkable = walkable c.requires.answer;
       some_trials = c.requires.some_trials;
     }
 
 pub answer_at-reply-requires : goal.answer_at-reply-requires
 answer_at-reply-requires c =
-    let crews : Crews = crews_with c.args.kind c.args.k c.args.roots.now in
+    let crews : Crews = the_crews c.args.prepared.crews in
     record {
       answer = c.requires.answer;
-      limit_most = omega (arith, ap (λ (f : Found). f.high) c.find_limit-found.ensures, high_bounded c.requires.answer.ready.valid crews c.args.trials);
+      limit_most = omega (arith, ap (λ (f : Found). f.high) c.find_limit-found.ensures, high_bounded (crews_ready c.requires.answer).valid crews c.args.trials);
     }
 
 pub returns : goal.returns

@@ -20,30 +20,30 @@ slice_bounds-edges-end c = sym (ap length (put_taken c.read_run-q.ensures) ∙ s
 
 pub write_walk-written-requires : goal.write_walk-written-requires
 write_walk-written-requires c =
-    let asked : TreeAsked (graph_of c.args.b.now c.args.classes.now) c.args.c.now c.args.tree (length c.args.buf.now) = c.requires in
+    let asked : TreeAsked c.args.g.now c.args.c.now c.args.tree (length c.args.buf.now) = c.requires in
     let began : FirstOf c.args.c.now c.args.tree c.run_begin-from.result = c.run_begin-from.ensures in
     let ended : RunOf c.args.c.now c.args.tree c.run_begin-from.result c.run_end-to.result = c.run_end-to.ensures in
     rw (c.start_in.ensures.is, put_taken c.read_run-q.ensures) (write_asked asked began ended)
 
 pub edges_weight-length-requires : goal.edges_weight-length-requires
 edges_weight-length-requires c =
-    let asked : TreeAsked (graph_of c.args.b.now c.args.classes.now) c.args.c.now c.args.tree (length c.args.buf.now) = c.requires in
+    let asked : TreeAsked c.args.g.now c.args.c.now c.args.tree (length c.args.buf.now) = c.requires in
     let began : FirstOf c.args.c.now c.args.tree c.run_begin-from.result = c.run_begin-from.ensures in
     let ended : RunOf c.args.c.now c.args.tree c.run_begin-from.result c.run_end-to.result = c.run_end-to.ensures in
     rw (put_taken c.read_run-q.ensures) (omega (arith, run_length c.args.c.now c.run_begin-from.result c.run_end-to.result, run_few asked began ended))
 
 pub overflow_mul-length : goal.overflow_mul-length
 overflow_mul-length c =
-    let weighed : c.edges_weight-length.result ≡ total_weight (graph_of c.args.b.now c.args.classes.now) (run_edges c.args.c.now c.run_begin-from.result c.run_end-to.result) = rw (put_taken c.read_run-q.ensures) at c.edges_weight-length.ensures in
-    let asked : TreeAsked (graph_of c.args.b.now c.args.classes.now) c.args.c.now c.args.tree (length c.args.buf.now) = c.requires in
+    let weighed : c.edges_weight-length.result ≡ total_weight c.args.g.now (run_edges c.args.c.now c.run_begin-from.result c.run_end-to.result) = rw (put_taken c.read_run-q.ensures) at c.edges_weight-length.ensures in
+    let asked : TreeAsked c.args.g.now c.args.c.now c.args.tree (length c.args.buf.now) = c.requires in
     let began : FirstOf c.args.c.now c.args.tree c.run_begin-from.result = c.run_begin-from.ensures in
     let ended : RunOf c.args.c.now c.args.tree c.run_begin-from.result c.run_end-to.result = c.run_end-to.ensures in
     omega (arith, weighed, weight_few asked began ended)
 
 pub returns : goal.returns
 returns c =
-    let asked : TreeAsked (graph_of c.args.b.now c.args.classes.now) c.args.c.now c.args.tree (length c.args.buf.now) = c.requires in
+    let asked : TreeAsked c.args.g.now c.args.c.now c.args.tree (length c.args.buf.now) = c.requires in
     let began : FirstOf c.args.c.now c.args.tree c.run_begin-from.result = c.run_begin-from.ensures in
     let ended : RunOf c.args.c.now c.args.tree c.run_begin-from.result c.run_end-to.result = c.run_end-to.ensures in
-    let weighed : c.edges_weight-length.result ≡ total_weight (graph_of c.args.b.now c.args.classes.now) (run_edges c.args.c.now c.run_begin-from.result c.run_end-to.result) = rw (put_taken c.read_run-q.ensures) at c.edges_weight-length.ensures in
+    let weighed : c.edges_weight-length.result ≡ total_weight c.args.g.now (run_edges c.args.c.now c.run_begin-from.result c.run_end-to.result) = rw (put_taken c.read_run-q.ensures) at c.edges_weight-length.ensures in
     tree_walked asked began ended (rw (c.start_in.ensures.is, put_taken c.read_run-q.ensures) at c.write_walk-written.ensures) weighed

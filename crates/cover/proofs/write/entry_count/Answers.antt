@@ -1,55 +1,37 @@
--- `cover::write::entry_count` meets its contract. The loop's invariant: the sum is that of the first j trees, no more than that of all.
--- The measure is how many are left. Assumes nothing.
-use Prim.Native.Nat.{◌+◌, ◌≤◌}
-use mathlib.Core.Path.{◌≡◌, ap, ◌∙◌}
+-- `cover::write::entry_count` meets its contract. The loop's invariant: the sum is that of the trees so far.
+-- Assumes nothing.
+use Prim.Native.Nat.{ℕ, ◌+◌, ◌≤◌, ◌<◌}
+use mathlib.Core.Path.{◌≡◌, refl}
+use mathlib.Core.List.{List}
 use native.Mathlib.Omega.{arith}
-use lib.ListN.{take}
-use lib.Seq.{take_all}
+use lib.ListN.{length, take, get_or}
 use Rattle.lists.specs.Lists.{sum_of}
 use Rattle.lists.proofs.OneMore.{sum_first, sum_first_more}
 use Rattle.cover.specs.Chosen.{size_at, entry_count}
 use Rattle.cover.proofs.write.entry_count.Goals as goal
 
-pub loop-j-init : goal.loop-j-init
+-- With the next tree's edges the sum is that of one tree more.
+sum_next : (bounds chosen : List ℕ) (j : ℕ) {sum : ℕ} → j < length chosen → sum ≡ entry_count bounds (take j chosen)
+    → sum + size_at bounds (get_or chosen j 0) ≡ entry_count bounds (take (j + 1) chosen)
+unfolding entry_count
+sum_next bounds chosen j h before = omega (arith, sum_first_more (size_at bounds) chosen j 0 h, before)
+
+-- No more than that of all.
+sum_within : (bounds chosen : List ℕ) (j : ℕ) → entry_count bounds (take j chosen) ≤ entry_count bounds chosen
+unfolding entry_count
+sum_within bounds chosen j = sum_first (size_at bounds) chosen j
+
+pub loop-c-init : goal.loop-c-init
 unfolding entry_count sum_of
-loop-j-init c = (omega arith, mathlib.Core.Path.refl)
-
-pub number_at-requires : goal.number_at-requires
-number_at-requires c = tt
-
-pub size_at-sum-requires : goal.size_at-sum-requires
-size_at-sum-requires c = omega arith
+loop-c-init c = refl
 
 pub overflow_add-sum : goal.overflow_add-sum
-unfolding entry_count
 overflow_add-sum c =
-    let sum_next : c.loop-j.sum + c.size_at-sum.result ≡ entry_count c.args.bounds.now (take (c.loop-j.j + 1) c.args.chosen.now) = omega (
+    omega (
       arith,
-      sum_first_more (size_at c.args.bounds.now) c.args.chosen.now c.loop-j.j 0 (omega arith),
-      c.size_at-sum.ensures.is,
-      ap (size_at c.args.bounds.now) c.number_at.ensures.is,
-      c.loop-j.invariant.1,
-    ) in
-    let sum_within : c.loop-j.sum + c.size_at-sum.result ≤ entry_count c.args.bounds.now c.args.chosen.now = omega (arith, sum_next, sum_first (size_at c.args.bounds.now) c.args.chosen.now (c.loop-j.j + 1)) in
-    omega (arith, sum_within)
+      sum_next c.args.bounds.now c.args.chosen.now c.loop-c.c-index (omega arith) c.loop-c.invariant,
+      sum_within c.args.bounds.now c.args.chosen.now (c.loop-c.c-index + 1),
+    )
 
-pub overflow_add-j : goal.overflow_add-j
-overflow_add-j c = omega arith
-
-pub loop-j-smaller : goal.loop-j-smaller
-loop-j-smaller c = omega arith
-
-pub loop-j-preserved : goal.loop-j-preserved
-unfolding entry_count
-loop-j-preserved c =
-    let sum_next : c.loop-j.sum + c.size_at-sum.result ≡ entry_count c.args.bounds.now (take (c.loop-j.j + 1) c.args.chosen.now) = omega (
-      arith,
-      sum_first_more (size_at c.args.bounds.now) c.args.chosen.now c.loop-j.j 0 (omega arith),
-      c.size_at-sum.ensures.is,
-      ap (size_at c.args.bounds.now) c.number_at.ensures.is,
-      c.loop-j.invariant.1,
-    ) in
-    (omega arith, sum_next)
-
-pub returns : goal.returns
-returns c = c.loop-j.invariant.1 ∙ ap (entry_count c.args.bounds.now) (take_all c.loop-j.j c.args.chosen.now (omega arith))
+pub loop-c-preserved : goal.loop-c-preserved
+loop-c-preserved c = omega (arith, sum_next c.args.bounds.now c.args.chosen.now c.loop-c.c-index (omega arith) c.loop-c.invariant)

@@ -1,9 +1,8 @@
--- `cover::write::put_starts` meets its contract. The loop's invariant: the starts of the first j trees are put. The measure is
--- how many are left.
+-- `cover::write::put_starts` meets its contract. The loop's invariant: the starts of the trees so far are put.
 -- Assumes nothing.
-use Prim.Native.Nat.{ℕ, ◌-◌}
+use Prim.Native.Nat.{ℕ}
 use mathlib.Core.List.{List, [], ◌∷◌}
-use lib.ListN.{length, get_or}
+use lib.ListN.{get_or}
 use Rattle.cover.proofs.Writing.{FirstPut}
 use Rattle.cover.proofs.write.put_starts.Given as goal
 
@@ -11,8 +10,5 @@ use Rattle.cover.proofs.write.put_starts.Given as goal
 abbrev pub field : List ℕ → ℕ → ℕ → List ℕ
 field starts j c = get_or starts c 0 ∷ []
 
-abbrev pub invariant-loop-j : goal.invariant-loop-j
-invariant-loop-j l = FirstPut (field l.starts) l.chosen l.j l.at l.initial.buf l.buf l.next
-
-abbrev pub decreases-loop-j : goal.decreases-loop-j
-decreases-loop-j l = length l.chosen - l.j
+abbrev pub invariant-loop-c : goal.invariant-loop-c
+invariant-loop-c l = FirstPut (field l.starts) l.chosen l.c-index l.at l.initial.buf l.buf l.next

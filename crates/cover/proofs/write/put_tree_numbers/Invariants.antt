@@ -1,8 +1,8 @@
--- `cover::write::put_tree_numbers` meets its contract. The loop's invariant: the numbers of the first j trees are put. The measure is
--- how many trees are left. Assumes nothing.
-use Prim.Native.Nat.{ℕ, ◌-◌}
+-- `cover::write::put_tree_numbers` meets its contract. The loop's invariant: the numbers of the first j trees are put.
+-- Assumes nothing.
+use Prim.Native.Nat.{ℕ}
 use mathlib.Core.List.{List}
-use lib.ListN.{length, replicate}
+use lib.ListN.{replicate}
 use Rattle.cover.specs.Chosen.{size_at}
 use Rattle.cover.proofs.Writing.{FirstPut}
 use Rattle.cover.proofs.write.put_tree_numbers.Given as goal
@@ -13,6 +13,3 @@ numbers bounds j c = replicate (size_at bounds c) j
 
 abbrev pub invariant-loop-j : goal.invariant-loop-j
 invariant-loop-j l = FirstPut (numbers l.bounds) l.chosen l.j l.at l.initial.buf l.buf l.next
-
-abbrev pub decreases-loop-j : goal.decreases-loop-j
-decreases-loop-j l = length l.chosen - l.j

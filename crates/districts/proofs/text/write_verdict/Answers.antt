@@ -7,11 +7,11 @@ use Rattle.districts.proofs.text.write_verdict.Goals as goal
 
 pub put_line-requires : goal.put_line-requires
 unfolding line
-put_line-requires c = omega (arith, last_few c.in-Yes.heaviest (omega arith), c.requires)
+put_line-requires c = omega (arith, last_few c.in-Ok.heaviest (omega arith), c.requires)
 
-pub returns-in-Yes : goal.returns-in-Yes
+pub returns-in-Ok : goal.returns-in-Ok
 unfolding line
-returns-in-Yes c = yes_put c.args.verdict c.in-Yes.is c.put_line.ensures
+returns-in-Ok c = yes_put c.args.verdict c.in-Ok.is c.put_line.ensures
 
-pub returns-in-Refused : goal.returns-in-Refused
-returns-in-Refused c = number_put c.args.verdict c.in-Refused.is (rw c.number.ensures at c.write_refused.ensures)
+pub returns-in-Err : goal.returns-in-Err
+returns-in-Err c = number_put c.args.verdict c.in-Err.is (rw c.number.ensures at c.write_refused.ensures)

@@ -1,17 +1,19 @@
--- `edges::light::light_count` meets its contract. The loop's invariant: the edges before low are within the limit, and those from high on
--- are not. The measure is how many edges are left between the two. Assumes nothing.
-use native.Mathlib.Omega.{arith}
-use Rattle.edges.proofs.WithinLimit.{halving_all, halving_light, halving_heavy, halving_none}
+-- `edges::light::light_count` meets its contract: the edges within the limit come first, and it says where they end. Assumes nothing.
+use Prim.Native.Nat.{ℕ}
+use mathlib.Core.List.{List}
+use lib.Dec.{leb}
+use Rattle.std.proofs.Common.{rules, tests}
+use Rattle.std.proofs.lemmas.List.Sorted.{IsPartitionPoint-from_clause}
+use Rattle.graph.specs.Graph.{Graph, weight_of}
+use Rattle.graph.specs.Bytes.{graph_of}
+use Rattle.edges.proofs.WithinLimit.{light_before_heavy, light_front}
 use Rattle.edges.proofs.light.light_count.Goals as goal
 
-pub loop-low-init : goal.loop-low-init
-loop-low-init c = halving_all _ c.requires _
-
-pub loop-low-preserved-then-limit-weight_of : goal.loop-low-preserved-then-limit-weight_of
-loop-low-preserved-then-limit-weight_of c = halving_heavy _ c.requires c.loop-low.invariant _ (omega arith) (omega arith) (omega arith)
-
-pub loop-low-preserved : goal.loop-low-preserved
-loop-low-preserved c = halving_light _ c.requires c.loop-low.invariant _ (omega arith) (omega arith) (omega arith)
-
 pub returns : goal.returns
-returns c = halving_none c.loop-low.invariant (omega arith)
+returns c =
+    let g : Graph = c.args.g.now in
+    let limit : ℕ = c.args.limit in
+    let edges : List ℕ = c.args.edges.now in
+    light_front g limit edges c.partition_point.ensures.bound
+    (IsPartitionPoint-from_clause (λ e. leb (weight_of g e) limit) edges c.partition_point.result c.partition_point.ensures.partitioned (light_before_heavy g limit edges c.requires)
+    (λ a r f k. search (rules, tests)))

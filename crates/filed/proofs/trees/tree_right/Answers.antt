@@ -5,7 +5,6 @@ use native.Mathlib.Omega.{arith}
 use lib.ListN.{length}
 use borrow.Author.Tests.{not-true, not-false}
 use Rattle.graph.specs.Graph.{Graph}
-use Rattle.graph.specs.Bytes.{graph_of}
 use Rattle.filed.proofs.JoinedByParents.{apart_parents, apart_spells}
 use Rattle.filed.proofs.TreeTests.{tree_loop, tree_joined}
 use borrow.Author.Rules.{rules}
@@ -18,7 +17,7 @@ run_loop_free-requires c =
 
 pub returns-then-not-run_loop_free : goal.returns-then-not-run_loop_free
 returns-then-not-run_loop_free c =
-    let g : Graph = graph_of c.args.b.now c.args.classes.now in
+    let g : Graph = c.args.g.now in
     let room : length c.set_apart.new.parents ≡ 256 = c.set_apart.auto.parents ∙ c.requires.room in
     record {
       is =
@@ -32,7 +31,7 @@ run_joined-requires c = (omega (arith, c.start_in.ensures.is, c.requires.start),
 
 pub returns : goal.returns
 returns c =
-    let g : Graph = graph_of c.args.b.now c.args.classes.now in
+    let g : Graph = c.args.g.now in
     let room : length c.set_apart.new.parents ≡ 256 = c.set_apart.auto.parents ∙ c.requires.room in
     record {
       is =

@@ -1,32 +1,23 @@
--- `filed_entries::entries::entries_right` meets its contract. The loop's invariant: every entry before i is right. The measure is how many are left.
+-- `filed_entries::entries::entries_right` meets its contract: `all` tests each entry.
 -- Assumes nothing.
-use mathlib.Core.Path.{sym, ◌∙◌}
+use Prim.Native.Nat.{ℕ}
+use mathlib.Core.Path.{ap, ◌∙◌}
+use mathlib.Core.Bool.{Bool}
 use native.Mathlib.Omega.{arith}
-use borrow.Author.Count.{below_none, below_more}
-use borrow.Author.Tests.{not-true, not-false}
-use Rattle.filed_entries.proofs.EntryTests.{entry_wrong, all_entries}
+use borrow.Author.Tests.{tests}
+use Rattle.std.proofs.Common.{rules}
+use Rattle.std.proofs.lemmas.Iterator.{YieldsList-from_range}
+use Rattle.std.proofs.lemmas.Iterator.Search.{all_from_yields_List}
+use Rattle.lists.specs.Count.{below}
+use Rattle.lists.specs.Lists.{all}
+use Rattle.rules.specs.CheckCover.{entry_right, entries_right}
+use Rattle.filed_entries.proofs.AllNumbers.{all_range}
 use Rattle.filed_entries.proofs.entries.entries_right.Goals as goal
 
-pub entries_in-q-requires : goal.entries_in-q-requires
-entries_in-q-requires c = tt
-
-pub loop-i-init : goal.loop-i-init
-loop-i-init c = below_none _
-
-pub entry_right-requires : goal.entry_right-requires
-entry_right-requires c = tt
-
-pub returns-then-not-entry_right : goal.returns-then-not-entry_right
-returns-then-not-entry_right c = sym (entry_wrong c.args.c.now c.args.m c.loop-i.i (omega arith) (sym c.entry_right.ensures ∙ not-true _ c.if-not-entry_right.true-raw))
-
-pub overflow_add-i : goal.overflow_add-i
-overflow_add-i c = omega arith
-
-pub loop-i-smaller : goal.loop-i-smaller
-loop-i-smaller c = omega arith
-
-pub loop-i-preserved : goal.loop-i-preserved
-loop-i-preserved c = below_more _ c.loop-i.i c.loop-i.invariant (sym c.entry_right.ensures ∙ not-false _ c.if-not-entry_right.false-raw)
-
 pub returns : goal.returns
-returns c = sym (all_entries c.args.c.now c.args.m (λ k h. c.loop-i.invariant k (omega arith)))
+unfolding entries_right
+returns c =
+    let right : ℕ → Bool = entry_right c.args.m c.args.c.now in
+    all_from_yields_List right _ _ _ c.all.ensures.ran (YieldsList-from_range 0 c.entries_in.result c.entries_in.result (cc) (omega arith)) (λ x b q k. search (rules, tests))
+    ∙ all_range right c.entries_in.result
+    ∙ ap (λ n. all right (below n)) c.entries_in.ensures.is

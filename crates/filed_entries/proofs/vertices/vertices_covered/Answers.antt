@@ -11,11 +11,11 @@ use Rattle.filed_entries.proofs.vertices.vertices_covered.Goals as goal
 
 pub mark_starts-requires : goal.mark_starts-requires
 mark_starts-requires c =
-    let g : Graph = graph_of c.args.b.now c.args.classes.now in
+    let g : Graph = c.args.g.now in
     λ j h. omega (arith, start_passed c.args.c.now g.vertices c.requires.starts j h, c.requires.valid.vertices_most)
 
 pub returns : goal.returns
 returns c =
-    let g : Graph = graph_of c.args.b.now c.args.classes.now in
+    let g : Graph = c.args.g.now in
     all_marked_covered g c.args.c.now (replicate 256 0) _ _ (λ v q. omega (arith, q, zeros_at 256 v)) c.mark_starts.ensures c.mark_ends.ensures
     (passed_tree (edge_count g) c.args.c.now c.requires.entries) c.all_marked.result (rw c.vertex_count.ensures.is at c.all_marked.ensures)

@@ -1,47 +1,32 @@
--- `forest::keep::keep_edges` meets its contract. The loop's invariant: the edges before i are taken.
--- The measure is how many are left. Assumes nothing.
+-- `forest::keep::keep_edges` meets its contract. The loop's invariant: the edges before e are taken. Assumes nothing.
 use Prim.Native.Nat.{◌<◌}
 use native.Mathlib.Omega.{arith}
-use borrow.Author.Tests.{not-true, not-false}
-use Rattle.graph.specs.Graph.{Graph}
 use Rattle.graph.specs.Bytes.{graph_of}
-use Rattle.graph.specs.Valid.{Valid}
 use Rattle.forest.proofs.KeptOneByOne.{taking_none, taking_passed, taking_more, taking_few, taking_all}
 use Rattle.forest.proofs.keep.keep_edges.Goals as goal
+use Rattle.forest.proofs.keep.keep_edges.Goals.{then-join_ends, else-join_ends}
 
-pub loop-i-init : goal.loop-i-init
-loop-i-init c = (omega arith, taking_none _ _)
-
-pub join_ends-requires : goal.join_ends-requires
-join_ends-requires c = record { valid = c.requires.labelable.valid; room = omega arith }
-
-pub loop-i-preserved-then-not-join_ends : goal.loop-i-preserved-then-not-join_ends
-loop-i-preserved-then-not-join_ends c = (
-  omega arith,
-  taking_passed c.loop-i.invariant.1 (omega arith) c.join_ends.auto.label
-      (rw (c.wide.ensures.is, not-true c.join_ends.result c.if-not-join_ends.true-raw) at c.join_ends.ensures),
-)
+pub loop-e-init : goal.loop-e-init
+loop-e-init c = taking_none _ _
 
 pub bounds-kept-r : goal.bounds-kept-r
 bounds-kept-r c =
-    let g : Graph = graph_of c.args.b.now c.args.classes.now in
-    let valid : Valid g = c.requires.labelable.valid in
-    let few : c.loop-i.r < g.vertices = taking_few c.loop-i.invariant.1 valid in
+    let few : c.loop-e.r < c.args.g.now.vertices = taking_few c.loop-e.invariant c.requires.labelable.valid in
     omega (arith, few)
 
-pub loop-i-preserved : goal.loop-i-preserved
-loop-i-preserved c =
-    let g : Graph = graph_of c.args.b.now c.args.classes.now in
-    let valid : Valid g = c.requires.labelable.valid in
-    let few : c.loop-i.r < g.vertices = taking_few c.loop-i.invariant.1 valid in (
-      omega arith,
-      taking_more c.loop-i.invariant.1 (omega arith) c.join_ends.auto.label
-          (rw (c.wide.ensures.is, not-false c.join_ends.result c.if-not-join_ends.false-raw) at c.join_ends.ensures)
-          (omega (arith, few)),
-    )
+pub loop-e-preserved : goal.loop-e-preserved
+loop-e-preserved c =
+    let few : c.loop-e.r < c.args.g.now.vertices = taking_few c.loop-e.invariant c.requires.labelable.valid in
+    elim c.if-join_ends.branch [
+      | then-join_ends w ↦
+          rw (w.kept-is, w.r-is)
+          (taking_more c.loop-e.invariant (omega arith) c.join_ends.auto.label
+          (rw (c.wide.ensures.is, w.if-join_ends.true) at c.join_ends.ensures) (omega (arith, few)))
+      | else-join_ends w ↦
+          rw (w.kept-is, w.r-is)
+          (taking_passed c.loop-e.invariant (omega arith) c.join_ends.auto.label
+          (rw (c.wide.ensures.is, w.if-join_ends.false) at c.join_ends.ensures))
+    ]
 
 pub returns : goal.returns
-returns c =
-    let g : Graph = graph_of c.args.b.now c.args.classes.now in
-    let valid : Valid g = c.requires.labelable.valid in
-    taking_all c.loop-i.invariant.1 valid (omega arith) (omega arith)
+returns c = taking_all c.loop-e.invariant c.requires.labelable.valid (omega arith) (omega arith)

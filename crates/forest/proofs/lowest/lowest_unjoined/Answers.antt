@@ -1,17 +1,16 @@
--- `forest::lowest::lowest_unjoined` meets its contract. The loop's invariant: from v on the first vertex that is not joined to the root is the first of all.
--- The measure is how many vertices are left. Assumes nothing.
+-- `forest::lowest::lowest_unjoined` meets its contract: the first label that is not the root's is that of the answer. Assumes nothing.
+use mathlib.Core.Path.{◌≡◌}
 use native.Mathlib.Omega.{arith}
-use Rattle.forest.proofs.LowestVertices.{looking_none, looking_more, looking_found, looking_all}
+use lib.ListN.{get_or, take}
+use borrow.Author.Rules.{rules}
+use borrow.Author.Tests.{tests}
+use Rattle.std.proofs.lemmas.Iterator.{IsFirst-from_position, YieldsList-from_slice}
+use Rattle.forest.proofs.LowestVertices.{place_answers}
 use Rattle.forest.proofs.lowest.lowest_unjoined.Goals as goal
 
-pub loop-v-init : goal.loop-v-init
-loop-v-init c = looking_none
-
-pub returns-then-label-v : goal.returns-then-label-v
-returns-then-label-v c = looking_found c.loop-v.invariant (omega arith) (omega arith) c.if-label-v.true
-
-pub loop-v-preserved : goal.loop-v-preserved
-loop-v-preserved c = looking_more c.loop-v.invariant (omega arith) (omega arith) c.if-label-v.false
-
 pub returns : goal.returns
-returns c = looking_all c.loop-v.invariant (omega arith)
+returns c =
+    let own = get_or c.args.label.now c.args.root 0 in
+    place_answers (omega arith) (omega arith) c.position.result
+    (IsFirst-from_position _ _ _ (λ x. x ≡ own → ⊥) (λ x. x ≡ own) c.position.ensures.ran
+    (YieldsList-from_slice (take c.args.n c.args.label.now) cc) (λ x q k. search (rules, tests)) (λ x q k. search (rules, tests)))

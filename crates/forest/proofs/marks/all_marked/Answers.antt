@@ -1,47 +1,35 @@
--- `forest::marks::all_marked` meets its contract. The invariant of both loops: the vertices below v are marked.
--- The measure is how many vertices are left. Assumes nothing.
-use Prim.Native.Nat.{ℕ}
-use mathlib.Core.Path.{refl, sym, ◌∙◌}
+-- `forest::marks::all_marked` meets its contract. The loop's invariant: all that was passed, eight at a time, is marked. Assumes nothing.
+use mathlib.Core.Path.{◌≡◌, sym, ◌∙◌}
 use mathlib.Core.Bool.{false≢true}
-use mathlib.Core.List.{List}
 use native.Mathlib.Omega.{arith}
-use lib.ListN.{length, length-take, length-drop, get_or-eq_default}
-use borrow.Author.Count.{below_none, below_more}
-use borrow.Author.Tests.{not-true, not-false}
-use Rattle.forest.proofs.EightMarks.{marked_more, marked_from}
+use borrow.Author.Rules.{rules}
+use borrow.Author.Tests.{tests}
+use Rattle.std.proofs.lemmas.Iterator.{cases_from_all, YieldsList-from_slice}
+use Rattle.forest.proofs.EightMarks.{next_marked, eight_passed, rest_says}
 use Rattle.forest.proofs.marks.all_marked.Goals as goal
 
-pub returns-then-marks-n : goal.returns-then-marks-n
-returns-then-marks-n c = (λ t. absurd (false≢true t), λ all. absurd (omega (arith, all (length c.args.marks.now) (omega arith), get_or-eq_default c.args.marks.now 0 {n = length c.args.marks.now} (omega arith))))
-
-pub loop-v-init : goal.loop-v-init
-loop-v-init c = (omega arith, below_none _)
-
-pub eight_marked-requires : goal.eight_marked-requires
-eight_marked-requires c = rw (length-take, length-drop) (omega arith)
-
 pub returns-then-not-eight_marked : goal.returns-then-not-eight_marked
-returns-then-not-eight_marked c =
-    let marks : List ℕ = c.args.marks.now in
-    let from : ℕ = c.loop-v.v in (
-      λ t. absurd (false≢true t),
-      λ all. absurd (false≢true (sym (not-true _ c.if-not-eight_marked.true-raw) ∙ c.eight_marked.ensures.1 (marked_from marks from 8 (omega arith) λ i h. all i (omega arith)))),
-    )
+returns-then-not-eight_marked c = (
+  λ t. absurd (false≢true t),
+  λ all.
+      sym c.if-not-eight_marked.true
+      ∙ c.eight_marked.ensures.1
+      (next_marked c.if-marks-n.false c.loop-eight.invariant.passed _ _ c.in-Some.ensures.steps.1.0 (c.in-Some.ensures.steps.1.1 ∙ c.loop-eight.invariant.size) all),
+)
 
-pub loop-v-preserved : goal.loop-v-preserved
-loop-v-preserved c =
-    let marks : List ℕ = c.args.marks.now in
-    let from : ℕ = c.loop-v.v in
-    (omega arith, marked_more marks from 8 (omega arith) c.loop-v.invariant.1 (c.eight_marked.ensures.0 (not-false _ c.if-not-eight_marked.false-raw)))
-
-pub loop-v-2-init : goal.loop-v-2-init
-loop-v-2-init c = c.loop-v.invariant.1
-
-pub returns-then-marks-v-ne1 : goal.returns-then-marks-v-ne1
-returns-then-marks-v-ne1 c = (λ t. absurd (false≢true t), λ all. absurd (c.if-marks-v-ne1.true (all c.loop-v-2.v (omega arith))))
-
-pub loop-v-2-preserved : goal.loop-v-2-preserved
-loop-v-2-preserved c = below_more _ c.loop-v-2.v c.loop-v-2.invariant (omega arith)
+pub loop-eight-preserved : goal.loop-eight-preserved
+loop-eight-preserved c =
+    record {
+      size = c.in-Some.ensures.steps.0 ∙ c.loop-eight.invariant.size;
+      passed =
+          eight_passed c.if-marks-n.false c.loop-eight.invariant.passed _ _ c.in-Some.ensures.steps.1.0
+          (c.in-Some.ensures.steps.1.1 ∙ c.loop-eight.invariant.size) (c.eight_marked.ensures.0 c.if-not-eight_marked.false);
+    }
 
 pub returns : goal.returns
-returns c = (λ t v h. c.loop-v-2.invariant v (omega arith), λ all. refl)
+returns c =
+    rest_says c.if-marks-n.false c.loop-eight.invariant.passed c.all.result
+    (omega (arith, c.in-None.ensures.steps.1.0, c.loop-eight.invariant.size))
+    (c.remainder-rest.ensures ∙ c.chunks_exact-eights.ensures.remainder)
+    (cases_from_all _ _ _ (λ x. x ≡ 1) (λ x. x ≡ 1 → ⊥) c.all.ensures.ran (YieldsList-from_slice c.remainder-rest.result.now cc)
+    (λ x q k. search (rules, tests)) (λ x q k. search (rules, tests)))

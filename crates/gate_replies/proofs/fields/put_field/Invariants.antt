@@ -1,18 +1,11 @@
--- `gate_replies::fields::put_field` meets its contract. The loop's invariant: what is left to put is the rest of the number, in the bytes that are
--- left. The measure is how many are left.
+-- `gate_replies::fields::put_field` meets its contract. The loop's invariant: the bytes so far, with those of the rest of the number, are the field.
 -- Assumes nothing.
-use Prim.Native.Nat.{◌+◌, ◌≤◌}
-use lib.ListN.{length}
-use Rattle.lists.proofs.PutOneByOne.{PutSoFar}
+use Prim.Native.Nat.{◌-◌}
+use mathlib.Core.Path.{◌≡◌}
+use mathlib.Core.List.{◌++◌}
+use lib.ListN.{take}
 use Rattle.gate_replies.specs.Fields.{field}
 use Rattle.gate_replies.proofs.fields.put_field.Given as goal
 
-abbrev pub invariant-loop-left : goal.invariant-loop-left
-invariant-loop-left l =
-    record {
-      fits : l.next + l.left ≤ length l.out;
-      putting : PutSoFar l.at (field l.width l.x) (field l.left l.rest) l.initial.out l.out l.next;
-    }
-
-abbrev pub decreases-loop-left : goal.decreases-loop-left
-decreases-loop-left l = l.left
+abbrev pub invariant-loop-byte : goal.invariant-loop-byte
+invariant-loop-byte l = take l.byte-index l.byte-items ++ field (l.width - l.byte-index) l.rest ≡ field l.width l.x

@@ -5,8 +5,8 @@ use Rattle.filed.specs.Promise.{says}
 use Rattle.gate_replies.specs.Fixed.{is_yes}
 use Rattle.gate_replies.proofs.fixed.is_yes.Goals as goal
 
-pub returns-in-Yes : goal.returns-in-Yes
-returns-in-Yes c = sym (ap (λ x. is_yes (says x) c.args.heaviest) c.in-Yes.is)
+pub returns-in-Ok : goal.returns-in-Ok
+returns-in-Ok c = sym (ap (λ x. is_yes (says x) c.args.heaviest) c.in-Ok.is)
 
-pub returns-in-Refused : goal.returns-in-Refused
-returns-in-Refused c = sym (ap (λ x. is_yes (says x) c.args.heaviest) c.in-Refused.is)
+pub returns-in-Err : goal.returns-in-Err
+returns-in-Err c = sym (ap (λ x. is_yes (says x) c.args.heaviest) c.in-Err.is)

@@ -17,7 +17,7 @@ unfolding all_spaced ended flat line
 returns-in-Parts c = fixed_parts c.in-Parts.is c.put_word.ensures
 
 pub write_reply-requires : goal.write_reply-requires
-write_reply-requires c = rw c.read_list.ensures c.requires
+write_reply-requires c = rw c.graph.ensures c.requires
 
 pub returns-in_default : goal.returns-in_default
-returns-in_default c = fixed_other c.args.reply (c.in_default.not-Cover, c.in_default.not-Parts) (rw c.read_list.ensures at c.write_reply.ensures)
+returns-in_default c = fixed_other c.args.reply (c.in_default.not-Cover, c.in_default.not-Parts) (rw c.graph.ensures at c.write_reply.ensures)

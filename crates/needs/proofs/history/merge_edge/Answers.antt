@@ -11,24 +11,24 @@ use Rattle.needs.proofs.history.merge_edge.Goals as goal
 
 pub bounds-label-one_end : goal.bounds-label-one_end
 bounds-label-one_end c =
-    let one_inside : c.one_end.result < (graph_of c.args.b.now c.args.classes.now).vertices = omega (arith, c.one_end.ensures.is, one_end_below c.requires.labelable.valid c.args.e) in
+    let one_inside : c.one_end.result < c.args.g.now.vertices = omega (arith, c.one_end.ensures.is, one_end_below c.requires.labelable.valid c.args.e) in
     omega (arith, one_inside, c.requires.labelable.room)
 
 pub bounds-label-other_end : goal.bounds-label-other_end
 bounds-label-other_end c =
-    let other_inside : c.other_end.result < (graph_of c.args.b.now c.args.classes.now).vertices = omega (arith, c.other_end.ensures.is, other_end_below c.requires.labelable.valid c.args.e) in
+    let other_inside : c.other_end.result < c.args.g.now.vertices = omega (arith, c.other_end.ensures.is, other_end_below c.requires.labelable.valid c.args.e) in
     omega (arith, other_inside, c.requires.labelable.room)
 
 pub note_merge-requires : goal.note_merge-requires
 note_merge-requires c =
-    let g : Graph = graph_of c.args.b.now c.args.classes.now in
+    let g : Graph = c.args.g.now in
     let one_label : c.wide-a.result ≡ get_or c.args.label.now (one_end g c.args.e) 0 = c.wide-a.ensures.is ∙ ap (λ v. get_or c.args.label.now v 0) c.one_end.ensures.is in
     let other_label : c.wide-c.result ≡ get_or c.args.label.now (other_end g c.args.e) 0 = c.wide-c.ensures.is ∙ ap (λ v. get_or c.args.label.now v 0) c.other_end.ensures.is in
     note_of one_label other_label c.weight.ensures.is c.requires.note
 
 pub returns : goal.returns
 returns c =
-    let g : Graph = graph_of c.args.b.now c.args.classes.now in
+    let g : Graph = c.args.g.now in
     let one_label : c.wide-a.result ≡ get_or c.args.label.now (one_end g c.args.e) 0 = c.wide-a.ensures.is ∙ ap (λ v. get_or c.args.label.now v 0) c.one_end.ensures.is in
     let other_label : c.wide-c.result ≡ get_or c.args.label.now (other_end g c.args.e) 0 = c.wide-c.ensures.is ∙ ap (λ v. get_or c.args.label.now v 0) c.other_end.ensures.is in
     record {

@@ -1,5 +1,4 @@
--- `needs::history::needed_by_history` meets its contract. The loop's invariant: the merges before i are summed.
--- The measure is how many are left. Assumes nothing.
+-- `needs::history::needed_by_history` meets its contract. The loop's invariant: the merges before i are summed. Assumes nothing.
 use native.Mathlib.Omega.{arith}
 use Rattle.needs.proofs.HistoryRead.{reading_none, reading_fits, reading_more, reading_all}
 use Rattle.needs.proofs.history.needed_by_history.Goals as goal
@@ -15,3 +14,6 @@ loop-i-preserved c = rw c.more_needs-sum.ensures (reading_more c.requires c.args
 
 pub returns : goal.returns
 returns c = reading_all c.requires c.args.limit c.loop-i.invariant (omega arith)
+
+pub returns-2 : goal.returns-2
+returns-2 c = rw c.more_needs-sum.ensures (reading_all c.requires c.args.limit (reading_more c.requires c.args.limit c.loop-i.invariant (omega arith)) (omega arith))

@@ -1,5 +1,4 @@
--- `pieces::pieces::put_run` meets its contract. The loop's invariant: the numbers before c are written.
--- The measure is how many are left. Assumes nothing.
+-- `pieces::pieces::put_run` meets its contract. The loop's invariant: the numbers before c are written. Assumes nothing.
 use native.Mathlib.Omega.{arith}
 use Rattle.lists.proofs.NextPlace.{numbers_next, numbers_none}
 use Rattle.lists.proofs.PutOneByOne.{so_far_none, so_far_more, so_far_all}

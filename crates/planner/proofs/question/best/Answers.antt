@@ -3,4 +3,4 @@ use Rattle.planner.proofs.Promised.{best_promised}
 use Rattle.planner.proofs.question.best.Goals as goal
 
 pub returns : goal.returns
-returns c = best_promised c.ask-told.ensures
+returns c = best_promised (rw c.new-question.ensures at c.ask-told.ensures)

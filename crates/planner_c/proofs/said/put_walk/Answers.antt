@@ -3,5 +3,5 @@ use native.Mathlib.Omega.{arith}
 use Rattle.planner_c.proofs.Values.{puts_two}
 use Rattle.planner_c.proofs.said.put_walk.Goals as goal
 
-pub returns-in-Walk : goal.returns-in-Walk
-returns-in-Walk c = rw c.in-Walk.is (puts_two c.args.values.now (omega (arith, c.requires)))
+pub returns-in-Ok : goal.returns-in-Ok
+returns-in-Ok c = rw c.in-Ok.is (puts_two c.args.values.now (omega (arith, c.requires)))

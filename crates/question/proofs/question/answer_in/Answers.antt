@@ -24,7 +24,7 @@ returns c =
     record {
       answered =
           known_answered known c.requires.buffer c.u16_at-asked.ensures.is c.u16_at-k.ensures.is c.u32_at-limit.ensures.is
-          (sheet_is c.args.input.now) c.reply_to-reply.ensures c.write_reply.ensures;
+          (sheet_is c.args.input.now) c.reply_to-reply.ensures (rw c.new.ensures at c.write_reply.ensures);
       buf_scratch = (search rules);
     }
 

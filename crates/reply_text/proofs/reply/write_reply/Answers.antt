@@ -2,7 +2,6 @@
 -- Assumes nothing.
 use mathlib.Core.Path.{refl}
 use Rattle.lists.specs.Lists.{flat}
-use Rattle.graph.specs.Bytes.{graph_of}
 use Rattle.reply_text.specs.Lines.{all_spaced, ended, line}
 use Rattle.reply_text.proofs.SaidText.{text_said, reply_written, cause_refused}
 use Rattle.reply_text.proofs.CoverSaid.{cover_inside, cover_asked, cover_written}
@@ -10,7 +9,7 @@ use Rattle.reply_text.proofs.reply.write_reply.Goals as goal
 
 pub returns-in-Refused : goal.returns-in-Refused
 returns-in-Refused c =
-    let g = graph_of c.args.b.now c.args.classes.now in
+    let g = c.args.g.now in
     reply_written g c.in-Refused.is (λ trees. cause_refused g trees c.in-Refused.f)
     (rw c.number.ensures at (c.write_refused.ensures.text g))
 
@@ -25,16 +24,16 @@ returns-in-Cover c = cover_written c.in-Cover.is c.cover_length-end.ensures.is c
 
 pub returns-in-Stop : goal.returns-in-Stop
 unfolding line text_said
-returns-in-Stop c = reply_written (graph_of c.args.b.now c.args.classes.now) c.in-Stop.is (λ trees. refl) c.write_line.ensures
+returns-in-Stop c = reply_written c.args.g.now c.in-Stop.is (λ trees. refl) c.write_line.ensures
 
 pub returns-in-Parts : goal.returns-in-Parts
 unfolding text_said
-returns-in-Parts c = reply_written (graph_of c.args.b.now c.args.classes.now) c.in-Parts.is (λ trees. refl) c.write_parts.ensures
+returns-in-Parts c = reply_written c.args.g.now c.in-Parts.is (λ trees. refl) c.write_parts.ensures
 
 pub returns-in-Needs : goal.returns-in-Needs
 unfolding line text_said
-returns-in-Needs c = reply_written (graph_of c.args.b.now c.args.classes.now) c.in-Needs.is (λ trees. refl) c.write_line-in-Needs.ensures
+returns-in-Needs c = reply_written c.args.g.now c.in-Needs.is (λ trees. refl) c.write_line-in-Needs.ensures
 
 pub returns-in-NoCover : goal.returns-in-NoCover
 unfolding all_spaced ended flat line text_said
-returns-in-NoCover c = reply_written (graph_of c.args.b.now c.args.classes.now) c.in-NoCover.is (λ trees. refl) c.put_word.ensures
+returns-in-NoCover c = reply_written c.args.g.now c.in-NoCover.is (λ trees. refl) c.put_word.ensures

@@ -1,6 +1,6 @@
--- `reply_text::trees::put_run` meets its contract. The loop's invariant: the edges of the entries before i are written. The measure is how
--- many entries are left. Assumes nothing.
-use Prim.Native.Nat.{◌+◌, ◌-◌, ◌≤◌}
+-- `reply_text::trees::put_run` meets its contract. The loop's invariant: the edges of the entries before i are written.
+-- Assumes nothing.
+use Prim.Native.Nat.{◌+◌, ◌≤◌}
 use lib.ListN.{length}
 use Rattle.lists.proofs.PutOneByOne.{PutSoFar}
 use Rattle.cover.specs.Runs.{run_edges}
@@ -13,6 +13,3 @@ invariant-loop-i l =
       room : l.at + length (all_spaced (run_edges l.c l.from l.to)) ≤ length l.initial.out;
       putting : PutSoFar l.at (all_spaced (run_edges l.c l.from l.to)) (all_spaced (run_edges l.c l.i l.to)) l.initial.out l.out l.next;
     }
-
-abbrev pub decreases-loop-i : goal.decreases-loop-i
-decreases-loop-i l = l.to - l.i

@@ -1,9 +1,9 @@
 -- `reply_text::trees::put_trees` meets its contract. The loop's invariant: the lines of the trees before j are written, and the entries of
--- tree j begin at `from`. The measure is how many trees are left. Assumes nothing.
-use Prim.Native.Nat.{◌+◌, ◌-◌, ◌≤◌}
+-- tree j begin at `from`.
+-- Assumes nothing.
+use Prim.Native.Nat.{◌+◌, ◌≤◌}
 use lib.ListN.{length}
 use Rattle.lists.proofs.PutOneByOne.{PutSoFar}
-use Rattle.graph.specs.Bytes.{graph_of}
 use Rattle.cover.specs.Runs.{BeginsAt}
 use Rattle.reply_text.specs.Text.{tree_lines}
 use Rattle.reply_text.proofs.TreeLines.{trees_from}
@@ -13,9 +13,6 @@ abbrev pub invariant-loop-j : goal.invariant-loop-j
 invariant-loop-j l =
     record {
       begins : BeginsAt l.c l.j l.from;
-      room : l.at + length (tree_lines (graph_of l.b l.classes) (trees_from l.c 0)) ≤ length l.initial.out;
-      putting : PutSoFar l.at (tree_lines (graph_of l.b l.classes) (trees_from l.c 0)) (tree_lines (graph_of l.b l.classes) (trees_from l.c l.j)) l.initial.out l.out l.next;
+      room : l.at + length (tree_lines l.g (trees_from l.c 0)) ≤ length l.initial.out;
+      putting : PutSoFar l.at (tree_lines l.g (trees_from l.c 0)) (tree_lines l.g (trees_from l.c l.j)) l.initial.out l.out l.next;
     }
-
-abbrev pub decreases-loop-j : goal.decreases-loop-j
-decreases-loop-j l = l.t - l.j

@@ -22,40 +22,17 @@ pub number_up-requires : goal.number_up-requires
 number_up-requires c = record { few = omega (arith, c.requires.ready.ready.given.few); fits = omega (arith, c.requires.ready.ready.given.few) }
 
 pub slice_bounds-heaviest_chosen-end-2 : goal.slice_bounds-heaviest_chosen-end-2
-slice_bounds-heaviest_chosen-end-2 c =
-    let k : ℕ = length c.args.roots.now in
-    let numbers : List ℕ = c.number_up.new.out in
-    let numbers_are : take k numbers ≡ below k = put_taken c.number_up.ensures in
-    let count : k ≡ length (take k numbers) = sym (ap length numbers_are ∙ length_below k) in
-    count
+slice_bounds-heaviest_chosen-end-2 c = sym (ap length (put_taken c.number_up.ensures) ∙ length_below (length c.args.roots.now))
 
 pub heaviest_chosen-heaviest-requires : goal.heaviest_chosen-heaviest-requires
-heaviest_chosen-heaviest-requires c =
-    let k : ℕ = length c.args.roots.now in
-    let numbers : List ℕ = c.number_up.new.out in
-    let numbers_are : take k numbers ≡ below k = put_taken c.number_up.ensures in
-    rw numbers_are (trees_held c.requires c.lay_trees.ensures.laid)
-
-pub slice_bounds-write_cover-end-2 : goal.slice_bounds-write_cover-end-2
-slice_bounds-write_cover-end-2 c =
-    let k : ℕ = length c.args.roots.now in
-    let numbers : List ℕ = c.number_up.new.out in
-    let numbers_are : take k numbers ≡ below k = put_taken c.number_up.ensures in
-    let count : k ≡ length (take k numbers) = sym (ap length numbers_are ∙ length_below k) in
-    count
+heaviest_chosen-heaviest-requires c = rw (put_taken c.number_up.ensures) (trees_held c.requires c.lay_trees.ensures.laid)
 
 pub write_cover-requires : goal.write_cover-requires
-write_cover-requires c =
-    let k : ℕ = length c.args.roots.now in
-    let numbers : List ℕ = c.number_up.new.out in
-    let numbers_are : take k numbers ≡ below k = put_taken c.number_up.ensures in
-    rw numbers_are (trees_writable c.requires c.lay_trees.ensures.laid)
+write_cover-requires c = rw (put_taken c.number_up.ensures) (trees_writable c.requires c.lay_trees.ensures.laid)
 
 pub returns : goal.returns
 returns c =
-    let k : ℕ = length c.args.roots.now in
-    let numbers : List ℕ = c.number_up.new.out in
-    let numbers_are : take k numbers ≡ below k = put_taken c.number_up.ensures in
+    let numbers_are = put_taken c.number_up.ensures in
     record {
       cover = cover_written c.requires c.lay_trees.ensures.laid (rw numbers_are at c.write_cover.ensures) (rw numbers_are at c.heaviest_chosen-heaviest.ensures);
       edges_rest = c.lay_trees.ensures.edges_rest;

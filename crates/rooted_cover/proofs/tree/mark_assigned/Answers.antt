@@ -21,27 +21,23 @@ marked-as : {g : Graph} {dist last : List ℕ} {root s₁ s₂ r : ℕ} {e₁ e�
     → ReachMarked g dist last root s₁ e₁ before after r → ReachMarked g dist last root s₂ e₂ before after r
 marked-as p q r = rw q at (rw p at r)
 
+-- The start of a piece, by where its number stands.
+start_of : (starts : List ℕ) {s x y : ℕ} → s ≡ get_or starts x 0 → x ≡ y → s ≡ get_or starts y 0
+start_of starts p q = p ∙ ap (λ x. get_or starts x 0) q
+
 pub returns-then-places-i : goal.returns-then-places-i
 returns-then-places-i c = record { edges = []; are = none (λ i h. c.place_with-i.ensures.earlier i (omega (arith, c.if-places-i.true))) refl; marks = marked_none _ }
 
 pub edges_at-requires : goal.edges_at-requires
 edges_at-requires c =
-    let places : List ℕ = c.args.places.now in
-    let inside : c.place_with-i.result < length places = c.if-places-i.false in
-    let of_places : get_or places c.place_with-i.result 0 ∈ places = at_place 0 places c.place_with-i.result inside in
-    held_readable (c.requires.held _ of_places) c.wide-c.ensures
+    held_readable (c.requires.held _ (at_place 0 c.args.places.now c.place_with-i.result c.if-places-i.false)) c.wide-c.ensures
 
 pub mark_reach-requires : goal.mark_reach-requires
 mark_reach-requires c =
-    let places : List ℕ = c.args.places.now in
-    let start_is : c.number_at-start.result ≡ get_or c.args.starts.now (get_or places c.place_with-i.result 0) 0 = c.number_at-start.ensures.is ∙ ap (λ c'. get_or c.args.starts.now c' 0) c.wide-c.ensures.is in
-    let inside : c.place_with-i.result < length places = c.if-places-i.false in
-    given-named start_is (held_edges c.wide-c.ensures c.edges_at.ensures) (c.requires.reach _ inside (c.place_with-i.ensures.here inside))
+    given-named (start_of c.args.pieces.starts.now c.number_at-start.ensures.is c.wide-c.ensures.is) (held_edges c.wide-c.ensures c.edges_at.ensures)
+    (c.requires.reach _ c.if-places-i.false (c.place_with-i.ensures.here c.if-places-i.false))
 
 pub returns : goal.returns
 returns c =
-    let places : List ℕ = c.args.places.now in
-    let start_is : c.number_at-start.result ≡ get_or c.args.starts.now (get_or places c.place_with-i.result 0) 0 = c.number_at-start.ensures.is ∙ ap (λ c'. get_or c.args.starts.now c' 0) c.wide-c.ensures.is in
-    let inside : c.place_with-i.result < length places = c.if-places-i.false in
-    let marked = marked-as start_is (held_edges c.wide-c.ensures c.edges_at.ensures) c.mark_reach.ensures in
-    record { edges = _; are = part _ marked.vertex inside c.place_with-i.ensures marked.nearest refl; marks = marked.marks }
+    let marked = marked-as (start_of c.args.pieces.starts.now c.number_at-start.ensures.is c.wide-c.ensures.is) (held_edges c.wide-c.ensures c.edges_at.ensures) c.mark_reach.ensures in
+    record { edges = _; are = part _ marked.vertex c.if-places-i.false c.place_with-i.ensures marked.nearest refl; marks = marked.marks }

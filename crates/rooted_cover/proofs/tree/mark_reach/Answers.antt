@@ -29,7 +29,7 @@ returns c =
       marks =
           record {
             marks = marked_both c.args.edges.now _ c.mark_edges.ensures c.mark_back.ensures.marks;
-            count = omega (arith, c.mark_back.ensures.count, length-append c.args.edges.now (trail_of c.args.last.now c.args.root c.nearest_vertex-v.result));
+            count = omega (arith, c.mark_back.ensures.count, length-append c.args.edges.now (trail_of c.args.row.lasts.now c.args.root c.nearest_vertex-v.result));
             within = omega (arith, c.mark_back.ensures.within, few);
           };
     }

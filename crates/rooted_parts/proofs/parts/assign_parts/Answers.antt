@@ -21,7 +21,7 @@ pub slice_bounds-put_rows-end : goal.slice_bounds-put_rows-end
 slice_bounds-put_rows-end c =
     let p : ℕ = c.args.parts in
     let words : List ℕ = c.pieces_near.new.words in
-    let g : Graph = graph_of c.args.b.now c.args.classes.now in
+    let g : Graph = c.args.g.now in
     let near : PartsNear g c.args.roots.now c.args.limit words p = c.pieces_near.ensures.near in
     let many : length (take p words) ≡ p = length-take-le p words near.within in
     sym many
@@ -30,14 +30,14 @@ pub put_rows-requires : goal.put_rows-requires
 put_rows-requires c =
     let p : ℕ = c.args.parts in
     let words : List ℕ = c.pieces_near.new.words in
-    let g : Graph = graph_of c.args.b.now c.args.classes.now in
+    let g : Graph = c.args.g.now in
     let near : PartsNear g c.args.roots.now c.args.limit words p = c.pieces_near.ensures.near in
     let many : length (take p words) ≡ p = length-take-le p words near.within in
     rw many c.requires.rows_room
 
 pub slice_bounds-assign_roots-end-2 : goal.slice_bounds-assign_roots-end-2
 slice_bounds-assign_roots-end-2 c =
-    let g : Graph = graph_of c.args.b.now c.args.classes.now in
+    let g : Graph = c.args.g.now in
     let words : List ℕ = c.pieces_near.new.words in
     let p : ℕ = c.args.parts in
     let near : PartsNear g c.args.roots.now c.args.limit words p = c.pieces_near.ensures.near in
@@ -47,7 +47,7 @@ slice_bounds-assign_roots-end-2 c =
 
 pub assign_roots-requires : goal.assign_roots-requires
 assign_roots-requires c =
-    let g : Graph = graph_of c.args.b.now c.args.classes.now in
+    let g : Graph = c.args.g.now in
     let words : List ℕ = c.pieces_near.new.words in
     let p : ℕ = c.args.parts in
     let near : PartsNear g c.args.roots.now c.args.limit words p = c.pieces_near.ensures.near in
@@ -57,7 +57,7 @@ assign_roots-requires c =
 
 pub returns : goal.returns
 returns c =
-    let g : Graph = graph_of c.args.b.now c.args.classes.now in
+    let g : Graph = c.args.g.now in
     let words : List ℕ = c.pieces_near.new.words in
     let p : ℕ = c.args.parts in
     let near : PartsNear g c.args.roots.now c.args.limit words p = c.pieces_near.ensures.near in

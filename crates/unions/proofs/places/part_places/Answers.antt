@@ -1,5 +1,5 @@
--- `unions::places::part_places` meets its contract. The loop's invariant: the places before the first piece of tree j are written. The
--- measure is how many trees are left. Assumes nothing.
+-- `unions::places::part_places` meets its contract. The loop's invariant: the places before the first piece of the next tree are
+-- written. Assumes nothing.
 use Prim.Native.Nat.{ℕ, ◌+◌, ◌-◌, ◌^◌, ◌≤◌, ◌<◌}
 use mathlib.Core.Path.{◌≡◌}
 use mathlib.Core.List.{List, ◌++◌}
@@ -7,7 +7,7 @@ use native.Mathlib.Omega.{arith}
 use lib.ListN.{length, get_or, drop}
 use Rattle.lists.specs.Count.{from}
 use Rattle.lists.specs.Put.{PutTo}
-use Rattle.lists.proofs.PutOneByOne.{PutSoFar, so_far_none, so_far_on, so_far_all, so_far_room}
+use Rattle.lists.proofs.PutOneByOne.{PutSoFar, so_far_on, so_far_all, so_far_room}
 use Rattle.lists.proofs.Runs.{length_from}
 use Rattle.graph.specs.Bytes.{Reads}
 use Rattle.pieces.specs.Pieces.{RunAsked}
@@ -32,14 +32,11 @@ module _ (lefts : List ℕ) (first j : ℕ) {before after : List ℕ} {next left
       → PutSoFar 0 (places_between 0 lefts) (places_between (left + 1) (drop (j + 1) lefts)) before now behind
   next-tree p = so_far_on v rest-is p
 
-pub loop-j-init : goal.loop-j-init
-loop-j-init c = so_far_none _ 0 (omega arith)
-
 pub put_run-next-requires : goal.put_run-next-requires
-put_run-next-requires c = asked c.args.lefts.now c.loop-j.first c.loop-j.j c.loop-j.invariant c.loop-j-test.true c.wide-left.ensures c.requires
+put_run-next-requires c = asked c.args.lefts.now c.loop-left.first c.loop-left.left-index c.loop-left.invariant c.loop-left-test.true c.wide-left.ensures c.requires
 
-pub loop-j-preserved : goal.loop-j-preserved
-loop-j-preserved c = next-tree c.args.lefts.now c.loop-j.first c.loop-j.j c.loop-j.invariant c.loop-j-test.true c.wide-left.ensures c.put_run-next.ensures
+pub loop-left-preserved : goal.loop-left-preserved
+loop-left-preserved c = next-tree c.args.lefts.now c.loop-left.first c.loop-left.left-index c.loop-left.invariant c.loop-left-test.true c.wide-left.ensures c.put_run-next.ensures
 
 pub returns : goal.returns
-returns c = so_far_all c.loop-j.invariant (between_none c.loop-j.first c.args.lefts.now c.loop-j.j (omega (arith, c.loop-j-test.false)))
+returns c = so_far_all c.loop-left.invariant (between_none c.loop-left.first c.args.lefts.now c.loop-left.left-index (omega (arith, c.loop-left-test.false)))

@@ -17,7 +17,7 @@ keep_marked-requires c = record { keepable = record { labelable = record { valid
 
 pub returns : goal.returns
 returns c =
-    let g : Graph = graph_of c.args.b.now c.args.classes.now in
+    let g : Graph = c.args.g.now in
     let label : List ℕ = c.start_labels.new.label in
     let all_apart : Agrees g.vertices label apart = λ v h. c.start_labels.ensures.labels v (omega (arith, c.vertex_count.ensures.is)) ∙ ap (λ (f : Labels). f v) together_none in
     record { kept = c.keep_marked.ensures.edges_are apart all_apart; fewer = c.keep_marked.ensures.fewer }

@@ -19,9 +19,6 @@ slice_bounds-heaviest_chosen-end-3 c = sym (length-take-le _ _ c.order_trees-t.e
 pub heaviest_chosen-heaviest-requires : goal.heaviest_chosen-heaviest-requires
 heaviest_chosen-heaviest-requires c = answer_held c.requires.forest_given.valid c.split_components-s.ensures c.order_trees-t.ensures
 
-pub slice_bounds-write_cover-end-4 : goal.slice_bounds-write_cover-end-4
-slice_bounds-write_cover-end-4 c = sym (length-take-le _ _ c.order_trees-t.ensures.room)
-
 pub write_cover-requires : goal.write_cover-requires
 write_cover-requires c = answer_writable c.requires.forest_given.valid c.split_components-s.ensures c.order_trees-t.ensures c.requires.room c.requires.needs_few
 
@@ -30,6 +27,6 @@ returns c =
     let trees = answer c.requires.forest_given.valid c.split_components-s.ensures c.order_trees-t.ensures in
     record {
       put = rw trees at c.write_cover.ensures.put;
-      heaviest_is = c.heaviest_chosen-heaviest.ensures.is _ ∙ ap (heaviest (graph_of c.args.b.now c.args.classes.now)) trees;
+      heaviest_is = c.heaviest_chosen-heaviest.ensures.is _ ∙ ap (heaviest c.args.g.now) trees;
       trees_are = answer_count c.requires.forest_given.valid c.split_components-s.ensures c.order_trees-t.ensures;
     }

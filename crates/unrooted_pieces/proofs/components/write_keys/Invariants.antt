@@ -1,6 +1,5 @@
 -- `unrooted_pieces::components::write_keys` meets its contract. The loop's invariant: the keys of the pieces before i are written.
--- The measure is how many pieces are left. Assumes nothing.
-use Prim.Native.Nat.{◌-◌, ◌≤◌}
+-- Assumes nothing.
 use lib.ListN.{get_or}
 use Rattle.lists.specs.Segments.{segment}
 use Rattle.pieces.specs.Pieces.{tree_of}
@@ -9,7 +8,4 @@ use Rattle.lists.proofs.SetUpTo.{SetUpTo}
 use Rattle.unrooted_pieces.proofs.components.write_keys.Given as goal
 
 abbrev pub invariant-loop-i : goal.invariant-loop-i
-invariant-loop-i l = (l.i ≤ l.k) × SetUpTo (λ j. key_of (tree_of (get_or l.starts j 0) (segment l.cuts l.members j))) l.i l.initial.keys l.keys
-
-abbrev pub decreases-loop-i : goal.decreases-loop-i
-decreases-loop-i l = l.k - l.i
+invariant-loop-i l = SetUpTo (λ j. key_of (tree_of (get_or l.pieces.starts.now j 0) (segment l.pieces.cuts.now l.pieces.members.now j))) l.i l.initial.keys l.keys
