@@ -11,5 +11,5 @@ pub mod Ranges
 pub mod Adjusted
 -- a graph with its weights by class
 pub mod Surfaced
--- past the counted edges there is none
+-- a view shows its own bytes
 pub mod Viewed

@@ -1,14 +1,16 @@
--- Past the counted edges the graph that the bytes spell has none.
+-- What readers ask of a view: that it shows its own bytes.
 -- Assumes nothing.
-use Prim.Native.Nat.{ℕ, ◌≤◌}
-use mathlib.Core.Path.{◌≡◌}
-use native.Mathlib.Omega.{arith}
-use Rattle.graph.specs.Graph.{no_edge, edge_at}
-use Rattle.graph.specs.Bytes.{graph_of}
-use Rattle.graph.specs.View.{Views}
-use Rattle.graph.specs.declared.Graph.TheInside.{Inside}
-use Rattle.graph.proofs.Decoded.{edge_past}
-use Rattle.graph.proofs.Surfaced.{edge_count_sheet}
+use mathlib.Core.Path.{refl, sym, subst}
+use Prim.Native.Nat.{ℕ}
+use mathlib.Core.List.{List}
+use Rattle.graph.specs.Bytes.{sheet_graph}
+use Rattle.graph.specs.View.{CountsOf, Views}
+use Rattle.graph.specs.declared.view.View.{View}
 
-pub view_past : (s : Inside) → Views s → (e : ℕ) → s.edges ≤ e → edge_at (graph_of s.bytes.now s.classes.now) e ≡ no_edge
-view_past s v e h = edge_past (graph_of s.bytes.now s.classes.now) e (omega (arith, v.counts.edges_are, edge_count_sheet s.bytes.now s.classes.now))
+-- A view that shows some bytes shows its own.
+pub views_own : (v : View) (b : List ℕ) → Views v b → Views v v.bytes.now
+views_own v b h =
+    record {
+      bytes_are = refl;
+      counts = subst (λ (x : List ℕ). CountsOf (sheet_graph x) v.vertices v.edges) (sym h.bytes_are) h.counts;
+    }

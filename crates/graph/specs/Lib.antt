@@ -11,3 +11,5 @@ pub mod Fault
 pub mod Valid
 -- what a view of the bytes says
 pub mod View
+-- what the graph's struct holds
+pub mod Held

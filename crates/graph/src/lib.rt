@@ -6,12 +6,14 @@
 #![tactic(auto)]
 
 pub mod surface;
+pub mod view;
 
 ghost use Rattle.std.specs.Prelude.{◌≡◌, ◌+◌, ◌*◌, ◌^◌, ◌≤◌, length};
 ghost use Rattle.graph.specs.Graph.{one_end, other_end, weight_of, edge_count};
 ghost use Rattle.graph.specs.Bytes.{u16_at, u32_at, sheet_graph, graph_of, Reads};
 
 use crate::surface::adjust_edge;
+use crate::view::View;
 use std::marker::Model;
 
 // The number that a byte is.
@@ -80,8 +82,28 @@ pub fn sheet_edges(b: &[u8]) -> usize
     if b.len() == 4 + 8 * m { m } else { 0 }
 }
 
+// One end of edge e, of m edges; 0 past the last edge.
+pub(crate) fn one_end_at(b: &[u8], m: usize, e: usize) -> usize
+    requires { m ≡ edge_count (sheet_graph b.now) }
+    ensures { Reads (one_end (sheet_graph b.now) e) (2 ^ 16) result }
+{
+    if e < m { u16_within(b, 4 + 4 * e) } else { 0 }
+}
+
+// The other end of edge e, of m edges; 0 past the last edge.
+pub(crate) fn other_end_at(b: &[u8], m: usize, e: usize) -> usize
+    requires { m ≡ edge_count (sheet_graph b.now) }
+    ensures { Reads (other_end (sheet_graph b.now) e) (2 ^ 16) result }
+{
+    if e < m {
+        u16_within(b, 4 + 4 * e + 2)
+    } else {
+        0
+    }
+}
+
 // The weight as given of edge e, of m edges; 0 past the last edge.
-fn weight_at(b: &[u8], m: usize, e: usize) -> u64
+pub(crate) fn weight_at(b: &[u8], m: usize, e: usize) -> u64
     requires { m ≡ edge_count (sheet_graph b.now) }
     ensures { Reads (weight_of (sheet_graph b.now) e) (2 ^ 32) result }
 {
@@ -92,14 +114,12 @@ fn weight_at(b: &[u8], m: usize, e: usize) -> u64
     }
 }
 
-// A graph's bytes (document 01: a "sheet") and the class bytes beside them, with how many vertices ("stops") and edges
-// ("lines") there are, so that nothing counts them again. No byte is copied. A contract sees the graph that they spell.
+// The graph that a sheet's bytes and the class bytes beside them spell: a view of the bytes, so that nothing counts the
+// edges again, and the classes. No byte is copied. A contract sees the graph that they spell.
 #[derive(Drop)]
 pub struct Graph<'a> {
-    bytes: &'a [u8],
+    sheet: View<'a>,
     classes: &'a [u8],
-    vertices: usize,
-    edges: usize,
 }
 
 impl<'a> Model for Graph<'a> {
@@ -108,11 +128,11 @@ impl<'a> Model for Graph<'a> {
     ghost Value = { Graph };
 
     ghost use Rattle.graph.specs.Bytes.{graph_of};
-    ghost use Rattle.graph.specs.View.{Views};
+    ghost use Rattle.graph.specs.Held.{Held};
 
-    ghost view = { λ s. graph_of s.bytes.now s.classes.now };
+    ghost view = { λ s. graph_of s.sheet.bytes.now s.classes.now };
 
-    ghost invariant = { Views };
+    ghost invariant = { Held };
 }
 
 impl<'a> Graph<'a> {
@@ -121,10 +141,8 @@ impl<'a> Graph<'a> {
         ensures { result ≡ graph_of bytes.now classes.now }
     {
         Graph {
-            bytes,
+            sheet: View::new(bytes, sheet_vertices(bytes), sheet_edges(bytes)),
             classes,
-            vertices: sheet_vertices(bytes),
-            edges: sheet_edges(bytes),
         }
     }
 
@@ -132,36 +150,28 @@ impl<'a> Graph<'a> {
     pub fn vertex_count(&self) -> usize
         ensures { Reads self.now.vertices (2 ^ 16) result }
     {
-        self.vertices
+        self.sheet.vertices
     }
 
     // How many edges ("lines") the graph has.
     pub fn edge_count(&self) -> usize
         ensures { Reads (edge_count self.now) (2 ^ 16) result }
     {
-        self.edges
+        self.sheet.edges
     }
 
     // One end of edge e; 0 past the last edge.
     pub fn one_end(&self, e: usize) -> usize
         ensures { Reads (one_end self.now e) (2 ^ 16) result }
     {
-        if e < self.edges {
-            u16_within(self.bytes, 4 + 4 * e)
-        } else {
-            0
-        }
+        self.sheet.one_end(e)
     }
 
     // The other end of edge e; 0 past the last edge.
     pub fn other_end(&self, e: usize) -> usize
         ensures { Reads (other_end self.now e) (2 ^ 16) result }
     {
-        if e < self.edges {
-            u16_within(self.bytes, 4 + 4 * e + 2)
-        } else {
-            0
-        }
+        self.sheet.other_end(e)
     }
 
     // The weight of edge e as given, whatever its class: that by its class is no less, and at most twice it.
@@ -169,13 +179,13 @@ impl<'a> Graph<'a> {
         ensures low { result ≤ weight_of self.now e }
         ensures high { weight_of self.now e ≤ 2 * result }
     {
-        weight_at(self.bytes, self.edges, e)
+        self.sheet.weight(e)
     }
 
     // The weight of edge e, by its class; 0 past the last edge.
     pub fn weight(&self, e: usize) -> u64
         ensures { Reads (weight_of self.now e) (2 ^ 33) result }
     {
-        adjust_edge(weight_at(self.bytes, self.edges, e), self.classes, e)
+        adjust_edge(self.sheet.weight(e), self.classes, e)
     }
 }

@@ -1,9 +1,8 @@
-// Surfaces (document 02, A.3): the weight of an edge ("line") by its class byte, read from the caller's own list; and
-// the readers of edges for callers that have the counts at hand. An empty list stands for none.
+// Surfaces (document 02, A.3): the weight of an edge ("line") by its class byte, read from the caller's own list. An empty
+// list stands for none.
 ghost use Rattle.std.specs.Prelude.{◌≡◌, ◌^◌, ◌<◌};
-ghost use Rattle.graph.specs.Graph.{one_end, other_end, weight_of};
 ghost use Rattle.graph.specs.Surface.{percent_of, adjusted, class_at};
-ghost use Rattle.graph.specs.Bytes.{graph_of, Reads};
+ghost use Rattle.graph.specs.Bytes.{Reads};
 
 // The percentage of the weight that a class counts.
 fn percent(class: u8) -> u64

@@ -6,4 +6,4 @@ use Rattle.graph.proofs.Graph.edge_count.Goals as goal
 pub returns : goal.returns
 returns c =
     rw (← c.self.view_is, edge_count_sheet)
-    (record { is = c.self.invariant.counts.edges_are; small = c.self.invariant.edges_small })
+    (record { is = c.self.invariant.shown.counts.edges_are; small = c.self.invariant.edges_small })

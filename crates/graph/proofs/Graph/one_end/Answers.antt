@@ -1,22 +1,11 @@
--- `graph::Graph::one_end` meets its contract: the end is the first field of the edge's pair, and past the last edge the definition has 0.
+-- `graph::Graph::one_end` meets its contract: the one end is the sheet's own.
 -- Assumes nothing.
-use mathlib.Core.Path.{ap}
-use native.Mathlib.Omega.{arith}
-use Prim.Native.Nat.{ℕ}
-use mathlib.Core.List.{List}
-use Rattle.graph.specs.Graph.{Edge}
-use Rattle.graph.proofs.Decoded.{one_end_at, ends_within}
 use Rattle.graph.proofs.Surfaced.{one_end_sheet}
-use Rattle.graph.proofs.Viewed.{view_past}
 use Rattle.graph.proofs.Graph.one_end.Goals as goal
 
-pub u16_within-requires : goal.u16_within-requires
-u16_within-requires c = omega (arith, ends_within c.self.inside.bytes.now c.args.e (omega arith))
+pub one_end-requires : goal.one_end-requires
+one_end-requires c = c.self.invariant.shown
 
-pub returns-then-e-self : goal.returns-then-e-self
-returns-then-e-self c =
-    let b : List ℕ = c.self.inside.bytes.now in
-    rw (← c.self.view_is, one_end_sheet b c.self.inside.classes.now c.args.e, one_end_at b c.args.e (omega arith)) c.u16_within.ensures
-
-pub returns-else-e-self : goal.returns-else-e-self
-returns-else-e-self c = rw (← c.self.view_is) (omega (arith, ap (λ (x : Edge). x.one) (view_past c.self.inside c.self.invariant c.args.e (omega arith))))
+pub returns : goal.returns
+returns c =
+    rw (← c.self.view_is, one_end_sheet c.self.inside.sheet.bytes.now c.self.inside.classes.now c.args.e) c.one_end.ensures

@@ -6,4 +6,4 @@ use Rattle.graph.proofs.Graph.vertex_count.Goals as goal
 pub returns : goal.returns
 returns c =
     rw (← c.self.view_is, vertices_sheet)
-    (record { is = c.self.invariant.counts.vertices_are; small = c.self.invariant.vertices_small })
+    (record { is = c.self.invariant.shown.counts.vertices_are; small = c.self.invariant.vertices_small })
