@@ -1,8 +1,20 @@
 // A piece, a part or what is left at a root, moves from the stack to the arrays that hold the pieces.
+ghost use Rattle.std.specs.Prelude.{◌+◌, ◌≤◌, length};
+ghost use Rattle.lists.specs.Put.{Put};
 ghost use Rattle.bunches.specs.Store.{store_of};
 ghost use Rattle.bunches.specs.PiecePut.{Puttable, PiecePut};
 
 use crate::Progress;
+
+// Copies edges behind those of the pieces. They are copied one by one, since the library for C is to need no `memmove`.
+fn copy_edges(edges: &[u16], members: &mut [u16], used: usize)
+    requires { used + length edges.now ≤ length members.old }
+    ensures { Put used edges.now members.old members.new }
+{
+    for (i, edge) in edges.iter().enumerate() {
+        members[used + i] = *edge;
+    }
+}
 
 // What stands on the stack from a place on becomes a piece that starts at v; what is left on the stack weighs `weight`.
 pub fn put_piece(
@@ -24,7 +36,7 @@ pub fn put_piece(
     let used = s.used;
     let top = s.top;
     let next = used + (top - from);
-    members[used..next].copy_from_slice(&stack[from..top]);
+    copy_edges(&stack[from..top], members, used);
     starts[pieces] = v as u16;
     cuts[pieces + 1] = next as u16;
     Progress {
