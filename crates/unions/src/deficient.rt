@@ -24,12 +24,15 @@ pub fn marked_places(places: &[u16], marks: &[u8], out: &mut [u16]) -> usize
     r
 }
 
-// Whether root j is allowed to some part of the set.
+// Whether root j is allowed to some part of the set. The last part is looked at first: from the first on, a
+// set of the last part alone would take as many turns as there are parts.
 fn some_allows(rows: &[u8], marks: &[u8], p: usize, k: usize, j: usize) -> bool
     requires { ColumnGiven rows.now p k j }
     ensures { result ≡ any_below p (λ i. marked marks.now i && allowed_at rows.now k i j) }
 {
-    (0..p).any(|i| is_marked(marks, i) && is_marked(rows, i * k + j))
+    (0..p)
+        .rev()
+        .any(|i| is_marked(marks, i) && is_marked(rows, i * k + j))
 }
 
 // How many roots are allowed to some part of the set ("D").
