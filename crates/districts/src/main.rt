@@ -178,6 +178,27 @@ fn read_rest(
     );
 }
 
+// Reads what stands behind a record's head, and answers the record. The arrays stand first, so that each is set to zero
+// once.
+fn answer_behind(rt: &HostRuntime, head: &[u8]) {
+    let mut sheet = [0u8; 65536];
+    let mut filed = [0u8; 65536];
+    let mut classes = [0u8; 65536];
+    let mut vans = [0u8; 65536];
+    let sheet_length = graph::u16_at(head, 12);
+    let cover_length = graph::u16_at(head, 14);
+    let class_length = graph::u16_at(head, 18);
+    let van_length = graph::u16_at(head, 20);
+    read_rest(
+        rt,
+        head,
+        &mut sheet[..sheet_length],
+        &mut filed[..cover_length],
+        &mut classes[..class_length],
+        &mut vans[..van_length],
+    );
+}
+
 // Reads one record and answers it; says whether there was one.
 fn answer_one(rt: &HostRuntime) -> bool {
     let mut head = [0u8; 24];
@@ -185,22 +206,7 @@ fn answer_one(rt: &HostRuntime) -> bool {
     if read < 24 {
         return false;
     }
-    let sheet_length = graph::u16_at(&head, 12);
-    let cover_length = graph::u16_at(&head, 14);
-    let class_length = graph::u16_at(&head, 18);
-    let van_length = graph::u16_at(&head, 20);
-    let mut sheet = [0u8; 65536];
-    let mut filed = [0u8; 65536];
-    let mut classes = [0u8; 65536];
-    let mut vans = [0u8; 65536];
-    read_rest(
-        rt,
-        &head,
-        &mut sheet[..sheet_length],
-        &mut filed[..cover_length],
-        &mut classes[..class_length],
-        &mut vans[..van_length],
-    );
+    answer_behind(rt, &head);
     true
 }
 
