@@ -11,11 +11,12 @@ use Rattle.prepare.specs.declared.crews.Prepared.{Prepared}
 use Rattle.prepare.specs.Crews.{CrewsReady}
 use Rattle.answers.specs.Answers.{ForestReady, AllReady, AnswerAsked}
 
-module _ (g : Graph) (order kept : List ℕ) where
-  forest_of : (crews : Crews) → AllReady g order kept crews → ForestReady g kept crews
-  forest_of (Rooted roots around table) r = record { given = r.decidable.given; forest = r.decidable.forest }
-  forest_of (Unrooted k merges) r = r.history.forest_kept
+-- What "no cover" reads is ready where what crews read at every limit is.
+pub forest_ready : {g : Graph} {kept : List ℕ} (crews : Crews) → CrewsReady g kept crews → ForestReady g kept crews
+forest_ready (Rooted roots around table) r = record { given = r.limits.given; forest = r.limits.forest }
+forest_ready (Unrooted k merges) r = r.limits.forest_kept
 
+module _ (g : Graph) (order kept : List ℕ) where
   crews_of : (crews : Crews) → AllReady g order kept crews → CrewsReady g kept crews
   crews_of (Rooted roots around table) r = record { valid = r.decidable.given.valid; limits = r.decidable }
   crews_of (Unrooted k merges) r = record { valid = r.history.forest_kept.valid; limits = r.history }
@@ -25,11 +26,7 @@ module _ (g : Graph) (order kept : List ℕ) where
   order_of (Unrooted k merges) r = r.in_order
 
 module _ {g : Graph} {p : Prepared} {room : ℕ} (a : AnswerAsked g p room) where
-  -- What "no cover" reads;
-  pub forest_ready : ForestReady g p.kept.now p.crews
-  forest_ready = forest_of g p.order.now p.kept.now p.crews a.ready
-
-  -- what crews read at every limit;
+  -- What crews read at every limit is ready,
   pub crews_ready : CrewsReady g p.kept.now p.crews
   crews_ready = crews_of g p.order.now p.kept.now p.crews a.ready
 

@@ -11,10 +11,10 @@ use Rattle.asking.proofs.Answering.{none_answered, found_answered}
 use Rattle.asking.proofs.ask.answer_within.Goals as goal
 
 pub no_cover-requires : goal.no_cover-requires
-no_cover-requires c = forest_ready c.requires.answer
+no_cover-requires c = forest_ready c.args.prepared.crews (crews_ready c.requires.answer)
 
 pub returns-then-no_cover : goal.returns-then-no_cover
-returns-then-no_cover c = none_answered c.args.trials (sym c.no_cover.ensures ∙ c.if-no_cover.true) _ (choices_for c.requires.answer _)
+returns-then-no_cover c = none_answered c.args.trials (sym c.no_cover.ensures ∙ c.if-no_cover.true) _ (choices_for c.args.prepared.crews (crews_ready c.requires.answer) _)
 
 pub find_limit-found-requires : goal.find_limit-found-requires
 find_limit-found-requires c =
